@@ -1,0 +1,138 @@
+//! Varints, as Kafka's record format takes them from Protocol Buffers: zig-zag, then groups of
+//! seven bits, lowest first, the high bit set on all but the last.
+ghost use Rattle.std.specs.Prelude.{◌≡◌, ◌++◌, ◌<◌, ◌≤◌, ◌+◌, ◌-◌, ◌*◌, ◌^◌, ℕ, ℤ, List, length};
+ghost use Rattle.std.specs.Prelude.{IfOk, OnOk, OnErr, Ok};
+ghost use Rattle.kx_varint.specs.Varint.{groups_at, value_at, varint, varlong, groups_of};
+ghost use Rattle.kx_varint.specs.Varint.{shortest_text, zigzag, IsShortest, Shape, Spells, Reads};
+
+use crate::fault::VarFault;
+use std::alloc::AllocError;
+
+// The groups at the front, of which there may be `most`, the last of them up to `top`; and how
+// many there are.
+fn read_groups(bytes: &[u8], most: usize, top: u8) -> Result<(u64, usize), VarFault>
+    requires some { 0 < most }
+    requires last { top < 128 }
+    requires fits { (top + 1) * 128 ^ (most - 1) ≤ 2 ^ 64 }
+    ensures exact { result ≡ groups_at most top bytes.now }
+    ensures bound { IfOk result (λ r. r.0 < (top + 1) * 128 ^ (most - 1)) }
+    ensures within { IfOk result (λ r. r.1 ≤ length bytes.now) }
+{
+    let Some((first, rest)) = bytes.split_first() else {
+        return Err(VarFault::Short);
+    };
+    let first = *first;
+    if most == 1 && first > top {
+        return Err(VarFault::TooLong);
+    }
+    if first < 128 {
+        return Ok((u64::from(first), 1));
+    }
+    let (high, count) = read_groups(rest, most - 1, top)?;
+    Ok((u64::from(first % 128) + 128 * high, count + 1))
+}
+
+fn varint_of(bytes: &[u8]) -> Result<(i32, usize), VarFault>
+    ensures { result ≡ value_at varint bytes.now }
+{
+    let (bits, count) = read_groups(bytes, 5, 15)?;
+    let half = (bits / 2) as i32;
+    Ok((if bits % 2 == 0 { half } else { -1 - half }, count))
+}
+
+fn varlong_of(bytes: &[u8]) -> Result<(i64, usize), VarFault>
+    ensures { result ≡ value_at varlong bytes.now }
+{
+    let (bits, count) = read_groups(bytes, 10, 1)?;
+    let half = (bits / 2) as i64;
+    Ok((if bits % 2 == 0 { half } else { -1 - half }, count))
+}
+
+/// The 32-bit number at the front, and how many bytes it takes, 1 to 5. Bytes may follow it, and a
+/// longer spelling of a small number is read. Takes no memory.
+///
+/// # Errors
+///
+/// [`VarFault::Short`] where the bytes are the start of a spelling, [`VarFault::TooLong`] where no
+/// spelling begins so: a fifth byte above 15.
+pub fn read_varint(bytes: &[u8]) -> Result<(i32, usize), VarFault>
+    ensures { Reads varint bytes.now result }
+{
+    varint_of(bytes)
+}
+
+/// The 64-bit number at the front, and how many bytes it takes, 1 to 10. Bytes may follow it, and a
+/// longer spelling of a small number is read. Takes no memory.
+///
+/// # Errors
+///
+/// [`VarFault::Short`] where the bytes are the start of a spelling, [`VarFault::TooLong`] where no
+/// spelling begins so: a tenth byte above 1.
+pub fn read_varlong(bytes: &[u8]) -> Result<(i64, usize), VarFault>
+    ensures { Reads varlong bytes.now result }
+{
+    varlong_of(bytes)
+}
+
+// Appends a number in groups, lowest first: built apart, so that a refusal of memory leaves `out`.
+fn put_groups(out: &mut Vec<u8>, n: u64) -> Result<(), AllocError>
+    ensures ok { OnOk result (out.new.items ≡ out.old.items ++ groups_of 9 n) }
+    ensures err { OnErr result (out.new.items ≡ out.old.items) }
+{
+    let mut text = [0; 10];
+    let mut len = 0;
+    let mut rest = n;
+    while rest >= 128 {
+        text[len] = (rest % 128) as u8 + 128;
+        len += 1;
+        rest /= 128;
+    }
+    text[len] = rest as u8;
+    out.extend_from_slice(&text[..len + 1])
+}
+
+// 0, -1, 1, -2 are 0, 1, 2, 3.
+fn folded(n: i64) -> u64
+    ensures { result ≡ zigzag n }
+{
+    if n < 0 {
+        2 * (-1 - n) as u64 + 1
+    } else {
+        2 * n as u64
+    }
+}
+
+/// Appends the shortest spelling of a 32-bit number, 1 to 5 bytes.
+///
+/// # Errors
+///
+/// Only for want of memory; then `out` is as before.
+#[tactic(auto, unfolding(crate::specs::Varint::shortest_text))]
+pub fn put_varint(out: &mut Vec<u8>, n: i32) -> Result<(), AllocError>
+    ensures ok { OnOk result (out.new.items ≡ out.old.items ++ shortest_text n) }
+    ensures shortest { IsShortest varint n (shortest_text n) }
+    ensures err { OnErr result (out.new.items ≡ out.old.items) }
+{
+    put_groups(out, folded(i64::from(n)))
+}
+
+/// Appends the shortest spelling of a 64-bit number, 1 to 10 bytes.
+///
+/// # Errors
+///
+/// Only for want of memory; then `out` is as before.
+#[tactic(auto, unfolding(crate::specs::Varint::shortest_text))]
+pub fn put_varlong(out: &mut Vec<u8>, n: i64) -> Result<(), AllocError>
+    ensures ok { OnOk result (out.new.items ≡ out.old.items ++ shortest_text n) }
+    ensures shortest { IsShortest varlong n (shortest_text n) }
+    ensures err { OnErr result (out.new.items ≡ out.old.items) }
+{
+    put_groups(out, folded(n))
+}
+
+/// The round trip, as a law: a spelling of a number is read as that number, whatever follows it. So
+/// what `put_varint` and `put_varlong` append is read again, and no spelling begins another.
+pub fn varints_are_read_again()
+    ensures { (shape : Shape) (n : ℤ) (text rest : List ℕ) → Spells shape n text
+        → value_at shape (text ++ rest) ≡ Ok (n, length text) }
+{}
