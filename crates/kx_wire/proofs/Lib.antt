@@ -1,0 +1,9 @@
+pub mod Sizes
+pub mod Values
+pub mod Repeated
+pub mod Exact
+pub mod FieldLaws
+pub mod Messages
+pub mod FrameLaws
+pub mod Feeding
+pub mod Streams

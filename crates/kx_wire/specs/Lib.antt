@@ -1,0 +1,14 @@
+pub mod Ranges
+pub mod Codes
+pub mod Names
+pub mod Receiver
+pub mod Fields
+pub mod Sizes
+pub mod Reader
+pub mod Values
+pub mod Reading
+pub mod Message
+pub mod Gives
+pub mod Frames
+pub mod Held
+pub mod Pieces

@@ -1,0 +1,236 @@
+//! A stream of frames, in whatever pieces it comes.
+ghost use Rattle.std.specs.Prelude.{◌≡◌, ◌<◌, ◌≤◌, ◌+◌, ◌++◌, ℕ, List, [], length, drop, true};
+ghost use Rattle.std.specs.Prelude.{IfOk, MatchResult};
+ghost use Rattle.std.specs.Prelude.{MatchOption, OnErr};
+ghost use Rattle.kx_wire.specs.Frames.{Whole, More, Faults, of_length, frame_at, Splits};
+ghost use Rattle.kx_wire.specs.Frames.{Reads, Ends, Fed, answer_of};
+ghost use Rattle.kx_wire.specs.Pieces.{joined, Comes};
+ghost use Rattle.std.specs.List.{flat_map, AllByRecursion};
+ghost use Rattle.kx_wire.specs.Sizes.{longest_frame};
+ghost use Rattle.kx_wire.specs.Fields.{frame_text};
+ghost use Rattle.kx_wire.specs.Message.{IsSendable};
+ghost use Rattle.kx_varint.specs.Text.{IsBytes};
+ghost use Rattle.kx_wire.specs.declared.message.Message.{Message};
+
+use crate::fault::FrameFault;
+use crate::message::Message;
+use crate::reading::{is_kind, read_message};
+use crate::writing::LONGEST_FRAME;
+use std::alloc::{AllocError, Global};
+use std::marker::Model;
+
+// The message of a frame, by its length and the bytes behind the length.
+fn of_length(alloc: Global, len: usize, rest: &[u8]) -> Result<Option<Message>, FrameFault>
+    requires { 0 < len }
+    ensures { MatchResult result
+        (λ o. MatchOption o (of_length len rest.now ≡ More)
+        (λ m. (of_length len rest.now ≡ Whole m (drop len rest.now)) × (len ≤ length rest.now)))
+        (λ fault. Faults fault (of_length len rest.now)) }
+{
+    let Some((kind, fields)) = rest.split_first() else {
+        return Ok(None);
+    };
+    if !is_kind(*kind) {
+        return Err(FrameFault::Kind);
+    }
+    if rest.len() < len {
+        return Ok(None);
+    }
+    match read_message(alloc, *kind, &fields[..len - 1]) {
+        Ok(message) => Ok(Some(message)),
+        Err(fault) => Err(fault),
+    }
+}
+
+// The message at the front, and how many bytes its frame takes; None where more is needed.
+#[tactic(auto, unfolding(crate::specs::Frames::frame_at, crate::specs::Reader::unsigned))]
+fn front(alloc: Global, bytes: &[u8]) -> Result<Option<(Message, usize)>, FrameFault>
+    ensures { MatchResult result
+        (λ o. MatchOption o (frame_at bytes.now ≡ More)
+        (λ x. (frame_at bytes.now ≡ Whole x.0 (drop x.1 bytes.now)) × (0 < x.1)
+        × (x.1 ≤ length bytes.now)))
+        (λ fault. Faults fault (frame_at bytes.now)) }
+{
+    let Ok((len, rest)) = kx_varint::read_u32(bytes) else {
+        return Ok(None);
+    };
+    let len = len as usize;
+    if len > LONGEST_FRAME {
+        return Err(FrameFault::TooLong);
+    }
+    if len == 0 {
+        return Err(FrameFault::Kind);
+    }
+    match of_length(alloc, len, rest) {
+        Ok(Some(message)) => Ok(Some((message, 4 + len))),
+        Ok(None) => Ok(None),
+        Err(fault) => Err(fault),
+    }
+}
+
+// The messages at the front of some bytes, how many bytes their frames take, and the fault behind
+// them.
+#[derive(Drop)]
+struct Scanned {
+    messages: Vec<Message>,
+    used: usize,
+    fault: Option<FrameFault>,
+}
+
+fn scan(alloc: Global, bytes: &[u8]) -> Result<Scanned, AllocError>
+    ensures splits { IfOk result (λ s. Splits bytes.now s.messages.items (drop s.used bytes.now)) }
+    ensures ends { IfOk result (λ s. Ends s.fault (frame_at (drop s.used bytes.now))) }
+    ensures within { IfOk result (λ s. s.used ≤ length bytes.now) }
+{
+    let mut messages = Vec::new(alloc);
+    let mut used = 0;
+    loop {
+        let fault = match front(alloc, &bytes[used..]) {
+            Ok(Some((message, len))) => {
+                messages.push(message)?;
+                used += len;
+                continue;
+            }
+            Ok(None) => None,
+            Err(FrameFault::Memory) => return Err(AllocError),
+            Err(fault) => Some(fault),
+        };
+        return Ok(Scanned {
+            messages,
+            used,
+            fault,
+        });
+    }
+}
+
+// Takes a piece: what is held is then the rest behind the messages. A piece behind nothing is read
+// where it stands, and only its rest is copied.
+fn take_piece(held: &mut Vec<u8>, piece: &[u8]) -> Result<Scanned, AllocError>
+    ensures splits { IfOk result
+        (λ s. Splits (held.old.items ++ piece.now) s.messages.items held.new.items) }
+    ensures ends { IfOk result (λ s. Ends s.fault (frame_at held.new.items)) }
+    ensures err { OnErr result (held.new.items ≡ held.old.items) }
+{
+    let alloc = *held.allocator();
+    if held.is_empty() {
+        let found = scan(alloc, piece)?;
+        held.extend_from_slice(&piece[found.used..])?;
+        return Ok(found);
+    }
+    let before = held.len();
+    held.extend_from_slice(piece)?;
+    let Ok(found) = scan(alloc, held) else {
+        held.truncate(before);
+        return Err(AllocError);
+    };
+    if found.used == 0 {
+        return Ok(found);
+    }
+    let Ok(rest) = Vec::from_slice(alloc, &held[found.used..]) else {
+        held.truncate(before);
+        return Err(AllocError);
+    };
+    *held = rest;
+    Ok(found)
+}
+
+#[derive(Clone, Copy, Debug, PartialEq, Eq)]
+enum State {
+    Reading,
+    Faulty(FrameFault),
+    Failed,
+}
+
+/// A reader of a stream of frames, which holds back what has come of the next frame.
+#[derive(Debug, Drop)]
+pub struct Frames {
+    held: Vec<u8>,
+    state: State,
+}
+
+impl Model for Frames {
+    ghost use Rattle.kx_wire.specs.Frames.{Stream};
+
+    ghost Value = { Stream };
+
+    ghost use Rattle.kx_wire.specs.Held.{stream_of};
+
+    ghost view = { λ frames. stream_of frames.state frames.held.items };
+}
+
+impl Frames {
+    /// A stream of which nothing has come yet. Takes no memory.
+    pub fn new(alloc: Global) -> Self
+        ensures { result ≡ Reads [] }
+    {
+        Frames {
+            held: Vec::new(alloc),
+            state: State::Reading,
+        }
+    }
+
+    /// Takes the next piece of the stream, and gives the messages whose frames are whole now. Less
+    /// than one frame is held back.
+    ///
+    /// # Errors
+    ///
+    /// [`FrameFault::TooLong`], [`FrameFault::Kind`] and [`FrameFault::Field`] where no frame of a
+    /// message comes next, at once where no message comes before it in the piece, and else at the
+    /// next call, even of an empty piece. From then on every call answers [`FrameFault::Failed`].
+    /// At [`FrameFault::Memory`] nothing of the piece was taken, and it can be fed again.
+    pub fn feed(&mut self, piece: &[u8]) -> Result<Vec<Message>, FrameFault>
+        ensures { Fed self.old piece.now (answer_of result) self.new }
+    {
+        match self.state {
+            State::Failed => Err(FrameFault::Failed),
+            State::Faulty(fault) => {
+                self.state = State::Failed;
+                Err(fault)
+            }
+            State::Reading => {
+                let Ok(found) = take_piece(&mut self.held, piece) else {
+                    return Err(FrameFault::Memory);
+                };
+                let Scanned {
+                    messages,
+                    fault,
+                    ..
+                } = found;
+                match fault {
+                    None => Ok(messages),
+                    Some(fault) if messages.is_empty() => {
+                        self.state = State::Failed;
+                        Err(fault)
+                    }
+                    Some(fault) => {
+                        self.state = State::Faulty(fault);
+                        Ok(messages)
+                    }
+                }
+            }
+        }
+    }
+}
+
+/// A law: the frame of a message that can be sent is read as that message, whatever follows it,
+/// and what is read as a message is that message's frame.
+pub fn frames_are_read()
+    ensures again { (m : Message) (rest : List ℕ) → IsSendable m
+        → frame_at (frame_text m ++ rest) ≡ Whole m rest }
+    ensures only { (bytes : List ℕ) (m : Message) (rest : List ℕ) → IsBytes bytes
+        → frame_at bytes ≡ Whole m rest → IsSendable m × (bytes ≡ frame_text m ++ rest) }
+{}
+
+/// A law: the frames of messages that can be sent, fed in any pieces, come as these messages, and
+/// nothing fails but for want of memory.
+pub fn streams_come_as_their_messages()
+    ensures { (pieces : List (List ℕ)) (messages : List Message)
+        → AllByRecursion IsSendable messages → IsBytes (joined pieces)
+        → joined pieces ≡ flat_map frame_text messages → Comes (Reads []) pieces messages }
+{}
+
+/// A law: what is less than a frame is no longer than the longest frame, so no more is held back.
+pub fn less_than_a_frame_is_held()
+    ensures { (held : List ℕ) → IsBytes held → frame_at held ≡ More
+        → length held ≤ 4 + longest_frame }
+{}

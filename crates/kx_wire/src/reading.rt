@@ -1,0 +1,559 @@
+//! Reading a message, kind by kind, from the fields of its frame.
+ghost use Rattle.std.specs.Prelude.{◌≡◌, true, None, Some, MatchOption, MatchResult, IfOk};
+ghost use Rattle.std.specs.Prelude.{length};
+ghost use Rattle.kx_wire.specs.Reader.{repeated, whole};
+ghost use Rattle.kx_wire.specs.Reading.{init_producer_id_at, init_reply_at, end_txn_at};
+ghost use Rattle.kx_wire.specs.Reading.{end_reply_at, produce_at, produce_reply_at};
+ghost use Rattle.kx_wire.specs.Reading.{add_partition_at, add_reply_at, write_marker_at};
+ghost use Rattle.kx_wire.specs.Reading.{marker_reply_at, fetch_at, fetch_reply_at, join_at};
+ghost use Rattle.kx_wire.specs.Reading.{join_reply_at, leave_at, leave_reply_at};
+ghost use Rattle.kx_wire.specs.Reading.{txn_offset_commit_at, offsets_reply_at, offset_fetch_at};
+ghost use Rattle.kx_wire.specs.Reading.{offset_fetch_reply_at, offset_at, aborted_txn_at};
+ghost use Rattle.kx_wire.specs.Reading.{offsets_at, aborted_at, bytes_at, fields_at, is_kind};
+ghost use Rattle.kx_wire.specs.Reading.{IsSmall};
+ghost use Rattle.kx_wire.specs.Gives.{Refuses};
+
+use crate::fault::FrameFault;
+use crate::fields::Fields;
+use crate::message::Message;
+use crate::payload::{AbortedTxns, Bytes, Offsets, PartitionOffset};
+use std::alloc::Global;
+
+#[tactic(auto, unfolding(crate::specs::Reading::init_producer_id_at))]
+fn init_producer_id(fields: &mut Fields) -> Option<Message>
+    ensures { MatchOption result (init_producer_id_at fields.old.rest.now ≡ None)
+        (λ x. init_producer_id_at fields.old.rest.now ≡ Some (x, fields.new.rest.now)) }
+{
+    let (client, correlation) = fields.caller()?;
+    let txn = fields.optional_txn()?;
+    let timeout = fields.timeout()?;
+    Some(Message::InitProducerId {
+        client,
+        correlation,
+        txn,
+        timeout,
+    })
+}
+
+#[tactic(auto, unfolding(crate::specs::Reading::init_reply_at))]
+fn init_reply(fields: &mut Fields) -> Option<Message>
+    ensures { MatchOption result (init_reply_at fields.old.rest.now ≡ None)
+        (λ x. init_reply_at fields.old.rest.now ≡ Some (x, fields.new.rest.now)) }
+{
+    let (client, correlation) = fields.caller()?;
+    let code = fields.code()?;
+    let held = fields.optional_held()?;
+    Some(Message::InitReply {
+        client,
+        correlation,
+        code,
+        held,
+    })
+}
+
+#[tactic(auto, unfolding(crate::specs::Reading::end_txn_at))]
+fn end_txn(fields: &mut Fields) -> Option<Message>
+    ensures { MatchOption result (end_txn_at fields.old.rest.now ≡ None)
+        (λ x. end_txn_at fields.old.rest.now ≡ Some (x, fields.new.rest.now)) }
+{
+    let (client, correlation) = fields.caller()?;
+    let txn = fields.txn()?;
+    let held = fields.held()?;
+    let outcome = fields.outcome()?;
+    Some(Message::EndTxn {
+        client,
+        correlation,
+        txn,
+        held,
+        outcome,
+    })
+}
+
+#[tactic(auto, unfolding(crate::specs::Reading::end_reply_at))]
+fn end_reply(fields: &mut Fields) -> Option<Message>
+    ensures { MatchOption result (end_reply_at fields.old.rest.now ≡ None)
+        (λ x. end_reply_at fields.old.rest.now ≡ Some (x, fields.new.rest.now)) }
+{
+    let (client, correlation) = fields.caller()?;
+    let code = fields.code()?;
+    let held = fields.optional_held()?;
+    Some(Message::EndReply {
+        client,
+        correlation,
+        code,
+        held,
+    })
+}
+
+#[tactic(auto, unfolding(crate::specs::Reading::produce_reply_at))]
+fn produce_reply(fields: &mut Fields) -> Option<Message>
+    ensures { MatchOption result (produce_reply_at fields.old.rest.now ≡ None)
+        (λ x. produce_reply_at fields.old.rest.now ≡ Some (x, fields.new.rest.now)) }
+{
+    let (client, correlation) = fields.caller()?;
+    let partition = fields.partition()?;
+    let code = fields.code()?;
+    let offset = fields.i64()?;
+    Some(Message::ProduceReply {
+        client,
+        correlation,
+        partition,
+        code,
+        offset,
+    })
+}
+
+#[tactic(auto, unfolding(crate::specs::Reading::add_partition_at))]
+fn add_partition(fields: &mut Fields) -> Option<Message>
+    ensures { MatchOption result (add_partition_at fields.old.rest.now ≡ None)
+        (λ x. add_partition_at fields.old.rest.now ≡ Some (x, fields.new.rest.now)) }
+{
+    let txn = fields.txn()?;
+    let held = fields.held()?;
+    let partition = fields.partition()?;
+    Some(Message::AddPartition {
+        txn,
+        held,
+        partition,
+    })
+}
+
+#[tactic(auto, unfolding(crate::specs::Reading::add_reply_at))]
+fn add_reply(fields: &mut Fields) -> Option<Message>
+    ensures { MatchOption result (add_reply_at fields.old.rest.now ≡ None)
+        (λ x. add_reply_at fields.old.rest.now ≡ Some (x, fields.new.rest.now)) }
+{
+    let partition = fields.partition()?;
+    let txn = fields.txn()?;
+    let held = fields.held()?;
+    let code = fields.code()?;
+    Some(Message::AddReply {
+        partition,
+        txn,
+        held,
+        code,
+    })
+}
+
+#[tactic(auto, unfolding(crate::specs::Reading::write_marker_at))]
+fn write_marker(fields: &mut Fields) -> Option<Message>
+    ensures { MatchOption result (write_marker_at fields.old.rest.now ≡ None)
+        (λ x. write_marker_at fields.old.rest.now ≡ Some (x, fields.new.rest.now)) }
+{
+    let partition = fields.partition()?;
+    let txn = fields.txn()?;
+    let held = fields.marker()?;
+    let coordinator_epoch = fields.i32()?;
+    let outcome = fields.outcome()?;
+    Some(Message::WriteMarker {
+        partition,
+        txn,
+        held,
+        coordinator_epoch,
+        outcome,
+    })
+}
+
+#[tactic(auto, unfolding(crate::specs::Reading::marker_reply_at))]
+fn marker_reply(fields: &mut Fields) -> Option<Message>
+    ensures { MatchOption result (marker_reply_at fields.old.rest.now ≡ None)
+        (λ x. marker_reply_at fields.old.rest.now ≡ Some (x, fields.new.rest.now)) }
+{
+    let partition = fields.partition()?;
+    let txn = fields.txn()?;
+    let held = fields.held()?;
+    let code = fields.code()?;
+    Some(Message::MarkerReply {
+        partition,
+        txn,
+        held,
+        code,
+    })
+}
+
+#[tactic(auto, unfolding(crate::specs::Reading::fetch_at))]
+fn fetch(fields: &mut Fields) -> Option<Message>
+    ensures { MatchOption result (fetch_at fields.old.rest.now ≡ None)
+        (λ x. fetch_at fields.old.rest.now ≡ Some (x, fields.new.rest.now)) }
+{
+    let (client, correlation) = fields.caller()?;
+    let partition = fields.partition()?;
+    let from = fields.i64()?;
+    let max = fields.u32()?;
+    let committed = fields.flag()?;
+    Some(Message::Fetch {
+        client,
+        correlation,
+        partition,
+        from,
+        max,
+        committed,
+    })
+}
+
+#[tactic(auto, unfolding(crate::specs::Reading::join_at))]
+fn join(fields: &mut Fields) -> Option<Message>
+    ensures { MatchOption result (join_at fields.old.rest.now ≡ None)
+        (λ x. join_at fields.old.rest.now ≡ Some (x, fields.new.rest.now)) }
+{
+    let (client, correlation) = fields.caller()?;
+    let group = fields.group()?;
+    Some(Message::Join {
+        client,
+        correlation,
+        group,
+    })
+}
+
+#[tactic(auto, unfolding(crate::specs::Reading::join_reply_at))]
+fn join_reply(fields: &mut Fields) -> Option<Message>
+    ensures { MatchOption result (join_reply_at fields.old.rest.now ≡ None)
+        (λ x. join_reply_at fields.old.rest.now ≡ Some (x, fields.new.rest.now)) }
+{
+    let (client, correlation) = fields.caller()?;
+    let code = fields.code()?;
+    let generation = fields.i32()?;
+    let place = fields.u16()?;
+    let count = fields.u16()?;
+    Some(Message::JoinReply {
+        client,
+        correlation,
+        code,
+        generation,
+        place,
+        count,
+    })
+}
+
+#[tactic(auto, unfolding(crate::specs::Reading::leave_at))]
+fn leave(fields: &mut Fields) -> Option<Message>
+    ensures { MatchOption result (leave_at fields.old.rest.now ≡ None)
+        (λ x. leave_at fields.old.rest.now ≡ Some (x, fields.new.rest.now)) }
+{
+    let (client, correlation) = fields.caller()?;
+    let group = fields.group()?;
+    Some(Message::Leave {
+        client,
+        correlation,
+        group,
+    })
+}
+
+#[tactic(auto, unfolding(crate::specs::Reading::leave_reply_at))]
+fn leave_reply(fields: &mut Fields) -> Option<Message>
+    ensures { MatchOption result (leave_reply_at fields.old.rest.now ≡ None)
+        (λ x. leave_reply_at fields.old.rest.now ≡ Some (x, fields.new.rest.now)) }
+{
+    let (client, correlation) = fields.caller()?;
+    let code = fields.code()?;
+    Some(Message::LeaveReply {
+        client,
+        correlation,
+        code,
+    })
+}
+
+#[tactic(auto, unfolding(crate::specs::Reading::offsets_reply_at))]
+fn offsets_reply(fields: &mut Fields) -> Option<Message>
+    ensures { MatchOption result (offsets_reply_at fields.old.rest.now ≡ None)
+        (λ x. offsets_reply_at fields.old.rest.now ≡ Some (x, fields.new.rest.now)) }
+{
+    let (client, correlation) = fields.caller()?;
+    let code = fields.code()?;
+    Some(Message::OffsetsReply {
+        client,
+        correlation,
+        code,
+    })
+}
+
+#[tactic(auto, unfolding(crate::specs::Reading::offset_fetch_at))]
+fn offset_fetch(fields: &mut Fields) -> Option<Message>
+    ensures { MatchOption result (offset_fetch_at fields.old.rest.now ≡ None)
+        (λ x. offset_fetch_at fields.old.rest.now ≡ Some (x, fields.new.rest.now)) }
+{
+    let (client, correlation) = fields.caller()?;
+    let group = fields.group()?;
+    let partition = fields.partition()?;
+    let stable = fields.flag()?;
+    Some(Message::OffsetFetch {
+        client,
+        correlation,
+        group,
+        partition,
+        stable,
+    })
+}
+
+#[tactic(auto, unfolding(crate::specs::Reading::offset_fetch_reply_at))]
+fn offset_fetch_reply(fields: &mut Fields) -> Option<Message>
+    ensures { MatchOption result (offset_fetch_reply_at fields.old.rest.now ≡ None)
+        (λ x. offset_fetch_reply_at fields.old.rest.now ≡ Some (x, fields.new.rest.now)) }
+{
+    let (client, correlation) = fields.caller()?;
+    let code = fields.code()?;
+    let offset = fields.i64()?;
+    Some(Message::OffsetFetchReply {
+        client,
+        correlation,
+        code,
+        offset,
+    })
+}
+
+#[tactic(auto, unfolding(crate::specs::Reading::produce_at))]
+fn produce(alloc: Global, fields: &mut Fields) -> Result<Message, FrameFault>
+    ensures { MatchResult result
+        (λ x. produce_at fields.old.rest.now ≡ Some (x, fields.new.rest.now))
+        (λ fault. Refuses fault (produce_at fields.old.rest.now)) }
+{
+    let Some((client, correlation)) = fields.caller() else {
+        return Err(FrameFault::Field);
+    };
+    let Some(txn) = fields.optional_txn() else {
+        return Err(FrameFault::Field);
+    };
+    let Some(partition) = fields.partition() else {
+        return Err(FrameFault::Field);
+    };
+    let Some(batch) = fields.bytes() else {
+        return Err(FrameFault::Field);
+    };
+    let Ok(batch) = Vec::from_slice(alloc, batch) else {
+        return Err(FrameFault::Memory);
+    };
+    Ok(Message::Produce {
+        client,
+        correlation,
+        txn,
+        partition,
+        batch: Bytes::from_vec(batch),
+    })
+}
+
+fn aborted_txns(alloc: Global, count: u32, fields: &mut Fields) -> Result<AbortedTxns, FrameFault>
+    ensures { MatchResult result
+        (λ x. repeated aborted_txn_at count fields.old.rest.now ≡ Some (x, fields.new.rest.now))
+        (λ fault. Refuses fault (repeated aborted_txn_at count fields.old.rest.now)) }
+{
+    let mut aborted = Vec::new(alloc);
+    for _ in 0..count {
+        let Some(txn) = fields.aborted_txn() else {
+            return Err(FrameFault::Field);
+        };
+        let Ok(()) = aborted.push(txn) else {
+            return Err(FrameFault::Memory);
+        };
+    }
+    Ok(AbortedTxns::from_vec(aborted))
+}
+
+fn partition_offsets(
+    alloc: Global,
+    count: u16,
+    fields: &mut Fields,
+) -> Result<Vec<PartitionOffset>, FrameFault>
+    ensures read { MatchResult result
+        (λ x. repeated offset_at count fields.old.rest.now ≡ Some (x.items, fields.new.rest.now))
+        (λ fault. Refuses fault (repeated offset_at count fields.old.rest.now)) }
+    ensures count { IfOk result (λ x. length x.items ≡ count) }
+{
+    let mut offsets = Vec::new(alloc);
+    for _ in 0..count {
+        let Some(offset) = fields.offset() else {
+            return Err(FrameFault::Field);
+        };
+        let Ok(()) = offsets.push(offset) else {
+            return Err(FrameFault::Memory);
+        };
+    }
+    Ok(offsets)
+}
+
+#[tactic(auto, unfolding(crate::specs::Reading::aborted_at))]
+fn aborted(alloc: Global, fields: &mut Fields) -> Result<AbortedTxns, FrameFault>
+    ensures { MatchResult result
+        (λ x. aborted_at fields.old.rest.now ≡ Some (x, fields.new.rest.now))
+        (λ fault. Refuses fault (aborted_at fields.old.rest.now)) }
+{
+    let Some(count) = fields.u32() else {
+        return Err(FrameFault::Field);
+    };
+    aborted_txns(alloc, count, fields)
+}
+
+#[tactic(auto, unfolding(crate::specs::Reading::offsets_at))]
+fn offsets(alloc: Global, fields: &mut Fields) -> Result<Offsets, FrameFault>
+    ensures { MatchResult result
+        (λ x. offsets_at fields.old.rest.now ≡ Some (x, fields.new.rest.now))
+        (λ fault. Refuses fault (offsets_at fields.old.rest.now)) }
+{
+    let Some(count) = fields.offset_count() else {
+        return Err(FrameFault::Field);
+    };
+    match partition_offsets(alloc, count, fields) {
+        Ok(offsets) => Ok(Offsets::from_vec(offsets)),
+        Err(fault) => Err(fault),
+    }
+}
+
+#[tactic(auto, unfolding(crate::specs::Reading::fetch_reply_at))]
+fn fetch_reply(alloc: Global, fields: &mut Fields) -> Result<Message, FrameFault>
+    ensures { MatchResult result
+        (λ x. fetch_reply_at fields.old.rest.now ≡ Some (x, fields.new.rest.now))
+        (λ fault. Refuses fault (fetch_reply_at fields.old.rest.now)) }
+{
+    let Some((client, correlation)) = fields.caller() else {
+        return Err(FrameFault::Field);
+    };
+    let Some(partition) = fields.partition() else {
+        return Err(FrameFault::Field);
+    };
+    let Some(code) = fields.code() else {
+        return Err(FrameFault::Field);
+    };
+    let Some(next) = fields.i64() else {
+        return Err(FrameFault::Field);
+    };
+    let Some(lso) = fields.i64() else {
+        return Err(FrameFault::Field);
+    };
+    let Some(end) = fields.i64() else {
+        return Err(FrameFault::Field);
+    };
+    let aborted = match aborted(alloc, fields) {
+        Ok(aborted) => aborted,
+        Err(fault) => return Err(fault),
+    };
+    let Some(batches) = fields.bytes() else {
+        return Err(FrameFault::Field);
+    };
+    let Ok(batches) = Vec::from_slice(alloc, batches) else {
+        return Err(FrameFault::Memory);
+    };
+    Ok(Message::FetchReply {
+        client,
+        correlation,
+        partition,
+        code,
+        next,
+        lso,
+        end,
+        aborted,
+        batches: Bytes::from_vec(batches),
+    })
+}
+
+#[tactic(auto, unfolding(crate::specs::Reading::txn_offset_commit_at))]
+fn txn_offset_commit(alloc: Global, fields: &mut Fields) -> Result<Message, FrameFault>
+    ensures { MatchResult result
+        (λ x. txn_offset_commit_at fields.old.rest.now ≡ Some (x, fields.new.rest.now))
+        (λ fault. Refuses fault (txn_offset_commit_at fields.old.rest.now)) }
+{
+    let Some((client, correlation)) = fields.caller() else {
+        return Err(FrameFault::Field);
+    };
+    let Some(txn) = fields.txn() else {
+        return Err(FrameFault::Field);
+    };
+    let Some(group) = fields.group() else {
+        return Err(FrameFault::Field);
+    };
+    let Some(member) = fields.u32() else {
+        return Err(FrameFault::Field);
+    };
+    let Some(generation) = fields.i32() else {
+        return Err(FrameFault::Field);
+    };
+    let Some(held) = fields.held() else {
+        return Err(FrameFault::Field);
+    };
+    let Some(first_sequence) = fields.i32() else {
+        return Err(FrameFault::Field);
+    };
+    let offsets = match offsets(alloc, fields) {
+        Ok(offsets) => offsets,
+        Err(fault) => return Err(fault),
+    };
+    Ok(Message::TxnOffsetCommit {
+        client,
+        correlation,
+        txn,
+        group,
+        member,
+        generation,
+        held,
+        first_sequence,
+        offsets,
+    })
+}
+
+/// Whether there is a kind of message with this number.
+pub(crate) fn is_kind(kind: u8) -> bool
+    ensures { result ≡ is_kind kind }
+{
+    0 < kind && kind <= 20
+}
+
+// A message that takes no memory.
+#[tactic(auto, unfolding(crate::specs::Reading::fields_at))]
+fn small_message(kind: u8, fields: &mut Fields) -> Option<Message>
+    requires small { IsSmall kind }
+    ensures { MatchOption result (fields_at kind fields.old.rest.now ≡ None)
+        (λ x. fields_at kind fields.old.rest.now ≡ Some (x, fields.new.rest.now)) }
+{
+    match kind {
+        1 => init_producer_id(fields),
+        2 => init_reply(fields),
+        3 => end_txn(fields),
+        4 => end_reply(fields),
+        6 => produce_reply(fields),
+        7 => add_partition(fields),
+        8 => add_reply(fields),
+        9 => write_marker(fields),
+        10 => marker_reply(fields),
+        11 => fetch(fields),
+        13 => join(fields),
+        14 => join_reply(fields),
+        15 => leave(fields),
+        16 => leave_reply(fields),
+        18 => offsets_reply(fields),
+        19 => offset_fetch(fields),
+        _ => offset_fetch_reply(fields),
+    }
+}
+
+#[tactic(auto, unfolding(crate::specs::Reading::fields_at))]
+fn message_of(alloc: Global, kind: u8, fields: &mut Fields) -> Result<Message, FrameFault>
+    requires { is_kind kind ≡ true }
+    ensures { MatchResult result
+        (λ x. fields_at kind fields.old.rest.now ≡ Some (x, fields.new.rest.now))
+        (λ fault. Refuses fault (fields_at kind fields.old.rest.now)) }
+{
+    match kind {
+        5 => produce(alloc, fields),
+        12 => fetch_reply(alloc, fields),
+        17 => txn_offset_commit(alloc, fields),
+        _ => match small_message(kind, fields) {
+            Some(message) => Ok(message),
+            None => Err(FrameFault::Field),
+        },
+    }
+}
+
+/// The message of a kind whose fields are these bytes, all of them.
+pub(crate) fn read_message(alloc: Global, kind: u8, fields: &[u8]) -> Result<Message, FrameFault>
+    requires { is_kind kind ≡ true }
+    ensures { MatchResult result (λ x. whole (fields_at kind fields.now) ≡ Some x)
+        (λ fault. Refuses fault (whole (fields_at kind fields.now))) }
+{
+    let mut left = Fields::new(fields);
+    let message = match message_of(alloc, kind, &mut left) {
+        Ok(message) => message,
+        Err(fault) => return Err(fault),
+    };
+    if !left.is_empty() {
+        return Err(FrameFault::Field);
+    }
+    Ok(message)
+}
