@@ -1,0 +1,4 @@
+pub mod Judging
+pub mod Pages
+pub mod Places
+pub mod Storing
