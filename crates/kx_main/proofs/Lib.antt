@@ -1,0 +1,9 @@
+pub mod Building
+pub mod Cuts
+pub mod Dumping
+pub mod Lines
+pub mod Numbers
+pub mod Performing
+pub mod Reading
+pub mod Running
+pub mod Writes

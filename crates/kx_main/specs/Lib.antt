@@ -1,0 +1,5 @@
+pub mod Words
+pub mod Command
+pub mod World
+pub mod Script
+pub mod Dump

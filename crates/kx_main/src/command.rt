@@ -1,0 +1,102 @@
+//! The interpreter's ear: which command a line's words are.
+ghost use Rattle.std.specs.Prelude.{◌≡◌};
+ghost use Rattle.kx_main.specs.Command.{command_of, fetch_of, max_of, named, partition_of, put_of};
+ghost use Rattle.kx_main.specs.Command.{world_of};
+
+use crate::words::{Words, number_below};
+
+// How many bytes a fetch shows where it doesn't say.
+const DEFAULT_MAX: u32 = 1_048_588;
+
+/// A command of a script.
+#[derive(Drop)]
+pub enum Command<'a> {
+    /// `world P`: so many data partitions, 1 to 16, with empty logs.
+    World(usize),
+    /// `put P W..`: a batch of the words, one or more, goes to the partition.
+    Put(usize, Words<'a>),
+    /// `fetch P FROM all [MAX]`: the records of the partition from an offset on, in whole batches
+    /// of at most so many bytes.
+    Fetch(usize, i64, u32),
+}
+
+fn partition_of(word: &[u8]) -> Option<usize>
+    ensures { result ≡ partition_of word.now }
+{
+    let partition = number_below(word, 16)?;
+    Some(partition as usize)
+}
+
+fn world_of<'a>(words: Words<'a>) -> Option<Command<'a>>
+    ensures { result ≡ world_of words.entry }
+{
+    let mut words = words;
+    let count = number_below(words.next()?, 17)?;
+    if count == 0 || words.next().is_some() {
+        return None;
+    }
+    Some(Command::World(count as usize))
+}
+
+fn put_of<'a>(words: Words<'a>) -> Option<Command<'a>>
+    ensures { result ≡ put_of words.entry }
+{
+    let mut words = words;
+    let partition = partition_of(words.next()?)?;
+    if words.is_empty() {
+        return None;
+    }
+    Some(Command::Put(partition, words))
+}
+
+fn max_of(words: Words<'_>) -> Option<u32>
+    ensures { result ≡ max_of words.entry }
+{
+    let mut words = words;
+    let Some(word) = words.next() else {
+        return Some(DEFAULT_MAX);
+    };
+    let max = number_below(word, 1 << 32)?;
+    if words.next().is_some() {
+        return None;
+    }
+    Some(max as u32)
+}
+
+fn fetch_of<'a>(words: Words<'a>) -> Option<Command<'a>>
+    ensures { result ≡ fetch_of words.entry }
+{
+    let mut words = words;
+    let partition = words.next()?;
+    let from = words.next()?;
+    if words.next()? != b"all".as_slice() {
+        return None;
+    }
+    let partition = partition_of(partition)?;
+    let from = number_below(from, 1 << 63)?;
+    let max = max_of(words)?;
+    Some(Command::Fetch(partition, from as i64, max))
+}
+
+fn named<'a>(name: &[u8], words: Words<'a>) -> Option<Command<'a>>
+    ensures { result ≡ named name.now words.entry }
+{
+    if name == b"world".as_slice() {
+        world_of(words)
+    } else if name == b"put".as_slice() {
+        put_of(words)
+    } else if name == b"fetch".as_slice() {
+        fetch_of(words)
+    } else {
+        None
+    }
+}
+
+/// The command that a line's words are, or None where they are none.
+pub fn command_of<'a>(words: Words<'a>) -> Option<Command<'a>>
+    ensures { result ≡ command_of words.entry }
+{
+    let mut words = words;
+    let name = words.next()?;
+    named(name, words)
+}

@@ -1,0 +1,104 @@
+//! The engine room: the partitions of a script, and what a put or a fetch does to them.
+ghost use Rattle.std.specs.Prelude.{◌≡◌, ◌<◌, [], true, false, length, replicate, IfOk, OnOk};
+ghost use Rattle.std.specs.Prelude.{OnErr, MatchResult, Ok, slice_index_or, slice_set};
+ghost use Rattle.kx_batch.specs.Build.{batch_text};
+ghost use Rattle.kx_model.specs.Log.{end};
+ghost use Rattle.kx_model.specs.Page.{fetched};
+ghost use Rattle.kx_partition.specs.Answer.{Refuses, answer_of};
+ghost use Rattle.kx_main.specs.World.{BuildsBatch, batch_of, is_over, put};
+
+use crate::words::Words;
+use kx_batch::{BatchBuilder, BuildFault};
+use kx_partition::{FetchFault, FetchPage, Partition, Produced};
+use kx_wire::ErrorCode;
+use std::alloc::{AllocError, Global};
+use std::marker::Model;
+
+// The text of the plain batch of the words.
+fn batch_of(alloc: Global, words: Words<'_>) -> Result<Vec<u8>, BuildFault>
+    ensures { BuildsBatch words.entry (λ text. text.items) result }
+{
+    let mut builder = BatchBuilder::new(alloc, 0, -1, -1, -1);
+    for word in words {
+        builder.push(None, Some(word), &[])?;
+    }
+    builder.finish()
+}
+
+/// The data partitions of a script, numbered from 0.
+#[derive(Drop)]
+pub struct World {
+    partitions: Vec<Partition>,
+}
+
+impl Model for World {
+    ghost use Rattle.std.specs.Prelude.{List};
+    ghost use Rattle.kx_model.specs.Log.{Entry};
+
+    ghost Value = { List (List Entry) };
+
+    ghost view = { λ w. w.partitions.items };
+}
+
+impl World {
+    /// So many partitions, with empty logs.
+    ///
+    /// # Errors
+    ///
+    /// Only for want of memory.
+    pub fn new(alloc: Global, count: usize) -> Result<World, AllocError>
+        ensures { IfOk result (λ world. world ≡ replicate count []) }
+    {
+        let mut partitions = Vec::with_capacity(alloc, count)?;
+        for _ in 0..count {
+            partitions.push(Partition::new(alloc))?;
+        }
+        Ok(World { partitions })
+    }
+
+    /// How many partitions there are.
+    pub fn count(&self) -> usize
+        ensures { result ≡ length self.now }
+    {
+        self.partitions.len()
+    }
+
+    /// Puts a batch of the words at the end of a partition; a batch that would pass the size limit
+    /// is refused, and so is what the partition refuses.
+    ///
+    /// # Errors
+    ///
+    /// Only for want of memory; then nothing is changed.
+    pub fn put(
+        &mut self,
+        alloc: Global,
+        partition: usize,
+        words: Words<'_>,
+    ) -> Result<Produced, AllocError>
+        requires { partition < length self.old }
+        ensures answer { IfOk result (λ answer. let log = slice_index_or self.old partition [] in
+            answer ≡ answer_of (end log) (put log words.entry).0) }
+        ensures log { OnOk result (self.new ≡ slice_set self.old partition
+            (put (slice_index_or self.old partition []) words.entry).1) }
+        ensures err { OnErr result (self.new ≡ self.old) }
+    {
+        match batch_of(alloc, words) {
+            Ok(text) => self.partitions[partition].produce(text.as_slice()),
+            Err(BuildFault::TooLarge) => Ok(Produced::Refused(ErrorCode::MessageTooLarge)),
+            Err(BuildFault::Empty | BuildFault::Memory) => Err(AllocError),
+        }
+    }
+
+    /// A page of a partition's log, borrowed from it.
+    ///
+    /// # Errors
+    ///
+    /// Those of [`Partition::fetch`].
+    pub fn fetch(&self, partition: usize, from: i64, max: u32) -> Result<FetchPage<'_>, FetchFault>
+        requires { partition < length self.now }
+        ensures { let answer = fetched (slice_index_or self.now partition []) from max in
+            MatchResult result (λ page. answer ≡ Ok page) (Refuses answer) }
+    {
+        self.partitions[partition].fetch(from, max)
+    }
+}
