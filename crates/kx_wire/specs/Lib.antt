@@ -1,3 +1,4 @@
+pub mod Prints
 pub mod Ranges
 pub mod Codes
 pub mod Names

@@ -1,5 +1,8 @@
-//! What a conversion of this crate refuses.
+//! What the conversions of this crate and its reader of frames refuse.
+ghost use Rattle.std.specs.Prelude.{◌≡◌};
+ghost use Rattle.kx_wire.specs.declared.fault.FrameFault.{FrameFault};
 
+use std::alloc::AllocError;
 use thiserror::Error;
 
 /// Why a number or a text is no value of the type that it was to become.
@@ -11,6 +14,9 @@ pub enum ValueFault {
     /// A number below 0 was to become an epoch.
     #[error("an epoch is 0 or more")]
     Epoch,
+    /// The epoch 0 was to become that of a transaction marker.
+    #[error("the epoch of a transaction marker is 1 or more")]
+    MarkerEpoch,
     /// A number other than 0 to 15 and 65535 was to become a partition.
     #[error("a partition is 0 to 15, or 65535")]
     Partition,
@@ -47,4 +53,13 @@ pub enum FrameFault {
     /// Memory ran out.
     #[error("out of memory")]
     Memory = 5,
+}
+
+/// Want of memory is [`FrameFault::Memory`].
+impl From<AllocError> for FrameFault {
+    ghost from_gives = { λ refused fault. fault ≡ FrameFault.Memory };
+
+    fn from(_: AllocError) -> Self {
+        FrameFault::Memory
+    }
 }

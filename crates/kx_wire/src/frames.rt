@@ -36,10 +36,8 @@ fn of_length(alloc: Global, len: usize, rest: &[u8]) -> Result<Option<Message>, 
     if rest.len() < len {
         return Ok(None);
     }
-    match read_message(alloc, *kind, &fields[..len - 1]) {
-        Ok(message) => Ok(Some(message)),
-        Err(fault) => Err(fault),
-    }
+    let message = read_message(alloc, *kind, &fields[..len - 1])?;
+    Ok(Some(message))
 }
 
 // The message at the front, and how many bytes its frame takes; None where more is needed.
@@ -61,10 +59,9 @@ fn front(alloc: Global, bytes: &[u8]) -> Result<Option<(Message, usize)>, FrameF
     if len == 0 {
         return Err(FrameFault::Kind);
     }
-    match of_length(alloc, len, rest) {
-        Ok(Some(message)) => Ok(Some((message, 4 + len))),
-        Ok(None) => Ok(None),
-        Err(fault) => Err(fault),
+    match of_length(alloc, len, rest)? {
+        Some(message) => Ok(Some((message, 4 + len))),
+        None => Ok(None),
     }
 }
 

@@ -1,5 +1,6 @@
 //! The words of the wire: the small values that a producer, a consumer group and a transaction
-//! coordinator say to each other, each in a type that holds no value out of its range.
+//! coordinator say to each other, each in a type that holds no value out of its range; the twenty
+//! messages that they make up; and the frames in which messages go over a stream of bytes.
 //!
 //! Everything above reads these types, and none of them knows of logs, groups or coordinators.
 #![tactic(auto)]
@@ -11,7 +12,7 @@ pub use frames::{
 };
 pub use group_id::GroupId;
 pub use ids::{ClientId, Epoch, ProducerId};
-pub use message::{Held, Message, Node};
+pub use message::{Held, Message, Node, Raised};
 pub use outcome::Outcome;
 pub use partition::PartitionId;
 pub use payload::{AbortedTxn, AbortedTxns, Bytes, Offsets, PartitionOffset};
@@ -20,6 +21,8 @@ pub use txn_id::TxnId;
 pub use writing::put_frame;
 
 mod code;
+mod copies;
+mod display;
 mod fault;
 mod fields;
 mod frames;

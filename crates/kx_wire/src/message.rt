@@ -1,11 +1,14 @@
 //! The twenty messages that clients, the coordinator and the partitions send each other.
-ghost use Rattle.std.specs.Prelude.{◌≡◌};
+ghost use Rattle.std.specs.Prelude.{◌≡◌, ◌≤◌, MatchResult};
 ghost use Rattle.kx_wire.specs.Receiver.{receiver_of};
+ghost use Rattle.kx_wire.specs.declared.fault.ValueFault.{ValueFault};
 
+use crate::fault::ValueFault;
 use crate::payload::{AbortedTxns, Bytes, Offsets};
 use crate::{
     ClientId, Epoch, ErrorCode, GroupId, Outcome, PartitionId, ProducerId, Timeout, TxnId,
 };
+use std::marker::Model;
 
 /// The id and the epoch that a producer holds (KIP-98).
 #[derive(Clone, Copy, Debug, PartialEq, Eq)]
@@ -14,6 +17,50 @@ pub struct Held {
     pub id: ProducerId,
     /// The epoch of the id.
     pub epoch: Epoch,
+}
+
+/// What a transaction marker carries: the producer's id, and the epoch of the transaction raised by
+/// one, so 1 to 32767 (KIP-890).
+#[derive(Clone, Copy, Debug, PartialEq, Eq)]
+pub struct Raised(Held);
+
+impl Model for Raised {
+    ghost use Rattle.std.specs.Prelude.{◌≤◌};
+    ghost use Rattle.kx_wire.specs.declared.message.Held.{Held};
+
+    ghost Value = { Held };
+
+    ghost view = { λ raised. raised.0 };
+
+    ghost invariant = { λ raised. 1 ≤ raised.0.epoch };
+
+    ghost inverse = { λ held. record { 0 = held } };
+}
+
+impl Raised {
+    /// The id and the raised epoch.
+    pub fn get(self) -> Held
+        ensures value { result ≡ self }
+        ensures within { 1 ≤ self.epoch }
+    {
+        self.0
+    }
+}
+
+/// Takes an id and an epoch, and refuses the epoch 0 with `ValueFault::MarkerEpoch`.
+impl TryFrom<Held> for Raised {
+    type Error = ValueFault;
+
+    ghost try_from_gives = { λ held r. MatchResult r
+        (λ raised. (raised ≡ held) × (1 ≤ held.epoch))
+        (λ fault. (held.epoch ≡ 0) × (fault ≡ ValueFault.MarkerEpoch)) };
+
+    fn try_from(held: Held) -> Result<Self, ValueFault> {
+        if held.epoch.get() == 0 {
+            return Err(ValueFault::MarkerEpoch);
+        }
+        Ok(Raised(held))
+    }
 }
 
 /// Where a message goes.
@@ -29,7 +76,7 @@ pub enum Node {
 
 /// A message, with the fields that its frame spells, in the frame's order. A client's request has
 /// its number and a correlation number, any u32, which the reply repeats.
-#[derive(Clone, Debug, Drop)]
+#[derive(Debug, Drop)]
 pub enum Message {
     /// Asks the coordinator for a producer id and an epoch.
     InitProducerId {
@@ -89,11 +136,11 @@ pub enum Message {
         held: Held,
         code: ErrorCode,
     },
-    /// The coordinator ends a transaction in a partition; the epoch is 1 or more.
+    /// The coordinator ends a transaction in a partition.
     WriteMarker {
         partition: PartitionId,
         txn: TxnId,
-        held: Held,
+        held: Raised,
         coordinator_epoch: i32,
         outcome: Outcome,
     },

@@ -4,10 +4,11 @@
 ghost use Rattle.std.specs.Prelude.{◌≡◌, ◌≤◌, length};
 
 use crate::{PartitionId, ProducerId};
+use std::alloc::AllocError;
 use std::marker::Model;
 
 /// Bytes that a message carries as they stand, such as record batches.
-#[derive(Clone, Debug, Drop)]
+#[derive(Debug, Drop)]
 pub struct Bytes {
     items: Vec<u8>,
 }
@@ -18,6 +19,16 @@ impl Model for Bytes {
     ghost Value = { List ℕ };
 
     ghost view = { λ bytes. bytes.items.items };
+}
+
+/// A copy of the same list, or want of memory.
+impl Clone for Bytes {
+    ghost is_clone = { λ list copy. copy ≡ list };
+
+    fn clone(&self) -> Result<Self, AllocError> {
+        let items = Vec::from_slice(*self.items.allocator(), &self.items)?;
+        Ok(Bytes { items })
+    }
 }
 
 impl Bytes {
@@ -53,7 +64,7 @@ pub struct PartitionOffset {
 }
 
 /// The offsets of one commit, 1 to 1000 of them.
-#[derive(Clone, Debug, Drop)]
+#[derive(Debug, Drop)]
 pub struct Offsets {
     items: Vec<PartitionOffset>,
 }
@@ -69,6 +80,16 @@ impl Model for Offsets {
     ghost view = { λ offsets. offsets.items.items };
 
     ghost invariant = { λ offsets. IsOffsetCount (length offsets.items.items) };
+}
+
+/// A copy of the same list, or want of memory.
+impl Clone for Offsets {
+    ghost is_clone = { λ list copy. copy ≡ list };
+
+    fn clone(&self) -> Result<Self, AllocError> {
+        let items = Vec::from_slice(*self.items.allocator(), &self.items)?;
+        Ok(Offsets { items })
+    }
 }
 
 impl Offsets {
@@ -112,7 +133,7 @@ pub struct AbortedTxn {
 }
 
 /// The aborted transactions that a reader of committed records skips.
-#[derive(Clone, Debug, Drop)]
+#[derive(Debug, Drop)]
 pub struct AbortedTxns {
     items: Vec<AbortedTxn>,
 }
@@ -124,6 +145,16 @@ impl Model for AbortedTxns {
     ghost Value = { List AbortedTxn };
 
     ghost view = { λ aborted. aborted.items.items };
+}
+
+/// A copy of the same list, or want of memory.
+impl Clone for AbortedTxns {
+    ghost is_clone = { λ list copy. copy ≡ list };
+
+    fn clone(&self) -> Result<Self, AllocError> {
+        let items = Vec::from_slice(*self.items.allocator(), &self.items)?;
+        Ok(AbortedTxns { items })
+    }
 }
 
 impl AbortedTxns {

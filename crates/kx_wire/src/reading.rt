@@ -307,21 +307,11 @@ fn produce(alloc: Global, fields: &mut Fields) -> Result<Message, FrameFault>
         (λ x. produce_at fields.old.rest.now ≡ Some (x, fields.new.rest.now))
         (λ fault. Refuses fault (produce_at fields.old.rest.now)) }
 {
-    let Some((client, correlation)) = fields.caller() else {
-        return Err(FrameFault::Field);
-    };
-    let Some(txn) = fields.optional_txn() else {
-        return Err(FrameFault::Field);
-    };
-    let Some(partition) = fields.partition() else {
-        return Err(FrameFault::Field);
-    };
-    let Some(batch) = fields.bytes() else {
-        return Err(FrameFault::Field);
-    };
-    let Ok(batch) = Vec::from_slice(alloc, batch) else {
-        return Err(FrameFault::Memory);
-    };
+    let (client, correlation) = fields.caller().ok_or(FrameFault::Field)?;
+    let txn = fields.optional_txn().ok_or(FrameFault::Field)?;
+    let partition = fields.partition().ok_or(FrameFault::Field)?;
+    let batch = fields.bytes().ok_or(FrameFault::Field)?;
+    let batch = Vec::from_slice(alloc, batch)?;
     Ok(Message::Produce {
         client,
         correlation,
@@ -376,9 +366,7 @@ fn aborted(alloc: Global, fields: &mut Fields) -> Result<AbortedTxns, FrameFault
         (λ x. aborted_at fields.old.rest.now ≡ Some (x, fields.new.rest.now))
         (λ fault. Refuses fault (aborted_at fields.old.rest.now)) }
 {
-    let Some(count) = fields.u32() else {
-        return Err(FrameFault::Field);
-    };
+    let count = fields.u32().ok_or(FrameFault::Field)?;
     aborted_txns(alloc, count, fields)
 }
 
@@ -388,13 +376,9 @@ fn offsets(alloc: Global, fields: &mut Fields) -> Result<Offsets, FrameFault>
         (λ x. offsets_at fields.old.rest.now ≡ Some (x, fields.new.rest.now))
         (λ fault. Refuses fault (offsets_at fields.old.rest.now)) }
 {
-    let Some(count) = fields.offset_count() else {
-        return Err(FrameFault::Field);
-    };
-    match partition_offsets(alloc, count, fields) {
-        Ok(offsets) => Ok(Offsets::from_vec(offsets)),
-        Err(fault) => Err(fault),
-    }
+    let count = fields.offset_count().ok_or(FrameFault::Field)?;
+    let offsets = partition_offsets(alloc, count, fields)?;
+    Ok(Offsets::from_vec(offsets))
 }
 
 #[tactic(auto, unfolding(crate::specs::Reading::fetch_reply_at))]
@@ -403,34 +387,15 @@ fn fetch_reply(alloc: Global, fields: &mut Fields) -> Result<Message, FrameFault
         (λ x. fetch_reply_at fields.old.rest.now ≡ Some (x, fields.new.rest.now))
         (λ fault. Refuses fault (fetch_reply_at fields.old.rest.now)) }
 {
-    let Some((client, correlation)) = fields.caller() else {
-        return Err(FrameFault::Field);
-    };
-    let Some(partition) = fields.partition() else {
-        return Err(FrameFault::Field);
-    };
-    let Some(code) = fields.code() else {
-        return Err(FrameFault::Field);
-    };
-    let Some(next) = fields.i64() else {
-        return Err(FrameFault::Field);
-    };
-    let Some(lso) = fields.i64() else {
-        return Err(FrameFault::Field);
-    };
-    let Some(end) = fields.i64() else {
-        return Err(FrameFault::Field);
-    };
-    let aborted = match aborted(alloc, fields) {
-        Ok(aborted) => aborted,
-        Err(fault) => return Err(fault),
-    };
-    let Some(batches) = fields.bytes() else {
-        return Err(FrameFault::Field);
-    };
-    let Ok(batches) = Vec::from_slice(alloc, batches) else {
-        return Err(FrameFault::Memory);
-    };
+    let (client, correlation) = fields.caller().ok_or(FrameFault::Field)?;
+    let partition = fields.partition().ok_or(FrameFault::Field)?;
+    let code = fields.code().ok_or(FrameFault::Field)?;
+    let next = fields.i64().ok_or(FrameFault::Field)?;
+    let lso = fields.i64().ok_or(FrameFault::Field)?;
+    let end = fields.i64().ok_or(FrameFault::Field)?;
+    let aborted = aborted(alloc, fields)?;
+    let batches = fields.bytes().ok_or(FrameFault::Field)?;
+    let batches = Vec::from_slice(alloc, batches)?;
     Ok(Message::FetchReply {
         client,
         correlation,
@@ -450,31 +415,14 @@ fn txn_offset_commit(alloc: Global, fields: &mut Fields) -> Result<Message, Fram
         (λ x. txn_offset_commit_at fields.old.rest.now ≡ Some (x, fields.new.rest.now))
         (λ fault. Refuses fault (txn_offset_commit_at fields.old.rest.now)) }
 {
-    let Some((client, correlation)) = fields.caller() else {
-        return Err(FrameFault::Field);
-    };
-    let Some(txn) = fields.txn() else {
-        return Err(FrameFault::Field);
-    };
-    let Some(group) = fields.group() else {
-        return Err(FrameFault::Field);
-    };
-    let Some(member) = fields.u32() else {
-        return Err(FrameFault::Field);
-    };
-    let Some(generation) = fields.i32() else {
-        return Err(FrameFault::Field);
-    };
-    let Some(held) = fields.held() else {
-        return Err(FrameFault::Field);
-    };
-    let Some(first_sequence) = fields.i32() else {
-        return Err(FrameFault::Field);
-    };
-    let offsets = match offsets(alloc, fields) {
-        Ok(offsets) => offsets,
-        Err(fault) => return Err(fault),
-    };
+    let (client, correlation) = fields.caller().ok_or(FrameFault::Field)?;
+    let txn = fields.txn().ok_or(FrameFault::Field)?;
+    let group = fields.group().ok_or(FrameFault::Field)?;
+    let member = fields.u32().ok_or(FrameFault::Field)?;
+    let generation = fields.i32().ok_or(FrameFault::Field)?;
+    let held = fields.held().ok_or(FrameFault::Field)?;
+    let first_sequence = fields.i32().ok_or(FrameFault::Field)?;
+    let offsets = offsets(alloc, fields)?;
     Ok(Message::TxnOffsetCommit {
         client,
         correlation,
@@ -534,10 +482,7 @@ fn message_of(alloc: Global, kind: u8, fields: &mut Fields) -> Result<Message, F
         5 => produce(alloc, fields),
         12 => fetch_reply(alloc, fields),
         17 => txn_offset_commit(alloc, fields),
-        _ => match small_message(kind, fields) {
-            Some(message) => Ok(message),
-            None => Err(FrameFault::Field),
-        },
+        _ => small_message(kind, fields).ok_or(FrameFault::Field),
     }
 }
 
@@ -548,10 +493,7 @@ pub(crate) fn read_message(alloc: Global, kind: u8, fields: &[u8]) -> Result<Mes
         (λ fault. Refuses fault (whole (fields_at kind fields.now))) }
 {
     let mut left = Fields::new(fields);
-    let message = match message_of(alloc, kind, &mut left) {
-        Ok(message) => message,
-        Err(fault) => return Err(fault),
-    };
+    let message = message_of(alloc, kind, &mut left)?;
     if !left.is_empty() {
         return Err(FrameFault::Field);
     }
