@@ -29,6 +29,8 @@ mod frames;
 mod group_id;
 mod ids;
 mod message;
+#[cfg(test)]
+mod message_tests;
 mod name;
 mod outcome;
 mod partition;

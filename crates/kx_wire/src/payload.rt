@@ -10,7 +10,7 @@ use std::marker::Model;
 /// Bytes that a message carries as they stand, such as record batches.
 #[derive(Debug, Drop)]
 pub struct Bytes {
-    items: Vec<u8>,
+    bytes: Vec<u8>,
 }
 
 impl Model for Bytes {
@@ -18,7 +18,7 @@ impl Model for Bytes {
 
     ghost Value = { List ℕ };
 
-    ghost view = { λ bytes. bytes.items.items };
+    ghost view = { λ bytes. bytes.bytes.items };
 }
 
 /// A copy of the same list, or want of memory.
@@ -26,8 +26,8 @@ impl Clone for Bytes {
     ghost is_clone = { λ list copy. copy ≡ list };
 
     fn clone(&self) -> Result<Self, AllocError> {
-        let items = Vec::from_slice(*self.items.allocator(), &self.items)?;
-        Ok(Bytes { items })
+        let bytes = Vec::from_slice(*self.bytes.allocator(), &self.bytes)?;
+        Ok(Bytes { bytes })
     }
 }
 
@@ -36,21 +36,21 @@ impl Bytes {
     pub fn from_vec(bytes: Vec<u8>) -> Self
         ensures { result ≡ bytes.items }
     {
-        Bytes { items: bytes }
+        Bytes { bytes }
     }
 
     /// The bytes, lent.
     pub fn as_slice(&self) -> &[u8]
         ensures { result.now ≡ self.now }
     {
-        self.items.as_slice()
+        &self.bytes
     }
 
     /// The bytes, given back.
     pub fn into_vec(self) -> Vec<u8>
         ensures { result.items ≡ self }
     {
-        self.items
+        self.bytes
     }
 }
 
@@ -66,7 +66,7 @@ pub struct PartitionOffset {
 /// The offsets of one commit, 1 to 1000 of them.
 #[derive(Debug, Drop)]
 pub struct Offsets {
-    items: Vec<PartitionOffset>,
+    offsets: Vec<PartitionOffset>,
 }
 
 impl Model for Offsets {
@@ -77,9 +77,9 @@ impl Model for Offsets {
 
     ghost Value = { List PartitionOffset };
 
-    ghost view = { λ offsets. offsets.items.items };
+    ghost view = { λ offsets. offsets.offsets.items };
 
-    ghost invariant = { λ offsets. IsOffsetCount (length offsets.items.items) };
+    ghost invariant = { λ offsets. IsOffsetCount (length offsets.offsets.items) };
 }
 
 /// A copy of the same list, or want of memory.
@@ -87,8 +87,8 @@ impl Clone for Offsets {
     ghost is_clone = { λ list copy. copy ≡ list };
 
     fn clone(&self) -> Result<Self, AllocError> {
-        let items = Vec::from_slice(*self.items.allocator(), &self.items)?;
-        Ok(Offsets { items })
+        let offsets = Vec::from_slice(*self.offsets.allocator(), &self.offsets)?;
+        Ok(Offsets { offsets })
     }
 }
 
@@ -103,7 +103,7 @@ impl Offsets {
         requires { IsOffsetCount (length offsets.items) }
         ensures { result ≡ offsets.items }
     {
-        Offsets { items: offsets }
+        Offsets { offsets }
     }
 
     /// The offsets, lent.
@@ -111,7 +111,7 @@ impl Offsets {
         ensures value { result.now ≡ self.now }
         ensures within { IsOffsetCount (length self.now) }
     {
-        self.items.as_slice()
+        &self.offsets
     }
 
     /// The offsets, given back.
@@ -119,7 +119,7 @@ impl Offsets {
         ensures value { result.items ≡ self }
         ensures within { IsOffsetCount (length self) }
     {
-        self.items
+        self.offsets
     }
 }
 
@@ -135,7 +135,7 @@ pub struct AbortedTxn {
 /// The aborted transactions that a reader of committed records skips.
 #[derive(Debug, Drop)]
 pub struct AbortedTxns {
-    items: Vec<AbortedTxn>,
+    aborted: Vec<AbortedTxn>,
 }
 
 impl Model for AbortedTxns {
@@ -144,7 +144,7 @@ impl Model for AbortedTxns {
 
     ghost Value = { List AbortedTxn };
 
-    ghost view = { λ aborted. aborted.items.items };
+    ghost view = { λ aborted. aborted.aborted.items };
 }
 
 /// A copy of the same list, or want of memory.
@@ -152,8 +152,8 @@ impl Clone for AbortedTxns {
     ghost is_clone = { λ list copy. copy ≡ list };
 
     fn clone(&self) -> Result<Self, AllocError> {
-        let items = Vec::from_slice(*self.items.allocator(), &self.items)?;
-        Ok(AbortedTxns { items })
+        let aborted = Vec::from_slice(*self.aborted.allocator(), &self.aborted)?;
+        Ok(AbortedTxns { aborted })
     }
 }
 
@@ -162,20 +162,20 @@ impl AbortedTxns {
     pub fn from_vec(aborted: Vec<AbortedTxn>) -> Self
         ensures { result ≡ aborted.items }
     {
-        AbortedTxns { items: aborted }
+        AbortedTxns { aborted }
     }
 
     /// The transactions, lent.
     pub fn as_slice(&self) -> &[AbortedTxn]
         ensures { result.now ≡ self.now }
     {
-        self.items.as_slice()
+        &self.aborted
     }
 
     /// The transactions, given back.
     pub fn into_vec(self) -> Vec<AbortedTxn>
         ensures { result.items ≡ self }
     {
-        self.items
+        self.aborted
     }
 }

@@ -31,7 +31,7 @@ fn end_reply() -> Result<Message, Fail> {
 }
 
 // The frame of a message, where it fits.
-fn frame(alloc: Global, message: &Message) -> Result<Vec<u8>, Fail> {
+pub(crate) fn frame(alloc: Global, message: &Message) -> Result<Vec<u8>, Fail> {
     let mut out = Vec::new(alloc);
     if message.fits() {
         put_frame(&mut out, message)?;
@@ -117,5 +117,53 @@ fn gives_messages_before_a_fault(rt: HostRuntime) -> Result<(), Fail> {
     assert!(rt; matches!(frames.feed(&[]), Err(FrameFault::Kind)));
     assert!(rt; matches!(frames.feed(&[]), Err(FrameFault::Failed)));
     assert!(rt; matches!(frames.feed(&JOIN), Err(FrameFault::Failed)));
+    Ok(())
+}
+
+// The next number of a linear congruential generator, by its high bits.
+fn next_random(state: &mut u64) -> usize {
+    *state = state
+        .wrapping_mul(6_364_136_223_846_793_005)
+        .wrapping_add(1_442_695_040_888_963_407);
+    (*state >> 33) as usize
+}
+
+// A piece of a stream of frames, up to 19 bytes from where the state says, at times with a byte
+// that isn't the stream's.
+fn random_piece(alloc: Global, stream: &[u8], state: &mut u64) -> Result<Vec<u8>, Fail> {
+    let from = next_random(state) % 40;
+    let len = next_random(state) % 20;
+    let mut piece = Vec::from_slice(alloc, stream.get(from..from + len).unwrap_or(&[]))?;
+    if next_random(state) % 4 == 0 {
+        piece.push((next_random(state) % 256) as u8)?;
+    }
+    Ok(piece)
+}
+
+#[test]
+fn random_pieces_bring_messages_or_faults(rt: HostRuntime) -> Result<(), Fail> {
+    let alloc = rt.alloc();
+    let mut stream = Vec::from_slice(alloc, &JOIN)?;
+    stream.extend_from_slice(&END_REPLY)?;
+    let mut state = 1;
+    let mut frames = Frames::new(alloc);
+    for _ in 0..10_000 {
+        let piece = random_piece(alloc, &stream, &mut state)?;
+        match frames.feed(&piece) {
+            Ok(messages) => {
+                assert!(rt; messages.iter().all(|message| message.fits()));
+            }
+            Err(fault) => {
+                assert!(rt;
+                    matches!(
+                        fault,
+                        FrameFault::TooLong | FrameFault::Kind | FrameFault::Field
+                    )
+                );
+                assert!(rt; matches!(frames.feed(&piece), Err(FrameFault::Failed)));
+                frames = Frames::new(alloc);
+            }
+        }
+    }
     Ok(())
 }
