@@ -12,13 +12,11 @@ use Rattle.kx_batch.specs.Batch.{Batch, Spelled, batch_at, is_control, is_transa
 use Rattle.kx_batch.specs.Marker.{end_marker_of}
 use Rattle.kx_batch.specs.declared.fault.BatchFault.{BatchFault}
 use Rattle.kx_batch.specs.declared.fault.BatchFault.TheVariants as fault
+use Rattle.kx_main.specs.World.{newline}
 use Rattle.kx_main.specs.declared.dump.DumpFault.{DumpFault}
 use Rattle.kx_main.specs.declared.dump.DumpFault.TheVariants as dump_fault
 
 ------ a line
-
-abbrev pub newline : List ℕ
-newline = 10 ∷ []
 
 -- the digit of a number below 16
 abbrev pub digit_of : ℕ → ℕ

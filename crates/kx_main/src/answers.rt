@@ -39,8 +39,8 @@ fn write_value<W: Write>(writer: &mut W, offset: i128, value: Option<&[u8]>) -> 
     writer.write_all(b"\n")
 }
 
-// A record's offset; no such sum passes an i128.
-fn offset_of(base: i64, delta: i32) -> i128
+/// A record's offset; no such sum passes an i128.
+pub fn offset_of(base: i64, delta: i32) -> i128
     ensures { result ≡ base +ℤ delta }
 {
     i128::from(base) + i128::from(delta)

@@ -1,5 +1,5 @@
 //! The dump: what is printed of a file of record batches, for those who look into a log.
-ghost use Rattle.std.specs.Prelude.{◌≡◌, ◌≤◌, ◌<◌, ◌*◌, ◌+ℤ◌, ◌⊎◌, ℕ, List, [], length, drop};
+ghost use Rattle.std.specs.Prelude.{◌≡◌, ◌≤◌, ◌<◌, ◌*◌, ◌⊎◌, ℕ, List, [], length, drop};
 ghost use Rattle.std.specs.Prelude.{◌++◌, Err, IsOkUnless, OnOk, codes, option_map, take};
 ghost use Rattle.std.specs.Fmt.{signed_decimal};
 ghost use Rattle.std.specs.Io.KnownBytes.{Appends};
@@ -9,6 +9,7 @@ ghost use Rattle.kx_main.specs.Dump.{fault_name, field_text, hex_of, kind_of, pr
 ghost use Rattle.kx_main.specs.Dump.{record_line};
 ghost use Rattle.kx_main.specs.declared.dump.DumpFault.TheVariants as dump_fault;
 
+use crate::answers::offset_of;
 use kx_batch::{BatchFault, BatchView, RecordView};
 use kx_wire::Outcome;
 use std::io;
@@ -78,13 +79,6 @@ fn write_field<W: Write>(writer: &mut W, field: Option<&[u8]>) -> io::Result<()>
         Some([]) => writer.write_all(b"-"),
         Some(bytes) => write_hex(writer, bytes),
     }
-}
-
-// A record's offset; no such sum passes an i128.
-fn offset_of(base: i64, delta: i32) -> i128
-    ensures { result ≡ base +ℤ delta }
-{
-    i128::from(base) + i128::from(delta)
 }
 
 // Writes what stands in front of a record's key.

@@ -4,7 +4,8 @@ use Rattle.std.specs.Fmt.{signed_decimal}
 use Rattle.std.specs.Io.KnownBytes.{Appends}
 use Rattle.std.proofs.lemmas.Result.{on_ok_weaker}
 use Rattle.std.proofs.lemmas.Grind.{common_steps}
-use Rattle.kx_main.specs.Dump.{batch_line, kind_of, newline, producer_text}
+use Rattle.kx_main.specs.Dump.{batch_line, kind_of, producer_text}
+use Rattle.kx_main.specs.World.{newline}
 use Rattle.kx_main.proofs.Writes.{appends_both}
 use Rattle.kx_main.proofs.dump.write_head.Goals as goal
 
