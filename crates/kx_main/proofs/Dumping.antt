@@ -111,6 +111,7 @@ pub only_whole : (bytes : List ℕ) (old new : Option (List ℕ)) (r : Result (U
     → IsOkUnless r dump_fault.Write
 only_whole bytes old new (Ok done) h batches are = tt
 only_whole bytes old new (Err dump_fault.Write) h batches are = refl
+only_whole bytes old new (Err dump_fault.Memory) h batches are = absurd h
 only_whole bytes old new (Err (dump_fault.Batch place f)) h batches are =
     let end : [] ≡ drop place bytes = same_end batches h.batches bytes [] (drop place bytes)
     fault.Short f are h.are none_at_end h.none in
@@ -127,6 +128,7 @@ only_stops bytes old new (Ok done) h batches place f within are none =
     f fault.Short are h.1 none none_at_end in
     absurd (omega (arith, ap length end, length-drop place bytes))
 only_stops bytes old new (Err dump_fault.Write) h batches place f within are none = inr refl
+only_stops bytes old new (Err dump_fault.Memory) h batches place f within are none = absurd h
 only_stops bytes old new (Err (dump_fault.Batch other g)) h batches place f within are none =
     let end : drop place bytes ≡ drop other bytes = same_end batches h.batches bytes
     (drop place bytes) (drop other bytes) f g are h.are none h.none in

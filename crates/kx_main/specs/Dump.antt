@@ -111,3 +111,5 @@ Dumps bytes old new (Ok done) = IsDumped bytes old new
 Dumps bytes old new (Err (dump_fault.Batch place fault)) = IsDumpedUpTo bytes place fault old new
 -- of a write that failed, std doesn't say what it wrote
 Dumps bytes old new (Err dump_fault.Write) = Unit {0}
+-- a dump asks for no memory
+Dumps bytes old new (Err dump_fault.Memory) = ⊥

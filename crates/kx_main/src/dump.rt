@@ -29,6 +29,10 @@ pub enum DumpFault {
     /// reason. The text of the batches in front of it was written, and then `fault PLACE NAME`.
     #[error("no batch at byte {0}: {1}")]
     Batch(usize, BatchFault),
+    /// Memory ran out before anything was written. A dump asks for none itself, so `dump_batches`
+    /// never answers it.
+    #[error("out of memory")]
+    Memory,
 }
 
 impl From<io::Error> for DumpFault {

@@ -42,7 +42,9 @@ fn run_sim(rt: &(impl Input + Print + AllocGlobal)) -> Result<(), ScriptFault> {
 
 // Prints the batches in these bytes, and flushes what was printed, also before a fault.
 fn print_dump(rt: &(impl Print + AllocGlobal), bytes: &[u8]) -> Result<(), DumpFault> {
-    let mut writer = BufWriter::new(rt.alloc(), io::writer(rt))?;
+    let Ok(mut writer) = BufWriter::new(rt.alloc(), io::writer(rt)) else {
+        return Err(DumpFault::Memory);
+    };
     let dumped = dump_batches(bytes, &mut writer);
     writer.flush()?;
     dumped
