@@ -1,21 +1,16 @@
 -- Word after word, a builder comes to the batch of all words.
 use Rattle.std.proofs.Common.{◌≡◌, ◌<◌, ◌+◌, ℕ, pos, negsuc, List, [], ◌∷◌, ◌++◌, Option, None}
-use Rattle.std.proofs.Common.{Some}
-use Rattle.std.proofs.Common.{Result, Ok, Err, Bool, true, false, cond, ltb, length, refl, sym, ap}
-use Rattle.std.proofs.Common.{◌∙◌}
-use Rattle.std.proofs.Common.{subst, append_assoc, append-nil, arith}
-use Rattle.std.specs.Prelude.{MatchResult}
+use Rattle.std.proofs.Common.{Some, Bool, true, false, cond, ltb, length, refl, sym, ap, ◌∙◌}
+use Rattle.std.proofs.Common.{append_assoc, append-nil, arith}
 use Rattle.std.proofs.lemmas.Bool.{ltb-true, lt-ltb}
 use Rattle.std.proofs.lemmas.List.{length-append}
 use Rattle.std.proofs.lemmas.List.Concat.{flat_map-append}
 use Rattle.kx_batch.specs.Record.{Record}
 use Rattle.kx_batch.specs.Batch.{batch_limit}
-use Rattle.kx_batch.specs.declared.fault.BuildFault.{BuildFault}
-use Rattle.kx_batch.specs.declared.fault.BuildFault.TheVariants.{Empty, TooLarge, Memory}
-use Rattle.kx_batch.specs.Build.{Builds, Draft, Refuses, batch_text, made, pushed, record_text}
-use Rattle.kx_batch.specs.Build.{records_text}
-use Rattle.kx_batch.specs.Build.{with_pushed, within_limit}
-use Rattle.kx_main.specs.World.{BuildsBatch, records_from, records_of}
+use Rattle.kx_batch.specs.declared.fault.BuildFault.TheVariants.{Empty, TooLarge}
+use Rattle.kx_batch.specs.Build.{Builds, Draft, Refuses, batch_text, drafted, made, pushed}
+use Rattle.kx_batch.specs.Build.{record_text, records_text, with_pushed, within_limit}
+use Rattle.kx_main.specs.World.{batch_of, is_over, records_from, records_of}
 
 -- the draft of a producer without an id
 abbrev pub plain : Option (List Record) → Draft
@@ -100,23 +95,27 @@ no_words : (n : ℕ) (words : List (List ℕ)) → [] ≡ records_from n words �
 no_words n [] h = refl
 no_words n (word ∷ words) h = absurd (cc)
 
-finishes : {X : Type 0} (words : List (List ℕ)) (text_of : X → List ℕ) (r : Result X BuildFault)
-    → MatchResult r (λ v. Builds (plain (within_limit (records_of words))) (text_of v))
-    (Refuses (plain (within_limit (records_of words))))
-    → BuildsBatch words text_of r
-finishes words text_of (Ok v) h =
-    let l = limited h.0 (records_of words) h.1 in (
-      l.0,
-      h.2 ∙ ap (λ (rs : List Record).
-          batch_text (made (pos 0) (negsuc 0) (negsuc 0) (negsuc 0) rs)) l.1,
-    )
-finishes words text_of (Err TooLarge) h = passed (records_of words) h
-finishes words text_of (Err Empty) h =
-    no_words 0 words (limited [] (records_of words) h).1
-finishes words text_of (Err Memory) h = tt
+-- the draft of all words
+abbrev pub limited_to : List (List ℕ) → Draft
+limited_to words = plain (within_limit (records_of words))
 
-pub builds : {X : Type 0} (words : List (List ℕ)) (text_of : X → List ℕ) (d : Draft)
-    (r : Result X BuildFault) → d ≡ plain (within_limit (records_of words))
-    → MatchResult r (λ v. Builds d (text_of v)) (Refuses d) → BuildsBatch words text_of r
-builds words text_of d r e h = finishes words text_of r
-    (subst (λ (k : Draft). MatchResult r (λ v. Builds k (text_of v)) (Refuses k)) e h)
+-- what a builder of that draft answers
+module _ (words : List (List ℕ)) (d : Draft) (is : d ≡ limited_to words) where
+  records_are : d.records ≡ within_limit (records_of words)
+  records_are = ap (λ (d : Draft). d.records) is
+
+  pub made_of : (text : List ℕ) → Builds d text
+      → (is_over words ≡ false) × (text ≡ batch_text (batch_of words))
+  made_of text h =
+      let l = limited h.0 (records_of words) (sym records_are ∙ h.1) in (
+        l.0,
+        h.2 ∙ ap (λ (d : Draft). batch_text (drafted d h.0)) is
+            ∙ ap (λ (rs : List Record).
+            batch_text (made (pos 0) (negsuc 0) (negsuc 0) (negsuc 0) rs)) l.1,
+      )
+
+  pub too_large : Refuses d TooLarge → is_over words ≡ true
+  too_large h = passed (records_of words) (sym records_are ∙ h)
+
+  pub empty_without_words : Refuses d Empty → words ≡ []
+  empty_without_words h = no_words 0 words (limited [] (records_of words) (sym records_are ∙ h)).1

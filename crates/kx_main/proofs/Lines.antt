@@ -1,7 +1,6 @@
 -- What the first line and the first piece of a text are.
-use Rattle.std.proofs.Common.{◌≡◌, ℕ, List, [], ◌∷◌, Option, None, Some, Bool, true, false}
-use Rattle.std.proofs.Common.{cond, eqb, not, is_some, refl, sym, ap, ◌∙◌}
-use Rattle.std.specs.Prelude.{IsTrue, option_map}
+use Rattle.std.proofs.Common.{◌≡◌, ℕ, List, [], ◌∷◌, Some, Bool, true, false, cond, eqb, refl, sym, ap}
+use Rattle.std.proofs.Common.{◌∙◌}
 use Rattle.std.specs.Io.BufRead.{take_through, drop_through}
 use Rattle.kx_main.specs.Words.{before, behind, lines_of, pieces_of, pieces_in, with_first}
 
@@ -34,15 +33,3 @@ lines_of-first x (y ∷ ys) = at (eqb x 10) refl (lines_of-first y ys) where
   at false e h = ap (with_first x) h ∙ ap (λ (b : Bool).
       cond b [] (x ∷ before 10 (take_through 10 (y ∷ ys))) ∷ lines_of (drop_through 10 (y ∷ ys)))
       (sym e)
-
--- nothing is left exactly where no piece is left
-pub pieces_in-empty : {A : Type 0} (f : A → List ℕ) (o : Option A) (r : Bool)
-    → is_some o ≡ not r
-    → (IsTrue r → pieces_in (option_map f o) ≡ []) × (pieces_in (option_map f o) ≡ [] → IsTrue r)
-pieces_in-empty f None true e = (λ _. refl, λ _. refl)
-pieces_in-empty f None false e = absurd (cc)
-pieces_in-empty f (Some x) true e = absurd (cc)
-pieces_in-empty f (Some x) false e = (
-  λ h. absurd (cc),
-  λ h. let k = pieces_of-first (f x) in absurd (cc),
-)

@@ -1,5 +1,5 @@
 -- What a script does to the logs of its partitions, and what it prints of them.
-use Rattle.std.specs.Prelude.{◌≡◌, ℕ, ℤ, pos, negsuc, ◌+◌, ◌+ℤ◌, Bool, true, false, Result, Ok, Err}
+use Rattle.std.specs.Prelude.{◌≡◌, ℕ, ℤ, pos, negsuc, ◌+◌, ◌+ℤ◌, Bool, true, false}
 use Rattle.std.specs.Prelude.{List, [], ◌∷◌, ◌++◌, Option, None}
 use Rattle.std.specs.Prelude.{Some, length, flat_map, codes, decimal, nat_lt, int_lt, if◌then◌else◌}
 use Rattle.std.specs.Fmt.{signed_decimal}
@@ -8,8 +8,6 @@ use Rattle.kx_wire.specs.declared.code.ErrorCode.TheVariants.{MessageTooLarge}
 use Rattle.kx_wire.specs.Codes.{number_of}
 use Rattle.kx_batch.specs.Record.{Record}
 use Rattle.kx_batch.specs.Batch.{Batch, batch_limit, is_control}
-use Rattle.kx_batch.specs.declared.fault.BuildFault.{BuildFault}
-use Rattle.kx_batch.specs.declared.fault.BuildFault.TheVariants.{Empty, TooLarge, Memory}
 use Rattle.kx_batch.specs.Build.{batch_text, made, pushed, records_text}
 use Rattle.kx_model.specs.Log.{Entry}
 use Rattle.kx_model.specs.Page.{Page}
@@ -84,11 +82,8 @@ page_text from page =
 
 ------ what a builder makes
 
--- the text of the batch of the words, or why there is none
-abbrev pub BuildsBatch : {X : Type 0} → List (List ℕ) → (X → List ℕ) → Result X BuildFault
-    → Type 0
-BuildsBatch words text_of (Ok made) =
+-- the text of the batch of the words, or none where it would pass the limit
+abbrev pub BuildsBatch : {X : Type 0} → List (List ℕ) → (X → List ℕ) → Option X → Type 0
+BuildsBatch words text_of (Some made) =
     (is_over words ≡ false) × (text_of made ≡ batch_text (batch_of words))
-BuildsBatch words text_of (Err TooLarge) = is_over words ≡ true
-BuildsBatch words text_of (Err Empty) = words ≡ []
-BuildsBatch words text_of (Err Memory) = Unit {0}
+BuildsBatch words text_of None = is_over words ≡ true

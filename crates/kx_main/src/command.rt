@@ -3,7 +3,7 @@ ghost use Rattle.std.specs.Prelude.{◌≡◌};
 ghost use Rattle.kx_main.specs.Command.{command_of, fetch_of, max_of, named, partition_of, put_of};
 ghost use Rattle.kx_main.specs.Command.{world_of};
 
-use crate::words::{Words, number_below};
+use crate::words::{SomeWords, Words, number_below};
 
 // How many bytes a fetch shows where it doesn't say.
 const DEFAULT_MAX: u32 = 1_048_588;
@@ -13,8 +13,8 @@ const DEFAULT_MAX: u32 = 1_048_588;
 pub enum Command<'a> {
     /// `world P`: so many data partitions, 1 to 16, with empty logs.
     World(usize),
-    /// `put P W..`: a batch of the words, one or more, goes to the partition.
-    Put(usize, Words<'a>),
+    /// `put P W..`: a batch of the words goes to the partition.
+    Put(usize, SomeWords<'a>),
     /// `fetch P FROM all [MAX]`: the records of the partition from an offset on, in whole batches
     /// of at most so many bytes.
     Fetch(usize, i64, u32),
@@ -43,10 +43,8 @@ fn put_of<'a>(words: Words<'a>) -> Option<Command<'a>>
 {
     let mut words = words;
     let partition = partition_of(words.next()?)?;
-    if words.is_empty() {
-        return None;
-    }
-    Some(Command::Put(partition, words))
+    let values = SomeWords::of(words)?;
+    Some(Command::Put(partition, values))
 }
 
 fn max_of(words: Words<'_>) -> Option<u32>

@@ -7,7 +7,7 @@ ghost use Rattle.kx_main.specs.Script.{Answered, Ends, Performed, ReadsLine};
 use crate::answers::{write_offset, write_page, write_refusal};
 use crate::command::{Command, command_of};
 use crate::fault::ScriptFault;
-use crate::words::{Words, without_newline, words_of};
+use crate::words::{SomeWords, without_newline, words_of};
 use crate::world::World;
 use kx_partition::{FetchFault, Produced};
 use std::alloc::Global;
@@ -64,7 +64,7 @@ fn put<W: Write>(
     alloc: Global,
     world: &mut World,
     partition: usize,
-    words: Words<'_>,
+    words: SomeWords<'_>,
     writer: &mut W,
 ) -> Result<bool, ScriptFault>
     ensures { Performed (Some world.old) (command.Put partition words.entry) (Some world.new)

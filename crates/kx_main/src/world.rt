@@ -7,22 +7,29 @@ ghost use Rattle.kx_model.specs.Page.{fetched};
 ghost use Rattle.kx_partition.specs.Answer.{Refuses, answer_of};
 ghost use Rattle.kx_main.specs.World.{BuildsBatch, batch_of, is_over, put};
 
-use crate::words::Words;
+use crate::words::SomeWords;
 use kx_batch::{BatchBuilder, BuildFault};
 use kx_partition::{FetchFault, FetchPage, Partition, Produced};
 use kx_wire::ErrorCode;
 use std::alloc::{AllocError, Global};
 use std::marker::Model;
 
-// The text of the plain batch of the words.
-fn batch_of(alloc: Global, words: Words<'_>) -> Result<Vec<u8>, BuildFault>
-    ensures { BuildsBatch words.entry (λ text. text.items) result }
+// The text of the plain batch of the words, or None where it would pass the limit.
+fn batch_of(alloc: Global, words: SomeWords<'_>) -> Result<Option<Vec<u8>>, AllocError>
+    ensures { IfOk result (BuildsBatch words.entry (λ text. text.items)) }
 {
+    let (first, more) = words.split_first();
     let mut builder = BatchBuilder::new(alloc, 0, -1, -1, -1);
-    for word in words {
+    builder.push(None, Some(first), &[])?;
+    for word in more {
         builder.push(None, Some(word), &[])?;
     }
-    builder.finish()
+    match builder.finish() {
+        Ok(text) => Ok(Some(text)),
+        Err(BuildFault::TooLarge) => Ok(None),
+        Err(BuildFault::Memory) => Err(AllocError),
+        Err(BuildFault::Empty) => unreachable!(),
+    }
 }
 
 /// The data partitions of a script, numbered from 0.
@@ -73,7 +80,7 @@ impl World {
         &mut self,
         alloc: Global,
         partition: usize,
-        words: Words<'_>,
+        words: SomeWords<'_>,
     ) -> Result<Produced, AllocError>
         requires { partition < length self.old }
         ensures answer { IfOk result (λ answer. let log = slice_index_or self.old partition [] in
@@ -82,10 +89,9 @@ impl World {
             (put (slice_index_or self.old partition []) words.entry).1) }
         ensures err { OnErr result (self.new ≡ self.old) }
     {
-        match batch_of(alloc, words) {
-            Ok(text) => self.partitions[partition].produce(text.as_slice()),
-            Err(BuildFault::TooLarge) => Ok(Produced::Refused(ErrorCode::MessageTooLarge)),
-            Err(BuildFault::Empty | BuildFault::Memory) => Err(AllocError),
+        match batch_of(alloc, words)? {
+            Some(text) => self.partitions[partition].produce(text.as_slice()),
+            None => Ok(Produced::Refused(ErrorCode::MessageTooLarge)),
         }
     }
 

@@ -7,56 +7,58 @@ use Rattle.kx_partition.specs.Answer.{answer_of}
 use Rattle.kx_main.specs.World.{put}
 use Rattle.kx_main.proofs.Performing.{put-within, put-over}
 use Rattle.kx_main.proofs.world.World.put.Goals as goal
+use Rattle.kx_main.proofs.world.World.put.Goals.{After-as_slice}
 
-pub returns-in-Ok-clause-answer : goal.returns-in-Ok-clause-answer
-returns-in-Ok-clause-answer c =
+-- the partition's log, and what a put of this text does to it
+put_is : (c : After-as_slice) → let log = get_or c.args.self.now c.args.partition [] in
+    (c.index_mut.result.now ≡ log) × (put log c.args.words ≡ produced log c.as_slice.result.now)
+put_is c =
     let logs = c.args.self.now in
     let p = c.args.partition in
-    let log = get_or logs p [] in
+    let here = c.index_mut.result.now in
+    let read : here ≡ get_or logs p here = c.index_mut.ensures.value
+    ∙ ap (λ (ls : List (List Entry)). get_or ls p here) c.self.view_is in
+    let made = rw c.in-Some.is at c.in_ok-text.ensures in (
+      get_or_read logs p here c.requires read [],
+      put-within (get_or logs p []) c.args.words c.as_slice.result.now made.0
+          (c.as_slice.ensures.value ∙ made.1),
+    )
+
+pub returns-in-Some-clause-answer : goal.returns-in-Some-clause-answer
+returns-in-Some-clause-answer c =
+    let log = get_or c.args.self.now c.args.partition [] in
     let text = c.as_slice.result.now in
     let here = c.index_mut.result.now in
-    let items : c.self.inside.partitions.items ≡ logs = c.self.view_is in
-    let read : here ≡ get_or logs p here = c.index_mut.ensures.value
-    ∙ ap (λ (ls : List (List Entry)). get_or ls p here) items in
-    let slot : here ≡ log = get_or_read logs p here c.requires read [] in
-    let within = put-within log c.args.words text c.in-Ok.ensures.0
-    (c.as_slice.ensures.value ∙ c.in-Ok.ensures.1) in
+    let is = put_is (goal.at.returns-in-Some-clause-answer c).After-as_slice in
     let same : answer_of (end here) (judge_text here text)
     ≡ answer_of (end log) (put log c.args.words).0 =
-    ap (λ (l : List Entry). answer_of (end l) (judge_text l text)) slot
-    ∙ ap (λ (v : Verdict × List Entry). answer_of (end log) v.0) (sym within) in
+    ap (λ (l : List Entry). answer_of (end l) (judge_text l text)) is.0
+    ∙ ap (λ (v : Verdict × List Entry). answer_of (end log) v.0) (sym is.1) in
     IfOk-weaker c.produce.result
     (λ a. a ≡ answer_of (end here) (judge_text here text))
     (λ a. a ≡ answer_of (end log) (put log c.args.words).0)
     (λ a h. h ∙ same) c.produce.ensures.answer
 
-pub returns-in-Ok-clause-log : goal.returns-in-Ok-clause-log
-returns-in-Ok-clause-log c =
+pub returns-in-Some-clause-log : goal.returns-in-Some-clause-log
+returns-in-Some-clause-log c =
     let logs = c.args.self.now in
     let p = c.args.partition in
-    let log = get_or logs p [] in
     let text = c.as_slice.result.now in
-    let here = c.index_mut.result.now in
-    let items : c.self.inside.partitions.items ≡ logs = c.self.view_is in
-    let read : here ≡ get_or logs p here = c.index_mut.ensures.value
-    ∙ ap (λ (ls : List (List Entry)). get_or ls p here) items in
-    let slot : here ≡ log = get_or_read logs p here c.requires read [] in
-    let within = put-within log c.args.words text c.in-Ok.ensures.0
-    (c.as_slice.ensures.value ∙ c.in-Ok.ensures.1) in
+    let is = put_is (goal.at.returns-in-Some-clause-log c).After-as_slice in
     on_ok_weaker c.produce.result
-    (λ h. ap (λ (ls : List (List Entry)). set ls p c.produce.new.self) items
-    ∙ ap (set logs p) (h ∙ ap (λ (l : List Entry). (produced l text).1) slot
-    ∙ ap (λ (v : Verdict × List Entry). v.1) (sym within))) c.produce.ensures.log
+    (λ h. ap (λ (ls : List (List Entry)). set ls p c.produce.new.self) c.self.view_is
+    ∙ ap (set logs p) (h ∙ ap (λ (l : List Entry). (produced l text).1) is.0
+    ∙ ap (λ (v : Verdict × List Entry). v.1) (sym is.1))) c.produce.ensures.log
 
-pub returns-in-Err-TooLarge-clause-answer : goal.returns-in-Err-TooLarge-clause-answer
-returns-in-Err-TooLarge-clause-answer c =
+pub returns-in-None-clause-answer : goal.returns-in-None-clause-answer
+returns-in-None-clause-answer c =
     let log = get_or c.args.self.now c.args.partition [] in
     sym (ap (λ (v : Verdict × List Entry). answer_of (end log) v.0)
-    (put-over log c.args.words (rw c.in-Err-TooLarge.field-0-is at c.in-Err-TooLarge.ensures)))
+    (put-over log c.args.words (rw c.in-None.is at c.in_ok-text.ensures)))
 
-pub returns-in-Err-TooLarge-clause-log : goal.returns-in-Err-TooLarge-clause-log
-returns-in-Err-TooLarge-clause-log c =
+pub returns-in-None-clause-log : goal.returns-in-None-clause-log
+returns-in-None-clause-log c =
     let log = get_or c.args.self.now c.args.partition [] in
     sym (ap (λ (v : Verdict × List Entry). set c.args.self.now c.args.partition v.1)
-    (put-over log c.args.words (rw c.in-Err-TooLarge.field-0-is at c.in-Err-TooLarge.ensures))
+    (put-over log c.args.words (rw c.in-None.is at c.in_ok-text.ensures))
     ∙ set-get_or c.args.self.now c.args.partition [])
