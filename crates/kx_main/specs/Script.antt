@@ -5,11 +5,12 @@ use Rattle.std.specs.Prelude.{decimal, option_map, slice_get, slice_set}
 use Rattle.std.specs.Io.KnownBytes.{Appends, Keeps}
 use Rattle.kx_varint.specs.Text.{◌>>=◌}
 use Rattle.kx_wire.specs.declared.code.ErrorCode.{ErrorCode}
-use Rattle.kx_model.specs.Log.{Entry, end}
+use Rattle.kx_model.specs.Log.{Stored, end, entries}
 use Rattle.kx_model.specs.Page.{Page, fetched}
 use Rattle.kx_main.specs.Words.{before, lines_of, words_of}
 use Rattle.kx_main.specs.Command.{command_of}
-use Rattle.kx_main.specs.World.{lost_text, newline, page_text, put, refused_text, verdict_text}
+use Rattle.kx_partition.specs.Answer.{answer_of}
+use Rattle.kx_main.specs.World.{answer_text, lost_text, newline, page_text, put, refused_text}
 use Rattle.kx_main.specs.declared.command.Command.{Command}
 use Rattle.kx_main.specs.declared.command.Command.TheVariants.{World, Put, Fetch}
 use Rattle.kx_main.specs.declared.fault.ScriptFault.{ScriptFault}
@@ -17,7 +18,7 @@ use Rattle.kx_main.specs.declared.fault.ScriptFault.TheVariants.{Read, Write, Ba
 
 -- the logs of the partitions, once there is a world
 abbrev pub State : Type 0
-State = Option (List (List Entry))
+State = Option (List (List Stored))
 
 ------ a line
 
@@ -26,11 +27,13 @@ fetched_text from (Ok page) = page_text from page
 fetched_text from (Err code) = refused_text code
 
 -- what a put prints and leaves, where there is the partition
-abbrev pub put_in : List (List Entry) → ℕ → List (List ℕ) → Option (List Entry)
+abbrev pub put_in : List (List Stored) → ℕ → List (List ℕ) → Option (List Stored)
     → Option (List ℕ × State)
 put_in logs partition words None = None
-put_in logs partition words (Some log) = Some
-    (verdict_text (end log) (put log words).0, Some (slice_set logs partition (put log words).1))
+put_in logs partition words (Some log) = Some (
+  answer_text (answer_of (end (entries log)) (put log words).0),
+  Some (slice_set logs partition (put log words).1),
+)
 
 -- what a command prints, and the state after it; none where it may not stand
 abbrev pub performed : State → Command → Option (List ℕ × State)
@@ -41,7 +44,7 @@ performed (Some logs) (World count) = None
 performed (Some logs) (Put partition words) =
     put_in logs partition words (slice_get logs partition)
 performed (Some logs) (Fetch partition from max) =
-    option_map (λ log. (fetched_text from (fetched log from max), Some logs))
+    option_map (λ log. (fetched_text from (fetched log from max false), Some logs))
     (slice_get logs partition)
 
 -- the command that a line is

@@ -9,9 +9,12 @@ use Rattle.kx_wire.specs.Codes.{number_of}
 use Rattle.kx_batch.specs.Record.{Record}
 use Rattle.kx_batch.specs.Batch.{Batch, batch_limit, is_control}
 use Rattle.kx_batch.specs.Build.{batch_text, made, pushed, records_text}
-use Rattle.kx_model.specs.Log.{Entry}
+use Rattle.kx_model.specs.Log.{Stored}
 use Rattle.kx_model.specs.Page.{Page}
-use Rattle.kx_model.specs.Produce.{Verdict, Next, Refused, produced}
+use Rattle.kx_model.specs.Produce.{Verdict, Refused}
+use Rattle.kx_partition.specs.Plain.{produced_plain}
+use Rattle.kx_partition.specs.declared.partition.Produced.{Produced}
+use Rattle.kx_partition.specs.declared.partition.Produced.TheVariants as answer
 
 ------ put
 
@@ -32,10 +35,10 @@ abbrev pub is_over : List (List ℕ) → Bool
 is_over words = nat_lt batch_limit (61 + length (records_text (records_of words)))
 
 -- the verdict on the batch of the words, and the log after it
-unfoldable pub put : List Entry → List (List ℕ) → Verdict × List Entry
+unfoldable pub put : List Stored → List (List ℕ) → Verdict × List Stored
 put log words =
     if is_over words then (Refused MessageTooLarge, log)
-    else produced log (batch_text (batch_of words))
+    else produced_plain log (batch_text (batch_of words))
 
 ------ what is printed
 
@@ -45,10 +48,10 @@ newline = 10 ∷ []
 abbrev pub refused_text : ErrorCode → List ℕ
 refused_text code = codes "refused " ++ decimal (number_of code) ++ newline
 
--- the answer to a put, in a log that ends at this offset
-abbrev pub verdict_text : ℕ → Verdict → List ℕ
-verdict_text offset Next = codes "offset " ++ decimal offset ++ newline
-verdict_text offset (Refused code) = refused_text code
+-- the answer to a put
+abbrev pub answer_text : Produced → List ℕ
+answer_text (answer.Appended offset) = codes "offset " ++ signed_decimal offset ++ newline
+answer_text (answer.Refused code) = refused_text code
 
 -- the answer to a put for which memory was refused
 abbrev pub lost_text : List ℕ
@@ -78,7 +81,7 @@ end_text page =
 
 abbrev pub page_text : ℤ → Page → List ℕ
 page_text from page =
-    flat_map (λ entry. batch_lines from entry.batch) page.batches ++ end_text page
+    flat_map (λ stored. batch_lines from stored.batch) page.batches ++ end_text page
 
 ------ what a builder makes
 

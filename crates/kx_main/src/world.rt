@@ -2,7 +2,7 @@
 ghost use Rattle.std.specs.Prelude.{◌≡◌, ◌<◌, [], true, false, length, replicate, IfOk, OnOk};
 ghost use Rattle.std.specs.Prelude.{OnErr, MatchResult, Ok, slice_index_or, slice_set};
 ghost use Rattle.kx_batch.specs.Build.{batch_text};
-ghost use Rattle.kx_model.specs.Log.{end};
+ghost use Rattle.kx_model.specs.Log.{end, entries};
 ghost use Rattle.kx_model.specs.Page.{fetched};
 ghost use Rattle.kx_partition.specs.Answer.{Refuses, answer_of};
 ghost use Rattle.kx_main.specs.World.{BuildsBatch, batch_of, is_over, put};
@@ -40,9 +40,9 @@ pub struct World {
 
 impl Model for World {
     ghost use Rattle.std.specs.Prelude.{List};
-    ghost use Rattle.kx_model.specs.Log.{Entry};
+    ghost use Rattle.kx_model.specs.Log.{Stored};
 
-    ghost Value = { List (List Entry) };
+    ghost Value = { List (List Stored) };
 
     ghost view = { λ w. w.partitions.items };
 }
@@ -84,7 +84,7 @@ impl World {
     ) -> Result<Produced, AllocError>
         requires { partition < length self.old }
         ensures answer { IfOk result (λ answer. let log = slice_index_or self.old partition [] in
-            answer ≡ answer_of (end log) (put log words.entry).0) }
+            answer ≡ answer_of (end (entries log)) (put log words.entry).0) }
         ensures log { OnOk result (self.new ≡ slice_set self.old partition
             (put (slice_index_or self.old partition []) words.entry).1) }
         ensures err { OnErr result (self.new ≡ self.old) }
@@ -102,7 +102,7 @@ impl World {
     /// Those of [`Partition::fetch`].
     pub fn fetch(&self, partition: usize, from: i64, max: u32) -> Result<FetchPage<'_>, FetchFault>
         requires { partition < length self.now }
-        ensures { let answer = fetched (slice_index_or self.now partition []) from max in
+        ensures { let answer = fetched (slice_index_or self.now partition []) from max false in
             MatchResult result (λ page. answer ≡ Ok page) (Refuses answer) }
     {
         self.partitions[partition].fetch(from, max)
