@@ -1,5 +1,6 @@
 -- What the first line and the first piece of a text are.
-use Rattle.std.proofs.Common.{◌≡◌, ℕ, List, [], ◌∷◌, Some, Bool, true, false, cond, eqb, refl, sym, ap}
+use Rattle.std.proofs.Common.{◌≡◌, ℕ, List, [], ◌∷◌, Some, Bool, true, false, cond, eqb, refl}
+use Rattle.std.proofs.Common.{sym, ap}
 use Rattle.std.proofs.Common.{◌∙◌}
 use Rattle.std.specs.Io.BufRead.{take_through, drop_through}
 use Rattle.kx_main.specs.Words.{before, behind, lines_of, pieces_of, pieces_in, with_first}

@@ -1,6 +1,6 @@
 //! A partition: the log of one topic's partition, to which batches are appended, and from which
-//! pages of them are fetched. What it answers is what `kx_model` says of the list of its batches, but
-//! that it takes plain batches only: every other is refused.
+//! pages of them are fetched. What it answers is what `kx_model` says of the list of its batches,
+//! but that it takes plain batches only: every other is refused.
 #![tactic(auto)]
 
 mod fault;

@@ -12,7 +12,8 @@ use Rattle.kx_main.proofs.world.World.put.Goals.{After-as_slice}
 
 -- the partition's log, and what a put of this text does to it
 put_is : (c : After-as_slice) → let log = get_or c.args.self.now c.args.partition [] in
-    (c.index_mut.result.now ≡ log) × (put log c.args.words ≡ produced_plain log c.as_slice.result.now)
+    (c.index_mut.result.now ≡ log)
+    × (put log c.args.words ≡ produced_plain log c.as_slice.result.now)
 put_is c =
     let logs = c.args.self.now in
     let p = c.args.partition in
