@@ -1,3 +1,4 @@
 pub mod Pairs
 pub mod Order
 pub mod Ending
+pub mod Following
