@@ -13,12 +13,14 @@ use std::marker::Model;
 /// How many transactions may be open in one partition.
 pub const OPEN_LIMIT: usize = 1024;
 
-/// An open transaction: its producer's id and epoch, and the offset of its first record in the
-/// partition.
+/// A transaction that began in a partition and didn't end there yet.
 #[derive(Clone, Copy, Debug, PartialEq, Eq)]
 pub struct OpenTxn {
+    /// The producer of the transaction.
     pub id: ProducerId,
+    /// The producer's epoch in it.
     pub epoch: Epoch,
+    /// The offset of its first record, any i64.
     pub first: i64,
 }
 

@@ -3,7 +3,7 @@ use crate::{BeginFault, OPEN_LIMIT, OpenTxn, OpenTxns};
 use kx_wire::{Epoch, ProducerId};
 use std::process::Abort;
 
-// The id, of which the tests know that it is one.
+// The tests know that these numbers are in their ranges.
 fn id(rt: &impl Abort, number: i64) -> ProducerId {
     ProducerId::try_from(number).expect(rt, "an id")
 }
