@@ -100,18 +100,23 @@ fn scan(alloc: Global, bytes: &[u8]) -> Result<Scanned, AllocError>
     }
 }
 
-// Takes a piece: what is held is then the rest behind the messages. A piece behind nothing is read
-// where it stands, and only its rest is copied.
+// Takes a piece: what is held is then the rest behind the messages, where no fault stands there. A
+// piece behind nothing is read where it stands, and only its rest is copied, if it may go on.
 fn take_piece(held: &mut Vec<u8>, piece: &[u8]) -> Result<Scanned, AllocError>
-    ensures splits { IfOk result
-        (λ s. Splits (held.old.items ++ piece.now) s.messages.items held.new.items) }
-    ensures ends { IfOk result (λ s. Ends s.fault (frame_at held.new.items)) }
+    ensures splits { IfOk result (λ s. Splits (held.old.items ++ piece.now) s.messages.items
+        (drop s.used (held.old.items ++ piece.now))) }
+    ensures ends { IfOk result (λ s.
+        Ends s.fault (frame_at (drop s.used (held.old.items ++ piece.now)))) }
+    ensures rest { IfOk result (λ s. s.fault ≡ None
+        → held.new.items ≡ drop s.used (held.old.items ++ piece.now)) }
     ensures err { OnErr result (held.new.items ≡ held.old.items) }
 {
     let alloc = *held.allocator();
     if held.is_empty() {
         let found = scan(alloc, piece)?;
-        held.extend_from_slice(&piece[found.used..])?;
+        if found.fault.is_none() {
+            held.extend_from_slice(&piece[found.used..])?;
+        }
         return Ok(found);
     }
     let before = held.len();
@@ -120,7 +125,7 @@ fn take_piece(held: &mut Vec<u8>, piece: &[u8]) -> Result<Scanned, AllocError>
         held.truncate(before);
         return Err(AllocError);
     };
-    if found.used == 0 {
+    if found.used == 0 || found.fault.is_some() {
         return Ok(found);
     }
     let Ok(rest) = Vec::from_slice(alloc, &held[found.used..]) else {

@@ -1,4 +1,4 @@
-use Rattle.std.proofs.Common.{◌≡◌, [], Err, sym, ap, ◌∙◌, subst, arith}
+use Rattle.std.proofs.Common.{◌≡◌, ◌++◌, drop, [], Err, sym, ap, ◌∙◌, subst, arith}
 use Rattle.std.proofs.lemmas.Bool.{eqb-true}
 use Rattle.std.proofs.lemmas.List.{nil_from_length}
 use Rattle.std.specs.Vec.{vec_len}
@@ -16,5 +16,6 @@ returns-in-Some c =
     let none : c.in-Ok.found.messages.items ≡ [] =
     nil_from_length _ (omega (arith, size, c.in-Ok.found.messages.ok)) in
     subst (λ (s : Stream). Fed s c.args.piece.now (Err c.in-Some.fault) Over) old
-    (fed_fault held c.args.piece.now c.take_piece.new.held.items c.in-Ok.found.messages.items
+    (fed_fault held c.args.piece.now (drop c.in-Ok.found.used (held ++ c.args.piece.now))
+    c.in-Ok.found.messages.items
     c.in-Some.fault c.in-Ok.ensures.splits none (rw c.in-Some.is at c.in-Ok.ensures.ends))
