@@ -1,0 +1,5 @@
+pub mod Batches
+pub mod Following
+pub mod Judging
+pub mod Standing
+pub mod Tables
