@@ -1,0 +1,4 @@
+pub mod Lists
+pub mod CoordinatorRows
+pub mod CoordinatorSound
+pub mod CoordinatorFollows
