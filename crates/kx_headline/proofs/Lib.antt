@@ -2,3 +2,4 @@ pub mod Lists
 pub mod CoordinatorRows
 pub mod CoordinatorSound
 pub mod CoordinatorFollows
+pub mod CoordinatorTables
