@@ -3,3 +3,5 @@ pub mod CoordinatorRows
 pub mod CoordinatorSound
 pub mod CoordinatorFollows
 pub mod CoordinatorTables
+pub mod CoordinatorGrows
+pub mod CoordinatorDoes
