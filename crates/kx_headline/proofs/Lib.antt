@@ -5,3 +5,4 @@ pub mod CoordinatorFollows
 pub mod CoordinatorTables
 pub mod CoordinatorGrows
 pub mod CoordinatorDoes
+pub mod EventDoes
