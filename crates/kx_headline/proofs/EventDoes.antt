@@ -1,12 +1,10 @@
 -- What an event is: one node takes its turn, with a message of all that were sent, a command, the
 -- clock, a restart or a store's batch. What holds at the start and is kept by each turn always
 -- holds.
-use Rattle.std.proofs.Common.{◌≡◌, ◌≢◌, ◌⊎◌, ℕ, ◌<◌, ◌++◌, max, Bool, true, false, cond, List, []}
+use Rattle.std.proofs.Common.{◌≡◌, ◌≢◌, ℕ, ◌++◌, max, Bool, true, false, cond, List, []}
 use Rattle.std.proofs.Common.{◌∷◌}
-use Rattle.std.proofs.Common.{Option, Some, None, ◌==◌, Contains, All, refl, sym, ap, subst, arith}
+use Rattle.std.proofs.Common.{Option, Some, None, ◌==◌, Contains, All, refl, sym, ap, arith}
 use Rattle.std.proofs.Common.{slice_get, IfSome, ◌∙◌}
-use Rattle.std.specs.Prelude.{is_none}
-use Rattle.std.proofs.lemmas.Bool.{cond_both}
 use Rattle.std.proofs.lemmas.Bool.Decides.{nat_tests}
 use Rattle.std.proofs.lemmas.List.Elements.{All-contains_itself, All-head, All-tail}
 use Rattle.kx_varint.specs.Text.{IsBytes}

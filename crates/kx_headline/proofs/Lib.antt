@@ -6,3 +6,5 @@ pub mod CoordinatorTables
 pub mod CoordinatorGrows
 pub mod CoordinatorDoes
 pub mod EventDoes
+pub mod SentKinds
+pub mod CoordinatorAlways
