@@ -8,3 +8,5 @@ pub mod CoordinatorDoes
 pub mod EventDoes
 pub mod SentKinds
 pub mod CoordinatorAlways
+pub mod OneOutcome
+pub mod OffsetsFollow
