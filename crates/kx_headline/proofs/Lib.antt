@@ -10,3 +10,4 @@ pub mod SentKinds
 pub mod CoordinatorAlways
 pub mod OneOutcome
 pub mod OffsetsFollow
+pub mod Fencing
