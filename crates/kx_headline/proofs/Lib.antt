@@ -11,3 +11,4 @@ pub mod CoordinatorAlways
 pub mod OneOutcome
 pub mod OffsetsFollow
 pub mod Fencing
+pub mod OwedRows
