@@ -12,3 +12,4 @@ pub mod OneOutcome
 pub mod OffsetsFollow
 pub mod Fencing
 pub mod OwedRows
+pub mod OpenOwed
