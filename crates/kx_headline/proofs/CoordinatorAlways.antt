@@ -85,7 +85,7 @@ module _ (w : World) (stands : CoordinatorStands w) where
         coordinator = ok_later (up w.sent s.1) (does_ok stands.coordinator d);
         waiting = stands.waiting;
         says = says_more w.sent s.1 (notes w) (notes_of s.0) (note_grows d.grows) stands.says
-            (All-weaker (Out w.sent (notes w) (notes_of s.0))
+            (All-weaker (Out d.client w.sent (notes w) (notes_of s.0))
             (Says (w.sent ++ s.1) (notes_of s.0))
             (λ m o. says_later w.sent (w.sent ++ s.1) (notes_of s.0) (notes_of s.0)
             (up w.sent s.1) (λ note c. c) m o.says) s.1 d.out);

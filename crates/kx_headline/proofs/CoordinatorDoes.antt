@@ -108,10 +108,17 @@ IsNew before log (msg.InitReply client correlation code.NoError (Some held)) =
     ((r : Row) × Contains log (Written r) × (held ≡ own_pair r)) ⊎ (held.id ≡ next_id before)
 IsNew before log m = ⊤
 
-pub record Out (sent : List Message) (before log : List Note) (m : Message) : Type 0 where
+-- the answer to a client that asks for an id goes to this client
+abbrev pub IsFor : ℕ → Message → Type 0
+IsFor client (msg.InitReply c correlation code held) = c ≡ client
+IsFor client m = ⊤
+
+pub record Out (client : ℕ) (sent : List Message) (before log : List Note) (m : Message) :
+    Type 0 where
   pub says : Says sent log m
   pub kind : IsCoordinators m
   pub is_new : IsNew before log m
+  pub addressed : IsFor client m
 
 ------ what stands as more is sent, and the log grows
 
@@ -166,7 +173,9 @@ pub record CoordinatorDoes (sent : List Message) (co : Coordinator) (s : Coordin
   pub grows : Grows sent (notes_of co) (notes_of s.0)
   pub hidden : IfSome s.0.disk.hidden (Next sent (notes_of s.0))
   pub answered : All (IsReplied sent) s.0.answered
-  pub out : All (Out sent (notes_of co) (notes_of s.0)) s.1
+  -- the client that asks for an id, where one does
+  pub client : ℕ
+  pub out : All (Out client sent (notes_of co) (notes_of s.0)) s.1
 
 -- what it does keeps it so
 pub does_ok : {sent : List Message} {co : Coordinator} {s : Coordinated} → CoordinatorOk sent co
@@ -192,16 +201,17 @@ ok_later {sent} {later} {co} up ok = record {
 ------ the markers of rows
 
 -- the markers of a row at some of its partitions
-markers_out : (sent : List Message) (before log : List Note) (k : ℕ) → k ≤ 2 ^ 31 - 1 → (r : Row)
+markers_out : (n : ℕ) (sent : List Message) (before log : List Note) (k : ℕ) → k ≤ 2 ^ 31 - 1
+    → (r : Row)
     → Contains log (Written r) → (partitions : List ℕ)
     → ((p : ℕ) → Contains partitions p → Contains r.partitions p) → (st : State) → r.state ≡ st
-    → All (Out sent before log) (markers_in k (record r { partitions = partitions }) st)
-markers_out sent before log k low r c partitions sub Empty e = All-nil (Out sent before log)
-markers_out sent before log k low r c partitions sub Ongoing e = All-nil (Out sent before log)
-markers_out sent before log k low r c partitions sub (Prepare o) e =
-    All-map (Out sent before log) (marker_message k (record r { partitions = partitions }) o)
+    → All (Out n sent before log) (markers_in k (record r { partitions = partitions }) st)
+markers_out n sent before log k low r c partitions sub Empty e = All-nil (Out n sent before log)
+markers_out n sent before log k low r c partitions sub Ongoing e = All-nil (Out n sent before log)
+markers_out n sent before log k low r c partitions sub (Prepare o) e =
+    All-map (Out n sent before log) (marker_message k (record r { partitions = partitions }) o)
     partitions (All-from_contains
-    (λ p. Out sent before log (marker_message k (record r { partitions = partitions }) o p))
+    (λ p. Out n sent before log (marker_message k (record r { partitions = partitions }) o p))
     partitions (λ p there. record {
       says = record {
         row = r;
@@ -213,26 +223,27 @@ markers_out sent before log k low r c partitions sub (Prepare o) e =
       };
       kind = marker;
       is_new = tt;
+      addressed = tt;
     }))
-markers_out sent before log k low r c partitions sub (Complete o) e =
-    All-nil (Out sent before log)
+markers_out n sent before log k low r c partitions sub (Complete o) e =
+    All-nil (Out n sent before log)
 
-after_out : (sent : List Message) (before log : List Note) (k : ℕ) → k ≤ 2 ^ 31 - 1
-    → (note : Note) → Contains log note → All (Out sent before log) (markers_after k note)
-after_out sent before log k low (CoordinatorEpoch n) c = All-nil (Out sent before log)
-after_out sent before log k low (Allot id) c = All-nil (Out sent before log)
-after_out sent before log k low (Written r) c =
-    markers_out sent before log k low r c r.partitions (λ p there. there) r.state refl
+after_out : (n : ℕ) (sent : List Message) (before log : List Note) (k : ℕ) → k ≤ 2 ^ 31 - 1
+    → (note : Note) → Contains log note → All (Out n sent before log) (markers_after k note)
+after_out n sent before log k low (CoordinatorEpoch epoch) c = All-nil (Out n sent before log)
+after_out n sent before log k low (Allot id) c = All-nil (Out n sent before log)
+after_out n sent before log k low (Written r) c =
+    markers_out n sent before log k low r c r.partitions (λ p there. there) r.state refl
 
 -- of all rows, at some of their partitions
-rows_out : (sent : List Message) (before log : List Note) (k : ℕ) → k ≤ 2 ^ 31 - 1
+rows_out : (n : ℕ) (sent : List Message) (before log : List Note) (k : ℕ) → k ≤ 2 ^ 31 - 1
     → (pick : Row → List ℕ)
     → ((r : Row) (p : ℕ) → Contains (pick r) p → Contains r.partitions p)
-    → All (Out sent before log)
+    → All (Out n sent before log)
     (flat_map (λ r. markers_of k (record r { partitions = pick r })) (rows log))
-rows_out sent before log k low pick sub =
-    All-flat_map (Out sent before log) (λ r. markers_of k (record r { partitions = pick r }))
-    (rows log) (λ r c. markers_out sent before log k low r
+rows_out n sent before log k low pick sub =
+    All-flat_map (Out n sent before log) (λ r. markers_of k (record r { partitions = pick r }))
+    (rows log) (λ r c. markers_out n sent before log k low r
     (row_of-found log r.txn r (rows_last log r c)).0 (pick r) (sub r) r.state refl)
 
 ------ what each handler does
@@ -244,20 +255,21 @@ module _ (sent : List Message) (co : Coordinator) (ok : CoordinatorOk sent co) w
   low : coordinator_epoch (notes_of co) ≤ 2 ^ 31 - 1
   low = (history_in_range ok.history).epochs
 
-  abbrev Told : List Note → List Message → Type 0
-  Told log ms = All (Out sent (notes_of co) log) ms
+  abbrev Told : ℕ → List Note → List Message → Type 0
+  Told n log ms = All (Out n sent (notes_of co) log) ms
 
-  one : (log : List Note) (m : Message) → Out sent (notes_of co) log m → Told log (m ∷ [])
-  one log m o = All-cons (Out sent (notes_of co) log) m [] o
-      (All-nil (Out sent (notes_of co) log))
+  one : (n : ℕ) (log : List Note) (m : Message) → Out n sent (notes_of co) log m
+      → Told n log (m ∷ [])
+  one n log m o = All-cons (Out n sent (notes_of co) log) m [] o
+      (All-nil (Out n sent (notes_of co) log))
 
-  silent : (log : List Note) → Told log []
-  silent log = All-nil (Out sent (notes_of co) log)
+  silent : (n : ℕ) (log : List Note) → Told n log []
+  silent n log = All-nil (Out n sent (notes_of co) log)
 
-  still : (clock : ℕ) (ms : List Message) → Told (notes_of co) ms
+  still : (n clock : ℕ) (ms : List Message) → Told n (notes_of co) ms
       → CoordinatorDoes sent co (record co { clock = clock }, ms)
-  still clock ms told =
-      record { grows = none; hidden = ok.hidden; answered = ok.answered; out = told }
+  still n clock ms told =
+      record { grows = none; hidden = ok.hidden; answered = ok.answered; client = n; out = told }
 
   left_next : (store : Store) (note : Note) → Next sent (notes_of co) note
       → IfSome (left_behind store note) (Next sent (notes_of co))
@@ -281,11 +293,11 @@ module _ (sent : List Message) (co : Coordinator) (ok : CoordinatorOk sent co) w
   )
 
   -- a note is appended, and messages follow it
-  writes_does : (clock : ℕ) (store : Store) (note : Note) (done failed : List Message)
-      → Follows sent (notes_of co) note → Told (notes_of co ++ note ∷ []) done
-      → Told (notes_of co) failed
+  writes_does : (n clock : ℕ) (store : Store) (note : Note) (done failed : List Message)
+      → Follows sent (notes_of co) note → Told n (notes_of co ++ note ∷ []) done
+      → Told n (notes_of co) failed
       → CoordinatorDoes sent co (writes (record co { clock = clock }) store note done failed)
-  writes_does clock store note done failed f d e =
+  writes_does n clock store note done failed f d e =
       by (has_no_id note) refl (is_written co.disk store) refl
     where
       nothing_left : (closed : Bool) (store : Store) → (not closed && works store) ≡ true
@@ -298,93 +310,105 @@ module _ (sent : List Message) (co : Coordinator) (ok : CoordinatorOk sent co) w
       by : (spent : Bool) → has_no_id note ≡ spent → (written : Bool)
           → is_written co.disk store ≡ written
           → CoordinatorDoes sent co (after_append clock store note done failed spent written)
-      by true e1 written e2 = still clock failed e
+      by true e1 written e2 = still n clock failed e
       by false e1 false e2 = record {
         grows = none;
         hidden = cond_both co.disk.closed co.disk.hidden (left_behind store note)
             (λ h. IfSome h (Next sent (notes_of co))) (λ c. ok.hidden)
             (λ c. left_next store note (record { follows = f; has_id = e1 }));
         answered = ok.answered;
+        client = n;
         out = e;
       }
       by false e1 true e2 = record {
         grows = more (notes_of co) note none (record { follows = f; has_id = e1 });
         hidden = nothing_left co.disk.closed store e2;
         answered = ok.answered;
-        out = All-append (Out sent (notes_of co) (notes_of co ++ note ∷ [])) done
+        client = n;
+        out = All-append (Out n sent (notes_of co) (notes_of co ++ note ∷ [])) done
             (markers_after (coordinator_epoch (notes_of co)) note) d
-            (after_out sent (notes_of co) (notes_of co ++ note ∷ [])
+            (after_out n sent (notes_of co) (notes_of co ++ note ∷ [])
             (coordinator_epoch (notes_of co)) low note (Contains-push (notes_of co) note));
       }
 
   -- a request is answered
-  replies_does : (store : Store) (Said : Option Note → Option Held → Type 0) (a : Answer)
+  replies_does : (n : ℕ) (store : Store) (Said : Option Note → Option Held → Type 0) (a : Answer)
       (reply : Reply) → Does sent (notes_of co) Said a
       → ((a.code ≡ code.NoError → Said a.note a.held)
-      → Out sent (notes_of co) (log_after (notes_of co) a.note) (reply a.code a.held))
-      → Out sent (notes_of co) (notes_of co) (reply code.KafkaStorageError None)
+      → Out n sent (notes_of co) (log_after (notes_of co) a.note) (reply a.code a.held))
+      → Out n sent (notes_of co) (notes_of co) (reply code.KafkaStorageError None)
       → CoordinatorDoes sent co (replies co store a reply a.note)
-  replies_does store Said a reply d out failed = by a.note refl
+  replies_does n store Said a reply d out failed = by a.note refl
     where
       by : (note : Option Note) → a.note ≡ note
           → CoordinatorDoes sent co (replies co store a reply note)
       by None e =
-          still co.clock (reply a.code a.held ∷ []) (one (notes_of co) (reply a.code a.held)
-          (subst (λ n. Out sent (notes_of co) (log_after (notes_of co) n) (reply a.code a.held)) e
+          still n co.clock (reply a.code a.held ∷ []) (one n (notes_of co) (reply a.code a.held)
+          (subst (λ x. Out n sent (notes_of co) (log_after (notes_of co) x) (reply a.code a.held))
+          e
           (out d.says)))
       by (Some note) e =
-          writes_does co.clock store note (reply a.code a.held ∷ [])
+          writes_does n co.clock store note (reply a.code a.held ∷ [])
           (reply code.KafkaStorageError None ∷ [])
-          (subst (λ n. IfSome n (Follows sent (notes_of co))) e d.follows)
-          (one (notes_of co ++ note ∷ []) (reply a.code a.held)
-          (subst (λ n. Out sent (notes_of co) (log_after (notes_of co) n) (reply a.code a.held)) e
+          (subst (λ x. IfSome x (Follows sent (notes_of co))) e d.follows)
+          (one n (notes_of co ++ note ∷ []) (reply a.code a.held)
+          (subst (λ x. Out n sent (notes_of co) (log_after (notes_of co) x) (reply a.code a.held))
+          e
           (out d.says)))
-          (one (notes_of co) (reply code.KafkaStorageError None) failed)
+          (one n (notes_of co) (reply code.KafkaStorageError None) failed)
 
   ------ requests
 
   init_out : (client correlation : ℕ) (entry : Option Note) (c : ErrorCode) (held : Option Held)
       → (c ≡ code.NoError → InitSays (notes_of co) client entry held)
-      → Out sent (notes_of co) (log_after (notes_of co) entry)
+      → Out client sent (notes_of co) (log_after (notes_of co) entry)
       (msg.InitReply client correlation c held)
   init_out client correlation entry code.NoError held h = by entry held (h refl)
     where
       by : (entry : Option Note) (held : Option Held) → InitSays (notes_of co) client entry held
-          → Out sent (notes_of co) (log_after (notes_of co) entry)
+          → Out client sent (notes_of co) (log_after (notes_of co) entry)
           (msg.InitReply client correlation code.NoError held)
-      by n x (owned entry r there same) = record {
+      by _ x (owned entry r there same) = record {
         says = by_row r there same refl;
         kind = init_reply;
         is_new = inl (r, there, refl);
+        addressed = refl;
       }
-      by n x allotted = record {
+      by _ x allotted = record {
         says = by_allotment (Contains-push (notes_of co) (Allot (next_id (notes_of co)))) refl;
         kind = init_reply;
         is_new = inr refl;
+        addressed = refl;
       }
   init_out client correlation entry c held h =
-      record { says = tt; kind = init_reply; is_new = tt }
+      record { says = tt; kind = init_reply; is_new = tt; addressed = refl }
 
   add_out : (partition : ℕ) (txn : List ℕ) (held : Held) (entry : Option Note) (c : ErrorCode)
       → (c ≡ code.NoError → Listed (log_after (notes_of co) entry) partition held.id held.epoch)
-      → Out sent (notes_of co) (log_after (notes_of co) entry) (msg.AddReply partition txn held c)
+      → Out 0 sent (notes_of co) (log_after (notes_of co) entry)
+      (msg.AddReply partition txn held c)
   add_out partition txn held entry code.NoError h =
-      record { says = h refl; kind = add_reply; is_new = tt }
-  add_out partition txn held entry c h = record { says = tt; kind = add_reply; is_new = tt }
+      record { says = h refl; kind = add_reply; is_new = tt; addressed = tt }
+  add_out partition txn held entry c h = record {
+    says = tt;
+    kind = add_reply;
+    is_new = tt;
+    addressed = tt;
+  }
 
   end_out : (client correlation : ℕ) (txn : List ℕ) (ending : Held) (outcome : Outcome)
       → Contains sent (msg.EndTxn client correlation txn ending outcome) → (entry : Option Note)
       (c : ErrorCode) (held : Option Held)
       → (c ≡ code.NoError → EndSays (notes_of co) ending entry held)
-      → Out sent (notes_of co) (log_after (notes_of co) entry)
+      → Out 0 sent (notes_of co) (log_after (notes_of co) entry)
       (msg.EndReply client correlation c held)
   end_out client correlation txn ending outcome m entry code.NoError held h =
       by entry held (h refl)
     where
       by : (entry : Option Note) (held : Option Held) → EndSays (notes_of co) ending entry held
-          → Out sent (notes_of co) (log_after (notes_of co) entry)
+          → Out 0 sent (notes_of co) (log_after (notes_of co) entry)
           (msg.EndReply client correlation code.NoError held)
-      by n x (ended entry r there its_end) = record {
+      by _ x (ended entry r there its_end) = record {
         says = record {
           txn = txn;
           ending = ending;
@@ -397,9 +421,10 @@ module _ (sent : List Message) (co : Coordinator) (ok : CoordinatorOk sent co) w
         };
         kind = end_reply;
         is_new = tt;
+        addressed = tt;
       }
   end_out client correlation txn ending outcome m entry c held h =
-      record { says = tt; kind = end_reply; is_new = tt }
+      record { says = tt; kind = end_reply; is_new = tt; addressed = tt }
 
   init_request_does : (store : Store) (client correlation : ℕ) (txn : Option (List ℕ))
       (timeout : ℕ) → Contains sent (msg.InitProducerId client correlation txn timeout)
@@ -407,22 +432,23 @@ module _ (sent : List Message) (co : Coordinator) (ok : CoordinatorOk sent co) w
       (coordinator_takes co store (msg.InitProducerId client correlation txn timeout))
   init_request_does store client correlation txn timeout m =
       let a : Answer = init (notes_of co) client txn timeout in
-      replies_does store (InitSays (notes_of co) client) a (msg.InitReply client correlation)
+      replies_does client store (InitSays (notes_of co) client) a
+      (msg.InitReply client correlation)
       (init_does sent (notes_of co) client correlation timeout txn m)
       (λ h. init_out client correlation a.note a.code a.held h)
-      (record { says = tt; kind = init_reply; is_new = tt })
+      (record { says = tt; kind = init_reply; is_new = tt; addressed = refl })
 
   add_request_does : (store : Store) (txn : List ℕ) (held : Held) (partition : ℕ)
       → Contains sent (msg.AddPartition txn held partition)
       → CoordinatorDoes sent co (coordinator_takes co store (msg.AddPartition txn held partition))
   add_request_does store txn held partition m =
       let a : Answer = add (notes_of co) co.clock txn held partition in
-      replies_does store
+      replies_does 0 store
       (λ note after. Listed (log_after (notes_of co) note) partition held.id held.epoch) a
       (λ code after. msg.AddReply partition txn held code)
       (add_does sent (notes_of co) co.clock held partition txn m)
       (λ h. add_out partition txn held a.note a.code h)
-      (record { says = tt; kind = add_reply; is_new = tt })
+      (record { says = tt; kind = add_reply; is_new = tt; addressed = tt })
 
   end_request_does : (store : Store) (client correlation : ℕ) (txn : List ℕ) (held : Held)
       (outcome : Outcome) → Contains sent (msg.EndTxn client correlation txn held outcome)
@@ -430,25 +456,26 @@ module _ (sent : List Message) (co : Coordinator) (ok : CoordinatorOk sent co) w
       (coordinator_takes co store (msg.EndTxn client correlation txn held outcome))
   end_request_does store client correlation txn held outcome m =
       let a : Answer = end_txn (notes_of co) txn held outcome in
-      replies_does store (EndSays (notes_of co) held) a (msg.EndReply client correlation)
+      replies_does 0 store (EndSays (notes_of co) held) a (msg.EndReply client correlation)
       (end_does sent (notes_of co) sound client correlation held outcome txn m)
       (λ h. end_out client correlation txn held outcome m a.note a.code a.held h)
-      (record { says = tt; kind = end_reply; is_new = tt })
+      (record { says = tt; kind = end_reply; is_new = tt; addressed = tt })
 
   ------ markers answered, time, reminders and restarts
 
   settled_does : (store : Store) (a : Answered) → IsReplied sent a → (s : Settled)
       → SettleDoes sent (notes_of co) s → CoordinatorDoes sent co (on_settled co store a s)
-  settled_does store a here Ignored d = still co.clock [] (silent (notes_of co))
+  settled_does store a here Ignored d = still 0 co.clock [] (silent 0 (notes_of co))
   settled_does store a here Noted d = record {
     grows = none;
     hidden = ok.hidden;
     answered = noting_replied sent co.answered a ok.answered here;
-    out = silent (notes_of co);
+    client = 0;
+    out = silent 0 (notes_of co);
   }
   settled_does store a here (Completes row) (writes_row same f) =
-      let d = writes_does co.clock store (Written row) [] [] f (silent _)
-      (silent (notes_of co)) in
+      let d = writes_does 0 co.clock store (Written row) [] [] f (silent 0 _)
+      (silent 0 (notes_of co)) in
       record {
         grows = d.grows;
         hidden = d.hidden;
@@ -457,6 +484,7 @@ module _ (sent : List Message) (co : Coordinator) (ok : CoordinatorOk sent co) w
             (λ e. All-filter (λ a. not (bytes_eq a.txn row.txn)) (IsReplied sent) co.answered
             ok.answered)
             (λ e. ok.answered);
+        client = d.client;
         out = d.out;
       }
 
@@ -466,7 +494,7 @@ module _ (sent : List Message) (co : Coordinator) (ok : CoordinatorOk sent co) w
   marker_reply_does store a code.NoError m =
       settled_does store a m (settle (notes_of co) co.answered a)
       (settle_does sent (notes_of co) co.answered a ok.answered m)
-  marker_reply_does store a c m = still co.clock [] (silent (notes_of co))
+  marker_reply_does store a c m = still 0 co.clock [] (silent 0 (notes_of co))
 
   pub takes_does : (store : Store) (m : Message) → Contains sent m
       → CoordinatorDoes sent co (coordinator_takes co store m)
@@ -478,7 +506,7 @@ module _ (sent : List Message) (co : Coordinator) (ok : CoordinatorOk sent co) w
       add_request_does store txn held partition m
   takes_does store (msg.MarkerReply partition txn held c) m =
       marker_reply_does store (record { txn = txn; held = held; partition = partition }) c m
-  takes_does store other m = still co.clock [] (silent (notes_of co))
+  takes_does store other m = still 0 co.clock [] (silent 0 (notes_of co))
 
   pub expires_does : (now : ℕ) (store : Store) → CoordinatorDoes sent co (expires co now store)
   expires_does now store = by (expire (notes_of co) now) (expire_follows sent (notes_of co) now)
@@ -486,17 +514,18 @@ module _ (sent : List Message) (co : Coordinator) (ok : CoordinatorOk sent co) w
       by : (row : Option Row) → IfSome row (λ r. Follows sent (notes_of co) (Written r))
           → CoordinatorDoes sent co
           (expires_row (record co { clock = max co.clock now }) store row)
-      by None f = still (max co.clock now) [] (silent (notes_of co))
+      by None f = still 0 (max co.clock now) [] (silent 0 (notes_of co))
       by (Some row) f =
-          writes_does (max co.clock now) store (Written row) [] [] f (silent _)
-          (silent (notes_of co))
+          writes_does 0 (max co.clock now) store (Written row) [] [] f (silent 0 _)
+          (silent 0 (notes_of co))
 
   pub reminds_does : CoordinatorDoes sent co (reminds co)
   reminds_does = record {
     grows = none;
     hidden = ok.hidden;
     answered = ok.answered;
-    out = rows_out sent (notes_of co) (notes_of co) (coordinator_epoch (notes_of co)) low
+    client = 0;
+    out = rows_out 0 sent (notes_of co) (notes_of co) (coordinator_epoch (notes_of co)) low
         (λ r. filter (λ p. not (is_answered co.answered r p)) r.partitions)
         (λ r p c. filtered_there (λ p. not (is_answered co.answered r p)) r.partitions p c);
   }
@@ -528,7 +557,8 @@ module _ (sent : List Message) (co : Coordinator) (ok : CoordinatorOk sent co) w
         grows = grown;
         hidden = tt;
         answered = All-nil (IsReplied sent);
-        out = rows_out sent (notes_of co) log (coordinator_epoch log)
+        client = 0;
+        out = rows_out 0 sent (notes_of co) log (coordinator_epoch log)
             (history_in_range (grows_trans ok.history grown)).epochs (λ r. r.partitions)
             (λ r p c. c);
       }
@@ -536,13 +566,15 @@ module _ (sent : List Message) (co : Coordinator) (ok : CoordinatorOk sent co) w
     grows = again;
     hidden = tt;
     answered = All-nil (IsReplied sent);
-    out = silent (reread co.disk);
+    client = 0;
+    out = silent 0 (reread co.disk);
   }
   opened_does now (CannotWrite whole) note n = record {
     grows = again;
     hidden = left whole;
     answered = All-nil (IsReplied sent);
-    out = silent (reread co.disk);
+    client = 0;
+    out = silent 0 (reread co.disk);
   }
     where
       left : (whole : Bool)
@@ -552,7 +584,7 @@ module _ (sent : List Message) (co : Coordinator) (ok : CoordinatorOk sent co) w
 
   opens_does : (now : ℕ) (how : Reopening) (note : Option Note) → reopen (reread co.disk) ≡ note
       → CoordinatorDoes sent co (opens co now how note)
-  opens_does now how None e = still co.clock [] (silent (notes_of co))
+  opens_does now how None e = still 0 co.clock [] (silent 0 (notes_of co))
   opens_does now how (Some note) e = opened_does now how note (opening note e)
 
   pub restarts_does : (now : ℕ) (how : Reopening)
@@ -561,7 +593,8 @@ module _ (sent : List Message) (co : Coordinator) (ok : CoordinatorOk sent co) w
     grows = none;
     hidden = ok.hidden;
     answered = ok.answered;
-    out = silent (notes_of co);
+    client = 0;
+    out = silent 0 (notes_of co);
   }
   restarts_does now Reopens = opens_does now Reopens (reopen (reread co.disk)) refl
   restarts_does now (CannotWrite whole) =

@@ -68,7 +68,7 @@ same_or_not a b =
 ------ one row more
 
 module _ (log : List Note) (r : Row) where
-  old_or_new : (q : Row) → Contains (log ++ Written r ∷ []) (Written q)
+  pub old_or_new : (q : Row) → Contains (log ++ Written r ∷ []) (Written q)
       → Contains log (Written q) ⊎ (r ≡ q)
   old_or_new q c = ⊎_elim inl (λ e. inr cc) (Contains-push_cases log (Written r) (Written q) c)
 

@@ -13,3 +13,4 @@ pub mod OffsetsFollow
 pub mod Fencing
 pub mod OwedRows
 pub mod OpenOwed
+pub mod Owners
