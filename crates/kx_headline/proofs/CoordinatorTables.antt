@@ -1,0 +1,481 @@
+-- Whatever a request, a marker's reply or an expiry makes the coordinator write may be written
+-- next, and what a request is answered rests on a row of the log.
+use Rattle.std.proofs.Common.{◌≡◌, ◌≢◌, ℕ, ◌+◌, ◌<◌, Bool, true, false, not, ◌&&◌, ◌||◌, cond}
+use Rattle.std.proofs.Common.{List, []}
+use Rattle.std.proofs.Common.{◌∷◌, ◌++◌, Option, Some, None, ◌==◌, nat_lt, Contains, All, refl, sym}
+use Rattle.std.proofs.Common.{ap}
+use Rattle.std.proofs.Common.{◌∙◌, subst, ⊎_elim, IfSome, arith, filter_map, find}
+use Rattle.std.proofs.Common.{bytes_eq}
+use Rattle.std.specs.List.{cons_option, list_all, list_any}
+use Rattle.std.proofs.lemmas.Bool.{and_from, and_parts, cond_both, or_parts, or_right}
+use Rattle.std.specs.Prelude.{is_some, option_map, ◌≤◌}
+use Rattle.std.proofs.lemmas.Bool.Decides.{nat_tests}
+use Rattle.std.proofs.lemmas.List.Elements.{All-contains, All-push, Contains-push}
+use Rattle.std.proofs.lemmas.Slice.Eq.{bytes_eq-Decides}
+use Rattle.kx_wire.specs.declared.code.ErrorCode.{ErrorCode}
+use Rattle.kx_wire.specs.declared.code.ErrorCode.TheVariants.{NoError, InvalidProducerEpoch}
+use Rattle.kx_wire.specs.declared.code.ErrorCode.TheVariants.{InvalidTxnState, ProducerFenced}
+use Rattle.kx_wire.specs.declared.code.ErrorCode.TheVariants.{InvalidProducerIdMapping}
+use Rattle.kx_wire.specs.declared.code.ErrorCode.TheVariants.{ConcurrentTransactions}
+use Rattle.kx_wire.specs.declared.message.Held.{Held}
+use Rattle.kx_wire.specs.declared.message.Message.{Message}
+use Rattle.kx_wire.specs.declared.message.Message.TheVariants as msg
+use Rattle.kx_wire.specs.declared.outcome.Outcome.{Outcome}
+use Rattle.kx_wire.specs.declared.outcome.Outcome.TheVariants.{Abort, Commit}
+use Rattle.kx_model.specs.Coordinator.{Row, Note, Allot, Written, State, Empty, Ongoing, Prepare}
+use Rattle.kx_model.specs.Coordinator.{Complete, ByInit, ByEnd, ByExpiry, ends, is}
+use Rattle.kx_model.specs.Coordinator.{is_complete}
+use Rattle.kx_model.specs.Coordinator.{last_epoch, lists, next_id, outcome_of, row_of, rows}
+use Rattle.kx_model.specs.Coordinator.{spent_epoch, txns}
+use Rattle.kx_model.specs.Markers.{Answered, Settled, Ignored, Noted, Completes, answered_at}
+use Rattle.kx_model.specs.Markers.{expire}
+use Rattle.kx_model.specs.Markers.{is_answered, is_overdue, is_overdue_in, noting, same_answered}
+use Rattle.kx_model.specs.Markers.{settle, settle_at, settle_in}
+use Rattle.kx_model.specs.Requests.{Answer, add, add_at, add_in, added, asked_again, completed}
+use Rattle.kx_model.specs.Requests.{end_at, end_in, end_row, end_txn, fences_owner, first_use}
+use Rattle.kx_model.specs.Requests.{has_outcome, held_after, init, init_at, init_row, is_old}
+use Rattle.kx_model.specs.Requests.{is_own}
+use Rattle.kx_model.specs.Requests.{is_prepared, newcomer, nothing_sent, or_answer, own_pair}
+use Rattle.kx_model.specs.Requests.{prepared, refused_first, refuses, repeats, writes}
+use Rattle.kx_headline.proofs.CoordinatorFollows
+use Rattle.kx_headline.proofs.CoordinatorFollows.{Follows, IsSettled, empty, complete, IsActive}
+use Rattle.kx_headline.proofs.CoordinatorFollows.{ongoing, settled, allots, begins, adds, prepares}
+use Rattle.kx_headline.proofs.CoordinatorFollows.{gives_up, completes, by_end, by_init, by_expiry}
+use Rattle.kx_headline.proofs.CoordinatorFollows.{given_up, is_raised, taken_over, with_added}
+use Rattle.kx_headline.proofs.CoordinatorFollows.{Raised, higher, anew, there, not_prepare}
+use Rattle.kx_headline.proofs.CoordinatorRows.{ends_own, row_of-found, row_of-own_txn}
+use Rattle.kx_headline.proofs.CoordinatorSound.{Sound}
+use Rattle.kx_headline.proofs.Lists.{cons_cases, found_there, list_all_tells, list_any_tells}
+use Rattle.kx_headline.proofs.Lists.{no_element}
+
+------ what an answer does
+
+-- the log with the note that an answer appends
+abbrev pub log_after : List Note → Option Note → List Note
+log_after log None = log
+log_after log (Some note) = log ++ note ∷ []
+
+-- its note may be written, and so much is said where its code is 0
+pub record Does (sent : List Message) (log : List Note)
+    (Says : Option Note → Option Held → Type 0) (a : Answer) : Type 0 where
+  pub follows : IfSome a.note (Follows sent log)
+  pub says : a.code ≡ NoError → Says a.note a.held
+
+refused : {sent : List Message} {log : List Note} {Says : Option Note → Option Held → Type 0}
+    (code : ErrorCode) → code ≢ NoError → Does sent log Says (refuses code)
+refused code h = record { follows = tt; says = λ e. absurd (h e) }
+
+------ a client asks for an id and an epoch
+
+-- a row of the log has the pair, and its owner is the client; or the id is allotted now
+pub data InitSays (log : List Note) (client : ℕ) : Option Note → Option Held → Type 0 where
+  owned : (note : Option Note) (r : Row) → Contains (log_after log note) (Written r)
+      → r.owner ≡ client → InitSays log client note (Some (own_pair r))
+  allotted : InitSays log client (Some (Allot (next_id log)))
+      (Some (record { id = next_id log; epoch = 0 }))
+
+module _ (sent : List Message) (log : List Note) (client correlation timeout : ℕ) where
+  abbrev InitDoes : Answer → Type 0
+  InitDoes a = Does sent log (InitSays log client) a
+
+  module _ (r : Row) (found : row_of log r.txn ≡ Some r)
+      (m : Contains sent (msg.InitProducerId client correlation (Some r.txn) timeout)) where
+    again : (st : State) → client ≡ r.owner → InitDoes (asked_again r st)
+    again Empty same = record {
+      follows = tt;
+      says = λ e. owned None r (row_of-found log r.txn r found).0 (sym same);
+    }
+    again Ongoing same = refused InvalidTxnState (λ e. cc)
+    again (Prepare o) same = refused InvalidTxnState (λ e. cc)
+    again (Complete o) same = refused InvalidTxnState (λ e. cc)
+
+    takes : IsSettled r.state → r.owner < client
+        → InitDoes (writes (taken_over log r client timeout))
+    takes resting above = record {
+      follows =
+          CoordinatorFollows.takes_over r client correlation timeout found resting above m;
+      says = λ e. owned (Some (Written (taken_over log r client timeout)))
+          (taken_over log r client timeout)
+          (Contains-push log (Written (taken_over log r client timeout))) refl;
+    }
+
+    fences : r.state ≡ Ongoing → InitDoes (fences_owner log r)
+    fences going = record {
+      follows = prepares r Abort ByInit found going by_init;
+      says = λ e. absurd cc;
+    }
+
+    new : (st : State) → r.state ≡ st → r.owner < client
+        → InitDoes (newcomer log client timeout r st)
+    new Empty e above = takes (subst IsSettled (sym e) empty) above
+    new Ongoing e above = fences e
+    new (Prepare o) e above = refused ConcurrentTransactions (λ e. cc)
+    new (Complete o) e above = takes (subst IsSettled (sym e) (complete o)) above
+
+    row_does : InitDoes (init_row log client timeout r)
+    row_does =
+        cond_both (nat_lt client r.owner) (refuses ProducerFenced)
+        (cond (client == r.owner) (asked_again r r.state) (newcomer log client timeout r r.state))
+        InitDoes (λ e. refused ProducerFenced (λ e. cc))
+        (λ e. cond_both (client == r.owner) (asked_again r r.state)
+        (newcomer log client timeout r r.state) InitDoes
+        (λ f. again r.state (grind (arith, nat_tests)))
+        (λ f. new r.state refl (grind (arith, nat_tests))))
+
+  pub init_does : (txn : Option (List ℕ))
+      → Contains sent (msg.InitProducerId client correlation txn timeout)
+      → InitDoes (init log client txn timeout)
+  init_does None m =
+      record { follows = allots client correlation timeout m; says = λ e. allotted }
+  init_does (Some txn) m = at (row_of log txn) refl
+    where
+      at : (o : Option Row) → row_of log txn ≡ o → InitDoes (init_at log client txn timeout o)
+      at None none =
+          let first = first_use log client txn timeout in
+          record {
+            follows = begins txn client correlation timeout none m;
+            says = λ e. owned (Some (Written first)) first
+                (Contains-push log (Written first)) refl;
+          }
+      at (Some r) found =
+          let same : r.txn ≡ txn = (row_of-found log txn r found).1 in
+          row_does r (row_of-own_txn log txn r found)
+          (subst (λ t. Contains sent (msg.InitProducerId client correlation (Some t) timeout))
+          (sym same) m)
+
+------ what both other requests are refused for first
+
+module _ (r : Row) (held : Held) where
+  abbrev Fails : Option ErrorCode → Type 0
+  Fails o = IfSome o (λ code. code ≢ NoError)
+
+  first_fails : Fails (refused_first r held)
+  first_fails =
+      cond_both (is_prepared r.state && is r.next held.id) (Some ConcurrentTransactions) _ Fails
+      (λ e h. cc)
+      (λ e. cond_both (not (is_own r held || is r.previous held.id))
+      (Some InvalidProducerIdMapping)
+      _ Fails (λ e h. cc)
+      (λ e. cond_both (held.epoch == spent_epoch || (is_own r held && nat_lt r.epoch held.epoch))
+      (Some InvalidProducerEpoch) None Fails (λ e h. cc) (λ e. tt)))
+
+  none_else : (b : Bool) (code : ErrorCode) (o : Option ErrorCode) → cond b (Some code) o ≡ None
+      → (b ≡ false) × (o ≡ None)
+  none_else true code o e = absurd cc
+  none_else false code o e = (refl, e)
+
+  not_false : (b : Bool) → not b ≡ false → b ≡ true
+  not_false true h = refl
+  not_false false h = cc
+
+  -- what is neither refused first nor old is of the row's own pair
+  own_passes : refused_first r held ≡ None → is_old r held ≡ false → held ≡ own_pair r
+  own_passes first old =
+      let early = is_prepared r.state && is r.next held.id in
+      let other = not (is_own r held || is r.previous held.id) in
+      let high = held.epoch == spent_epoch || (is_own r held && nat_lt r.epoch held.epoch) in
+      let last : Option ErrorCode = cond high (Some InvalidProducerEpoch) None in
+      let mapped : Option ErrorCode = cond other (Some InvalidProducerIdMapping) last in
+      let a = none_else early ConcurrentTransactions mapped first in
+      let b = none_else other InvalidProducerIdMapping last a.1 in
+      let c = none_else high InvalidProducerEpoch None b.1 in
+      let d = or_parts (held.epoch == spent_epoch)
+      (is_own r held && nat_lt r.epoch held.epoch) c.0 in
+      let e = or_parts (not (is_own r held)) (nat_lt held.epoch r.epoch) old in
+      let own : is_own r held ≡ true = not_false (is_own r held) e.0 in
+      let low : nat_lt r.epoch held.epoch ≡ false =
+      sym (ap (λ x. x && nat_lt r.epoch held.epoch) own) ∙ d.1 in
+      let same_id : held.id ≡ r.id = grind (arith, nat_tests, own) in
+      let same_epoch : held.epoch ≡ r.epoch = grind (arith, nat_tests, low, e.1) in
+      λ i. record { id = same_id i; epoch = same_epoch i }
+
+  or_answer_does : {sent : List Message} {log : List Note}
+      {Says : Option Note → Option Held → Type 0} (a : Answer)
+      → (refused_first r held ≡ None → Does sent log Says a)
+      → Does sent log Says (or_answer (refused_first r held) a)
+  or_answer_does {sent} {log} {Says} a h = at (refused_first r held) refl first_fails
+    where
+      at : (o : Option ErrorCode) → refused_first r held ≡ o → Fails o
+          → Does sent log Says (or_answer o a)
+      at None e f = h e
+      at (Some code) e f = refused code f
+
+------ a partition asks to be added to a transaction
+
+-- an ongoing row of the pair lists the partition
+pub record Listed (log : List Note) (partition id epoch : ℕ) : Type 0 where
+  pub row : Row
+  pub written : Contains log (Written row)
+  pub its_id : row.id ≡ id
+  pub its_epoch : row.epoch ≡ epoch
+  pub going : row.state ≡ Ongoing
+  pub listed : Contains row.partitions partition
+
+module _ (sent : List Message) (log : List Note) (clock : ℕ) (held : Held) (partition : ℕ) where
+  abbrev pub AddDoes : Answer → Type 0
+  AddDoes a =
+      Does sent log (λ note after. Listed (log_after log note) partition held.id held.epoch) a
+
+  module _ (r : Row) (found : row_of log r.txn ≡ Some r) (own : held ≡ own_pair r)
+      (m : Contains sent (msg.AddPartition r.txn held partition)) where
+    adds_it : (start : ℕ) → IsActive r.state → AddDoes (added r partition start)
+    adds_it start active = record {
+      follows = adds r start partition found active
+          (subst (λ h. Contains sent (msg.AddPartition r.txn h partition)) own m);
+      says = λ e. record {
+        row = with_added r start partition;
+        written = Contains-push log (Written (with_added r start partition));
+        its_id = sym (ap (λ h. h.id) own);
+        its_epoch = sym (ap (λ h. h.epoch) own);
+        going = refl;
+        listed = Contains-push r.partitions partition;
+      };
+    }
+
+    lists_it : r.state ≡ Ongoing → lists partition r ≡ true → AddDoes (repeats held)
+    lists_it going l =
+        let (q, c, t) = list_any_tells (λ p. p == partition) r.partitions l in
+        let same : q ≡ partition = grind (arith, nat_tests) in
+        record {
+          follows = tt;
+          says = λ e. record {
+            row = r;
+            written = (row_of-found log r.txn r found).0;
+            its_id = sym (ap (λ h. h.id) own);
+            its_epoch = sym (ap (λ h. h.epoch) own);
+            going = going;
+            listed = subst (Contains r.partitions) same c;
+          };
+        }
+
+    add_in_does : (st : State) → r.state ≡ st → AddDoes (add_in clock r held partition st)
+    add_in_does Empty e = adds_it clock (settled (subst IsSettled (sym e) empty))
+    add_in_does Ongoing e =
+        cond_both (lists partition r) (repeats held) (added r partition r.start) AddDoes
+        (λ l. lists_it e l) (λ l. adds_it r.start (subst IsActive (sym e) ongoing))
+    add_in_does (Prepare o) e = refused ConcurrentTransactions (λ e. cc)
+    add_in_does (Complete o) e = adds_it clock (settled (subst IsSettled (sym e) (complete o)))
+
+  pub add_does : (txn : List ℕ) → Contains sent (msg.AddPartition txn held partition)
+      → AddDoes (add log clock txn held partition)
+  add_does txn m = at (row_of log txn) refl
+    where
+      row : (r : Row) → row_of log txn ≡ Some r → AddDoes (add_at clock (Some r) held partition)
+      row r found =
+          let same : r.txn ≡ txn = (row_of-found log txn r found).1 in
+          let last = add_in clock r held partition r.state in
+          or_answer_does r held (cond (is_old r held) (refuses ProducerFenced) last)
+          (λ first. cond_both (is_old r held) (refuses ProducerFenced) last AddDoes
+          (λ old. refused ProducerFenced (λ e. cc))
+          (λ old. add_in_does r (row_of-own_txn log txn r found) (own_passes r held first old)
+          (subst (λ t. Contains sent (msg.AddPartition t held partition)) (sym same) m) r.state
+          refl))
+
+      at : (o : Option Row) → row_of log txn ≡ o → AddDoes (add_at clock o held partition)
+      at None none = refused InvalidProducerIdMapping (λ e. cc)
+      at (Some r) found = row r found
+
+------ a client ends its transaction
+
+-- a row of the log ends the transaction of this pair, and gives the one after it
+pub data EndSays (log : List Note) (held : Held) : Option Note → Option Held → Type 0 where
+  ended : (note : Option Note) (r : Row) → Contains (log_after log note) (Written r)
+      → ends held.id held.epoch r ≡ true → EndSays log held note (Some (held_after r))
+
+-- a row that is raised ends the transaction of the one before
+raised_ends : (log : List Note) (s r : Row) → Raised log s r → s.epoch ≤ 32766
+    → r.state ≡ Complete Abort → ends s.id s.epoch r ≡ true
+raised_ends log s r (higher a b c d) low now =
+    ends_own s.id s.epoch r a b (ap (λ st. is_some (outcome_of st)) now)
+raised_ends log s r (anew a b c d) low now =
+    let last : s.epoch ≡ 32766 = omega arith in
+    let done : is_complete r.state ≡ true = ap is_complete now in
+    let was : is r.previous s.id ≡ true = ap (λ o. is o s.id) c ∙ grind (arith, nat_tests) in
+    let at_last : (s.epoch == last_epoch) ≡ true = grind (arith, nat_tests) in
+    let at_first : (r.epoch == 0) ≡ true = grind (arith, nat_tests) in
+    or_right _ _ (and_from _ _ (and_from _ _ (and_from _ _ at_last was) at_first) done)
+
+module _ (sent : List Message) (log : List Note) (sound : Sound log) (client correlation : ℕ)
+    (held : Held) (outcome : Outcome) where
+  abbrev EndDoes : Answer → Type 0
+  EndDoes a = Does sent log (EndSays log held) a
+
+  module _ (r : Row) (found : row_of log r.txn ≡ Some r)
+      (m : Contains sent (msg.EndTxn client correlation r.txn held outcome)) where
+    its_row : Contains log (Written r)
+    its_row = (row_of-found log r.txn r found).0
+
+    gives : held ≡ own_pair r → IsSettled r.state
+        → Contains sent (msg.EndTxn client correlation r.txn held Abort)
+        → EndDoes (writes (given_up log r))
+    gives own resting m = record {
+      follows = gives_up r client correlation found resting
+          (subst (λ h. Contains sent (msg.EndTxn client correlation r.txn h Abort)) own m);
+      says = λ e. ended (Some (Written (given_up log r))) (given_up log r)
+          (Contains-push log (Written (given_up log r)))
+          (subst (λ h. ends h.id h.epoch (given_up log r) ≡ true) (sym own)
+          (raised_ends log r (given_up log r) (is_raised log r (Complete Abort) ByEnd)
+          ((sound.shape r its_row).resting (not_prepare r.state resting)) refl));
+    }
+
+    nothing : (o : Outcome) → held ≡ own_pair r → IsSettled r.state
+        → Contains sent (msg.EndTxn client correlation r.txn held o)
+        → EndDoes (nothing_sent log r o)
+    nothing Abort own resting m = gives own resting m
+    nothing Commit own resting m = refused InvalidTxnState (λ e. cc)
+
+    prepares_it : held ≡ own_pair r → r.state ≡ Ongoing
+        → EndDoes (writes (prepared log r outcome ByEnd))
+    prepares_it own going = record {
+      follows = prepares r outcome ByEnd found going (by_end outcome client correlation
+          (subst (λ h. Contains sent (msg.EndTxn client correlation r.txn h outcome)) own m));
+      says = λ e. ended (Some (Written (prepared log r outcome ByEnd)))
+          (prepared log r outcome ByEnd)
+          (Contains-push log (Written (prepared log r outcome ByEnd)))
+          (ends_own held.id held.epoch (prepared log r outcome ByEnd)
+          (sym (ap (λ h. h.id) own)) (ap (λ h. h.epoch + 1) (sym own)) refl);
+    }
+
+    in_does : (st : State) → r.state ≡ st → held ≡ own_pair r
+        → EndDoes (end_in log r outcome st)
+    in_does Empty e own = nothing outcome own (subst IsSettled (sym e) empty) m
+    in_does Ongoing e own = prepares_it own e
+    in_does (Prepare o) e own = refused ConcurrentTransactions (λ e. cc)
+    in_does (Complete o) e own = nothing outcome own (subst IsSettled (sym e) (complete o)) m
+
+    repeats_it : ends held.id held.epoch r ≡ true → EndDoes
+        (cond (has_outcome outcome r.state) (repeats (held_after r)) (refuses InvalidTxnState))
+    repeats_it done =
+        cond_both (has_outcome outcome r.state) (repeats (held_after r)) (refuses InvalidTxnState)
+        EndDoes (λ e. record { follows = tt; says = λ e. ended None r its_row done })
+        (λ e. refused InvalidTxnState (λ e. cc))
+
+    end_row_does : refused_first r held ≡ None → EndDoes (end_row log r held outcome)
+    end_row_does first =
+        let again : Answer =
+        cond (has_outcome outcome r.state) (repeats (held_after r)) (refuses InvalidTxnState) in
+        let last : Answer = end_in log r outcome r.state in
+        cond_both (ends held.id held.epoch r) again
+        (cond (is_old r held) (refuses ProducerFenced) last) EndDoes repeats_it
+        (λ e. cond_both (is_old r held) (refuses ProducerFenced) last EndDoes
+        (λ old. refused ProducerFenced (λ e. cc))
+        (λ old. in_does r.state refl (own_passes r held first old)))
+
+  pub end_does : (txn : List ℕ) → Contains sent (msg.EndTxn client correlation txn held outcome)
+      → EndDoes (end_txn log txn held outcome)
+  end_does txn m = at (row_of log txn) refl
+    where
+      at : (o : Option Row) → row_of log txn ≡ o → EndDoes (end_at log o held outcome)
+      at None none = refused InvalidProducerIdMapping (λ e. cc)
+      at (Some r) found =
+          let same : r.txn ≡ txn = (row_of-found log txn r found).1 in
+          or_answer_does r held (end_row log r held outcome)
+          (end_row_does r (row_of-own_txn log txn r found)
+          (subst (λ t. Contains sent (msg.EndTxn client correlation t held outcome))
+          (sym same) m))
+
+------ markers answered
+
+-- a reply of code 0 to the marker was sent
+abbrev pub IsReplied : List Message → Answered → Type 0
+IsReplied sent a = Contains sent (msg.MarkerReply a.partition a.txn a.held NoError)
+
+pub same_answered_tells : (a b : Answered) → same_answered a b ≡ true → a ≡ b
+same_answered_tells a b h =
+    let x = and_parts _ (a.partition == b.partition) h in
+    let y = and_parts _ (a.held.epoch == b.held.epoch) x.0 in
+    let z = and_parts (bytes_eq a.txn b.txn) (a.held.id == b.held.id) y.0 in
+    let txn : a.txn ≡ b.txn = (bytes_eq-Decides a.txn b.txn).0 z.0 in
+    let id : a.held.id ≡ b.held.id = grind (arith, nat_tests, z.1) in
+    let epoch : a.held.epoch ≡ b.held.epoch = grind (arith, nat_tests, y.1) in
+    let partition : a.partition ≡ b.partition = grind (arith, nat_tests, x.1) in
+    λ i. record {
+      txn = txn i;
+      held = record { id = id i; epoch = epoch i };
+      partition = partition i;
+    }
+
+pub noting_replied : (sent : List Message) (answered : List Answered) (a : Answered)
+    → All (IsReplied sent) answered → IsReplied sent a
+    → All (IsReplied sent) (noting answered a)
+noting_replied sent answered a h here =
+    cond_both (list_any (same_answered a) answered) answered (answered ++ a ∷ [])
+    (All (IsReplied sent)) (λ e. h) (λ e. All-push (IsReplied sent) answered a h here)
+
+pub data SettleDoes (sent : List Message) (log : List Note) : Settled → Type 0 where
+  ignores : SettleDoes sent log Ignored
+  notes : SettleDoes sent log Noted
+  writes_row : (row : Row) → Follows sent log (Written row)
+      → SettleDoes sent log (Completes row)
+
+module _ (sent : List Message) (log : List Note) (answered : List Answered) (a : Answered)
+    (replied : All (IsReplied sent) answered) (here : IsReplied sent a) where
+  all_replied : (r : Row) → list_all (is_answered (noting answered a) r) r.partitions ≡ true
+      → (p : ℕ) → Contains r.partitions p → IsReplied sent (answered_at r p)
+  all_replied r all p c =
+      let there = list_all_tells (is_answered (noting answered a) r) r.partitions p all c in
+      let (b, in_it, same) =
+      list_any_tells (same_answered (answered_at r p)) (noting answered a) there in
+      subst (IsReplied sent) (sym (same_answered_tells (answered_at r p) b same))
+      (All-contains (IsReplied sent) (noting answered a) b
+      (noting_replied sent answered a replied here) in_it)
+
+  settle_in_does : (r : Row) → row_of log r.txn ≡ Some r → (st : State) → r.state ≡ st
+      → SettleDoes sent log (settle_in log answered a r st)
+  settle_in_does r found Empty e = ignores
+  settle_in_does r found Ongoing e = ignores
+  settle_in_does r found (Prepare o) e =
+      let done = list_all (is_answered (noting answered a) r) r.partitions in
+      cond_both (r.id == a.held.id && r.epoch == a.held.epoch && lists a.partition r)
+      (cond done (Completes (completed log r o)) Noted) Ignored (SettleDoes sent log)
+      (λ its. cond_both done (Completes (completed log r o)) Noted (SettleDoes sent log)
+      (λ all. writes_row (completed log r o) (completes r o found e (all_replied r all)))
+      (λ some. notes)) (λ other. ignores)
+  settle_in_does r found (Complete o) e = ignores
+
+  pub settle_does : SettleDoes sent log (settle log answered a)
+  settle_does = at (row_of log a.txn) refl
+    where
+      at : (o : Option Row) → row_of log a.txn ≡ o
+          → SettleDoes sent log (settle_at log answered a o)
+      at None none = ignores
+      at (Some r) found = settle_in_does r (row_of-own_txn log a.txn r found) r.state refl
+
+------ rows, and expiry
+
+-- the rows are last rows
+pub rows_last : (log : List Note) (r : Row) → Contains (rows log) r → row_of log r.txn ≡ Some r
+rows_last log r c = among (txns log) c
+  where
+    at : (txn : List ℕ) (more : List Row) → (Contains more r → row_of log r.txn ≡ Some r)
+        → (o : Option Row) → row_of log txn ≡ o → Contains (cons_option o more) r
+        → row_of log r.txn ≡ Some r
+    at txn more ih None none c = ih c
+    at txn more ih (Some q) found c =
+        ⊎_elim (λ e. subst (λ x. row_of log x.txn ≡ Some x) e (row_of-own_txn log txn q found)) ih
+        (cons_cases q r more c)
+
+    among : (txns : List (List ℕ)) → Contains (filter_map (row_of log) txns) r
+        → row_of log r.txn ≡ Some r
+    among [] c = absurd (no_element r c)
+    among (txn ∷ txns) c =
+        at txn (filter_map (row_of log) txns) (among txns) (row_of log txn) refl c
+
+overdue_ongoing : (now : ℕ) (r : Row) (st : State) → is_overdue_in now r st ≡ true → st ≡ Ongoing
+overdue_ongoing now r Empty h = absurd cc
+overdue_ongoing now r Ongoing h = refl
+overdue_ongoing now r (Prepare o) h = absurd cc
+overdue_ongoing now r (Complete o) h = absurd cc
+
+pub expire_follows : (sent : List Message) (log : List Note) (now : ℕ)
+    → IfSome (expire log now) (λ r. Follows sent log (Written r))
+expire_follows sent log now = at (find (is_overdue now) (rows log)) refl
+  where
+    at : (o : Option Row) → find (is_overdue now) (rows log) ≡ o
+        → IfSome (option_map (λ r. prepared log r Abort ByExpiry) o)
+        (λ r. Follows sent log (Written r))
+    at None none = tt
+    at (Some r) found =
+        let (c, overdue) = found_there (is_overdue now) (rows log) r found in
+        prepares r Abort ByExpiry (rows_last log r c) (overdue_ongoing now r r.state overdue)
+        by_expiry

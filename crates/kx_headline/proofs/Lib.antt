@@ -1,0 +1,16 @@
+pub mod Lists
+pub mod CoordinatorRows
+pub mod CoordinatorSound
+pub mod CoordinatorFollows
+pub mod CoordinatorTables
+pub mod CoordinatorGrows
+pub mod CoordinatorDoes
+pub mod EventDoes
+pub mod SentKinds
+pub mod CoordinatorAlways
+pub mod OneOutcome
+pub mod OffsetsFollow
+pub mod Fencing
+pub mod OwedRows
+pub mod OpenOwed
+pub mod Owners
