@@ -1,0 +1,2 @@
+pub mod PartitionDoes
+pub mod Verdicts
