@@ -1,2 +1,5 @@
+pub mod GrownLogs
 pub mod PartitionDoes
+pub mod Splits
+pub mod StoredTexts
 pub mod Verdicts
