@@ -32,7 +32,8 @@ use Rattle.kx_model.specs.Log.{Entry, Stored, end, entries}
 use Rattle.kx_model.specs.PartitionNode.{Partition, Served, answers_request, at_end}
 use Rattle.kx_model.specs.PartitionNode.{changed, data_takes, entries_of, marked_with, marker_of}
 use Rattle.kx_model.specs.PartitionNode.{offsets_takes, on_add_reply}
-use Rattle.kx_model.specs.PartitionNode.{fetch_reply, join_reply, on_request, parks, partition_restarts, partition_takes}
+use Rattle.kx_model.specs.PartitionNode.{fetch_reply, join_reply, on_request, parks}
+use Rattle.kx_model.specs.PartitionNode.{partition_restarts, partition_takes}
 use Rattle.kx_model.specs.PartitionNode.{passes_on, puts, reopened, resumes, taken}
 use Rattle.kx_model.specs.Page.{Page, fetched}
 use Rattle.kx_model.specs.Produce.{Appends, Answers, MarkerVerdict, Verdict, Next, Duplicate}
