@@ -1,4 +1,7 @@
 pub mod GrownLogs
+pub mod LogRules
+pub mod Membership
+pub mod OpenBatches
 pub mod PartitionDoes
 pub mod PartitionEvents
 pub mod PartitionHolds
