@@ -1,3 +1,4 @@
+pub mod AbortedTransactions
 pub mod GrownLogs
 pub mod LogRules
 pub mod Membership
