@@ -6,6 +6,7 @@ pub mod OpenBatches
 pub mod PartitionDoes
 pub mod PartitionEvents
 pub mod PartitionHolds
+pub mod Spans
 pub mod Splits
 pub mod StoredTexts
 pub mod Verdicts
