@@ -3,10 +3,12 @@ pub mod GrownLogs
 pub mod LogRules
 pub mod Membership
 pub mod OpenBatches
+pub mod Pages
 pub mod PartitionDoes
 pub mod PartitionEvents
 pub mod PartitionHolds
 pub mod Spans
 pub mod Splits
+pub mod StablePart
 pub mod StoredTexts
 pub mod Verdicts
