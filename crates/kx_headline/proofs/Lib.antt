@@ -7,6 +7,8 @@ pub mod Pages
 pub mod PartitionDoes
 pub mod PartitionEvents
 pub mod PartitionHolds
+pub mod ReadPages
+pub mod Reading
 pub mod Spans
 pub mod Splits
 pub mod StablePart
