@@ -14,3 +14,5 @@ pub mod Fencing
 pub mod OwedRows
 pub mod OpenOwed
 pub mod Owners
+pub mod ClientHolds
+pub mod OneHolder
