@@ -9,6 +9,7 @@ pub mod PartitionEvents
 pub mod PartitionHolds
 pub mod ReadPages
 pub mod Reading
+pub mod ShownRecords
 pub mod Spans
 pub mod Splits
 pub mod StablePart
