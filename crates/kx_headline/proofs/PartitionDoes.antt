@@ -1,0 +1,577 @@
+-- All that a partition does with a message, a put, a drop or a restart, once and for all: what may
+-- be appended and by whose request, what is parked, and what each message that goes out rests on.
+-- A theorem reads this, and no handler.
+use Rattle.std.proofs.Common.{◌≡◌, ℕ, ℤ, pos, negsuc, Bool, true, false, not, ◌&&◌}
+use Rattle.std.proofs.Common.{List, [], ◌∷◌, ◌++◌, Option, Some, None, refl, sym, ap, ◌∙◌, subst}
+use Rattle.std.proofs.Common.{◌==◌, cond, Contains, All, map, arith, slice_index_or}
+use Rattle.std.proofs.Common.{append-nil, Result, Ok, Err}
+use Rattle.std.specs.Prelude.{◌≢◌, min, option_to_list}
+use Rattle.std.specs.List.{list_any}
+use Rattle.std.proofs.lemmas.Bool.{and_parts, cond_both}
+use Rattle.std.proofs.lemmas.Bool.Decides.{nat_tests}
+use Rattle.std.proofs.lemmas.List.Elements.{All-append, All-cons, All-filter, All-head, All-map}
+use Rattle.std.proofs.lemmas.List.Elements.{All-nil, All-push, All-tail, All-weaker}
+use Rattle.std.proofs.lemmas.List.Elements.{Contains-get_or}
+use Rattle.std.proofs.lemmas.List.Elements.{filter_passes}
+use Rattle.kx_wire.specs.Ranges.{offsets_partition}
+use Rattle.kx_wire.specs.declared.code.ErrorCode.{ErrorCode}
+use Rattle.kx_wire.specs.declared.code.ErrorCode.TheVariants as code
+use Rattle.kx_wire.specs.declared.message.Held.{Held}
+use Rattle.kx_wire.specs.declared.message.Message.{Message}
+use Rattle.kx_wire.specs.declared.message.Message.TheVariants as msg
+use Rattle.kx_wire.specs.declared.outcome.Outcome.{Outcome}
+use Rattle.kx_varint.specs.BigEndian.{signed_text, unsigned_text}
+use Rattle.kx_batch.specs.Batch.{batch_limit, batch_of}
+use Rattle.kx_batch.specs.Build.{batch_text, fields_text, made, whole_text}
+use Rattle.kx_batch.specs.Record.{Record}
+use Rattle.kx_model.specs.Disk.{GrowsTo, Reopening, Reopens, CannotRead, CannotWrite, Store, Works}
+use Rattle.kx_model.specs.Disk.{Fails, appended, is_written, left_behind, works}
+use Rattle.kx_model.specs.Groups.{Membership, Already, Refuses, Changes, judge_join, judge_leave}
+use Rattle.kx_model.specs.Groups.{membership_text, offset_fetch, record_of}
+use Rattle.kx_model.specs.Log.{Entry, Stored, end, entries}
+use Rattle.kx_model.specs.PartitionNode.{Partition, Served, answers_request, at_end}
+use Rattle.kx_model.specs.PartitionNode.{changed, data_takes, entries_of, marked_with, marker_of}
+use Rattle.kx_model.specs.PartitionNode.{offsets_takes, on_add_reply}
+use Rattle.kx_model.specs.PartitionNode.{fetch_reply, join_reply, on_request, parks}
+use Rattle.kx_model.specs.PartitionNode.{partition_restarts, partition_takes}
+use Rattle.kx_model.specs.PartitionNode.{passes_on, puts, reopened, resumes, taken}
+use Rattle.kx_model.specs.Page.{Page, fetched}
+use Rattle.kx_model.specs.Produce.{Appends, Answers, MarkerVerdict, Verdict, Next, Duplicate}
+use Rattle.kx_model.specs.Produce.{Unverified, Refused, judge_marker, judge_text, stored_at}
+use Rattle.kx_model.specs.Produce.{text_of}
+use Rattle.kx_model.specs.Verification.{Parked, Request, is_for, is_full, judge_request, pair_of}
+use Rattle.kx_model.specs.Verification.{parked_for, partition_of, passed_on, reply_to, request_of}
+use Rattle.kx_model.specs.Verification.{same_request, with_parked, without}
+use Rattle.kx_model.specs.World.{node_takes}
+use Rattle.kx_model.proofs.NodeSteps.{grows_on, same}
+use Rattle.kx_headline.proofs.Verdicts.{Tells, request_tells}
+
+-- a text, stored behind a log
+abbrev pub behind : List Stored → List ℕ → Stored
+behind log text = stored_at (end (entries log)) text
+
+-- the batch is of a producer without an id
+abbrev pub HasNoProducer : List ℕ → Type 0
+HasNoProducer text = (batch_of text).producer_id ≡ negsuc 0
+
+-- what a parked request waits for is its batch's id and epoch
+abbrev pub IsPaired : Parked → Type 0
+IsPaired parked = pair_of parked.request ≡ Some parked.held
+
+-- answers that say nothing of what stands in a log
+abbrev pub IsReading : Message → Type 0
+IsReading (msg.FetchReply client correlation number code next stable end aborted batches) = Unit {0}
+IsReading (msg.JoinReply client correlation code generation place count) = Unit {0}
+IsReading (msg.LeaveReply client correlation code) = Unit {0}
+IsReading (msg.OffsetFetchReply client correlation code offset) = Unit {0}
+IsReading m = ⊥
+
+-- a batch that is made without a producer
+pub made_without_producer : (records : List Record)
+    → HasNoProducer (batch_text (made (pos 0) (negsuc 0) (negsuc 0) (negsuc 0) records))
+unfolding whole_text fields_text signed_text unsigned_text
+made_without_producer records = refl
+
+-- of a partition with its number, and the message that comes, if the event is that
+module _ (number : ℕ) (p : Partition) (input : Option Message) where
+  -- a request that came now, or was parked before
+  pub data Origin (r : Request) : Type 0 where
+    came : (m : Message) → input ≡ Some m → request_of m ≡ Some r → partition_of r.target ≡ number
+        → Origin r
+    waited : (x : Parked) → Contains p.parked x → x.request ≡ r → Origin r
+
+  -- how a request is judged: as it comes, or on the coordinator's yes to its pair
+  pub data Judged (r : Request) : Bool → Type 0 where
+    at_first : Judged r false
+    on_yes : (q : ℕ) (txn : List ℕ) (held : Held)
+        → input ≡ Some (msg.AddReply q txn held code.NoError) → pair_of r ≡ Some held
+        → Judged r true
+
+  -- the text that may be appended to a log
+  pub data May (log : List Stored) : List ℕ → Type 0 where
+    request : (r : Request) (verified : Bool) → Origin r → Judged r verified
+        → judge_request (entries log) verified r ≡ Next → May log r.text
+    marker : (q : ℕ) (txn : List ℕ) (held : Held) (coordinator : ℤ) (outcome : Outcome)
+        → input ≡ Some (msg.WriteMarker q txn held coordinator outcome)
+        → judge_marker (entries log) (marker_of held coordinator outcome) ≡ Appends
+        → May log (text_of (marker_of held coordinator outcome))
+    plain : (text : List ℕ) → HasNoProducer text → judge_text (entries log) true text ≡ Next
+        → May log text
+
+  -- the log after so many appends, or as a restart finds it
+  pub data Grew : List Stored → Type 0 where
+    unchanged : Grew p.disk.kept
+    found : (stored : Stored) → p.disk.hidden ≡ Some stored → Grew (p.disk.kept ++ stored ∷ [])
+    more : (log : List Stored) (text : List ℕ) → Grew log → May log text
+        → Grew (log ++ behind log text ∷ [])
+
+  -- what the store may hold behind the log
+  pub data Hidden (log : List Stored) : Option Stored → Type 0 where
+    kept : log ≡ p.disk.kept → Hidden log p.disk.hidden
+    left : (text : List ℕ) → May log text → Hidden log (Some (behind log text))
+    gone : Hidden log None
+
+  -- what a message that goes out rests on
+  pub data Out (log : List Stored) : Message → Type 0 where
+    done : (r : Request) (earlier : List Stored) → Origin r
+        → GrowsTo (earlier ++ behind earlier r.text ∷ []) log
+        → Out log (reply_to r code.NoError (pos (end (entries earlier))))
+    again : (r : Request) (offset : ℕ) (earlier : List Stored) (verified : Bool) → Origin r
+        → Grew earlier → GrowsTo earlier log
+        → judge_request (entries earlier) verified r ≡ Duplicate offset
+        → Out log (reply_to r code.NoError (pos offset))
+    refused : (r : Request) (c : ErrorCode) → Origin r → c ≢ code.NoError
+        → Out log (reply_to r c (negsuc 0))
+    elsewhere : (client correlation partition : ℕ)
+        → Out log (msg.ProduceReply client correlation partition code.UnknownTopicOrPartition
+        (negsuc 0))
+    asks : (m : Message) (r : Request) (txn : List ℕ) (held : Held) → input ≡ Some m
+        → request_of m ≡ Some r → partition_of r.target ≡ number → r.txn ≡ Some txn
+        → pair_of r ≡ Some held → Out log (msg.AddPartition txn held number)
+    marked : (q : ℕ) (txn : List ℕ) (held : Held) (coordinator : ℤ) (outcome : Outcome)
+        → input ≡ Some (msg.WriteMarker q txn held coordinator outcome)
+        → judge_marker (entries p.disk.kept) (marker_of held coordinator outcome) ≡ Appends
+        → GrowsTo (p.disk.kept
+        ++ behind p.disk.kept (text_of (marker_of held coordinator outcome)) ∷ []) log
+        → Out log (msg.MarkerReply number txn held code.NoError)
+    unmarked : (q : ℕ) (txn : List ℕ) (held : Held) (coordinator : ℤ) (outcome : Outcome)
+        (c : ErrorCode) → input ≡ Some (msg.WriteMarker q txn held coordinator outcome)
+        → (c ≡ code.NoError → judge_marker (entries p.disk.kept)
+        (marker_of held coordinator outcome) ≡ Answers code.NoError)
+        → Out log (msg.MarkerReply number txn held c)
+    reads : (x : Message) → IsReading x → Out log x
+
+  -- a parked request is one that came, with its pair
+  pub record Waits (x : Parked) : Type 0 where
+    pub origin : Origin x.request
+    pub paired : IsPaired x
+
+  pub record State (q : Partition) : Type 0 where
+    pub log : Grew q.disk.kept
+    pub hidden : Hidden q.disk.kept q.disk.hidden
+    pub parked : All Waits q.parked
+
+  pub record Does (q : Partition) (s : Served) : Type 0 where
+    pub state : State s.0
+    pub grows : GrowsTo q.disk.kept s.0.disk.kept
+    pub out : All (Out s.0.disk.kept) s.1
+
+  ------ what goes out
+
+  one : (log : List Stored) (x : Message) → Out log x → All (Out log) (x ∷ [])
+  one log x o = All-cons (Out log) x [] o (All-nil (Out log))
+
+  says : (q : Partition) (x : Message) → State q → Out q.disk.kept x → Does q (q, x ∷ [])
+  says q x st o = record { state = st; grows = same q.disk.kept; out = one q.disk.kept x o }
+
+  silent : (q : Partition) → State q → Does q (q, [])
+  silent q st =
+      record { state = st; grows = same q.disk.kept; out = All-nil (Out q.disk.kept) }
+
+  out_later : (log later : List Stored) → GrowsTo log later → (x : Message) → Out log x
+      → Out later x
+  out_later log later g x (done r earlier o h) =
+      done r earlier o (grows_on (earlier ++ behind earlier r.text ∷ []) log later h g)
+  out_later log later g x (again r offset earlier v o was h j) =
+      again r offset earlier v o was (grows_on earlier log later h g) j
+  out_later log later g x (refused r c o n) = refused r c o n
+  out_later log later g x (elsewhere client correlation partition) =
+      elsewhere client correlation partition
+  out_later log later g x (asks m r txn held i e n t h) = asks m r txn held i e n t h
+  out_later log later g x (marked q txn held coordinator outcome i j h) =
+      marked q txn held coordinator outcome i j
+      (grows_on (p.disk.kept
+      ++ behind p.disk.kept (text_of (marker_of held coordinator outcome)) ∷ []) log later h g)
+  out_later log later g x (unmarked q txn held coordinator outcome c i h) =
+      unmarked q txn held coordinator outcome c i h
+  out_later log later g x (reads y h) = reads y h
+
+  ------ an append
+
+  -- the partition after an append of a text
+  abbrev with_text : Partition → Store → List ℕ → Partition
+  with_text q store text =
+      record q { disk = appended q.disk store (behind q.disk.kept text) }
+
+  appended_hidden : (q : Partition) (text : List ℕ) → State q → May q.disk.kept text
+      → (closed : Bool) (store : Store)
+      → Hidden (cond (not closed && works store) (q.disk.kept ++ behind q.disk.kept text ∷ [])
+      q.disk.kept) (cond closed q.disk.hidden (left_behind store (behind q.disk.kept text)))
+  appended_hidden q text st may true store = st.hidden
+  appended_hidden q text st may false Works = gone
+  appended_hidden q text st may false (Fails true) = left text may
+  appended_hidden q text st may false (Fails false) = gone
+
+  appended_state : (q : Partition) (store : Store) (text : List ℕ) → State q
+      → May q.disk.kept text → State (with_text q store text)
+  appended_state q store text st may = record {
+    log = cond_both (is_written q.disk store) (q.disk.kept ++ behind q.disk.kept text ∷ [])
+        q.disk.kept Grew (λ e. more q.disk.kept text st.log may) (λ e. st.log);
+    hidden = appended_hidden q text st may q.disk.closed store;
+    parked = st.parked;
+  }
+
+  appended_grows : (q : Partition) (store : Store) (text : List ℕ)
+      → GrowsTo q.disk.kept (with_text q store text).disk.kept
+  appended_grows q store text =
+      cond_both (is_written q.disk store) (q.disk.kept ++ behind q.disk.kept text ∷ [])
+      q.disk.kept (GrowsTo q.disk.kept)
+      (λ e. record { more = behind q.disk.kept text ∷ []; parts = refl })
+      (λ e. same q.disk.kept)
+
+  -- the code of an append's reply, and the log after it
+  by_written : (written : Bool) (log later : List Stored) (P : List Stored → ErrorCode → ℤ → Type 0)
+      (offset : ℕ) → P later code.NoError (pos offset) → P log code.KafkaStorageError (negsuc 0)
+      → P (cond written later log) (cond written code.NoError code.KafkaStorageError)
+      (cond written (pos offset) (negsuc 0))
+  by_written true log later P offset yes_is no_is = yes_is
+  by_written false log later P offset yes_is no_is = no_is
+
+  storage_fails : code.KafkaStorageError ≢ code.NoError
+  storage_fails e = cc
+
+  ------ requests
+
+  parks_does : (q : Partition) (m : Message) (r : Request) (txn : Option (List ℕ))
+      (held : Option Held) → State q → input ≡ Some m → request_of m ≡ Some r
+      → partition_of r.target ≡ number → r.txn ≡ txn → pair_of r ≡ held
+      → Does q (parks number q r txn held)
+  parks_does q m r None held st i e n t h =
+      says q (reply_to r code.InvalidTxnState (negsuc 0)) st
+      (refused r code.InvalidTxnState (came m i e n) (λ e. cc))
+  parks_does q m r (Some txn) None st i e n t h =
+      says q (reply_to r code.InvalidTxnState (negsuc 0)) st
+      (refused r code.InvalidTxnState (came m i e n) (λ e. cc))
+  parks_does q m r (Some txn) (Some held) st i e n t h =
+      let full = is_full q.parked held r in
+      let there = list_any (λ x. same_request x.request r) q.parked in
+      let x : Parked = record { held = held; request = r } in
+      let one_more = All-push Waits q.parked x st.parked
+      (record { origin = came m i e n; paired = h }) in
+      record {
+        state = record {
+          log = st.log;
+          hidden = st.hidden;
+          parked = cond_both full q.parked (with_parked q.parked held r) (All Waits)
+              (λ b. st.parked)
+              (λ b. cond_both there q.parked (q.parked ++ x ∷ []) (All Waits) (λ c. st.parked)
+              (λ c. one_more));
+        };
+        grows = same q.disk.kept;
+        out = one q.disk.kept
+            (cond full (reply_to r code.ConcurrentTransactions (negsuc 0))
+            (msg.AddPartition txn held number))
+            (cond_both full (reply_to r code.ConcurrentTransactions (negsuc 0))
+            (msg.AddPartition txn held number) (Out q.disk.kept)
+            (λ b. refused r code.ConcurrentTransactions (came m i e n) (λ e. cc))
+            (λ b. asks m r txn held i e n t h));
+      }
+
+  -- a request judged at first, or on a yes; on a yes it is never unverified
+  answers_does : (q : Partition) (store : Store) (r : Request) (verified : Bool) (v : Verdict)
+      → State q → Origin r → Judged r verified → judge_request (entries_of q) verified r ≡ v
+      → Tells verified v
+      → (verified ≡ false → (m : Message) × (input ≡ Some m) × (request_of m ≡ Some r)
+      × (partition_of r.target ≡ number))
+      → Does q (answers_request number q store r v)
+  answers_does q store r verified Next st o j e tells here =
+      let log = q.disk.kept in
+      record {
+        state = appended_state q store r.text st (request r verified o j e);
+        grows = appended_grows q store r.text;
+        out = by_written (is_written q.disk store) log (log ++ behind log r.text ∷ [])
+            (λ after c offset. All (Out after) (reply_to r c offset ∷ [])) (at_end q)
+            (one (log ++ behind log r.text ∷ []) (reply_to r code.NoError (pos (at_end q)))
+            (done r log o (same (log ++ behind log r.text ∷ []))))
+            (one log (reply_to r code.KafkaStorageError (negsuc 0))
+            (refused r code.KafkaStorageError o storage_fails));
+      }
+  answers_does q store r verified (Duplicate offset) st o j e tells here =
+      says q (reply_to r code.NoError (pos offset)) st
+      (again r offset q.disk.kept verified o st.log (same q.disk.kept) e)
+  answers_does q store r verified Unverified st o j e tells here =
+      let h = here tells in
+      parks_does q h.0 r r.txn (pair_of r) st h.1 h.2 h.3 refl refl
+  answers_does q store r verified (Refused c) st o j e tells here =
+      says q (reply_to r c (negsuc 0)) st (refused r c o tells)
+
+  on_request_does : (q : Partition) (store : Store) (m : Message) (r : Request) → State q
+      → input ≡ Some m → request_of m ≡ Some r → partition_of r.target ≡ number
+      → Does q (on_request number q store (Some r))
+  on_request_does q store m r st i e n =
+      answers_does q store r false (judge_request (entries_of q) false r) st (came m i e n)
+      at_first refl (request_tells (entries_of q) false r) (λ f. (m, i, e, n))
+
+  ------ a reply of the coordinator
+
+  -- a parked request that is judged on a yes
+  record Resumes (x : Parked) : Type 0 where
+    origin : Origin x.request
+    judged : Judged x.request true
+
+  resumes_does : (q : Partition) (store : Store) (xs : List Parked) → State q → All Resumes xs
+      → Does q (resumes number q store xs)
+  resumes_does q store [] st h = silent q st
+  resumes_does q store (x ∷ rest) st h =
+      let first = All-head Resumes x rest h in
+      let r : Request = x.request in
+      let v = judge_request (entries_of q) true r in
+      let one_does = answers_does q store r true v st first.origin first.judged refl
+      (request_tells (entries_of q) true r) (λ f. absurd cc) in
+      let s : Served = answers_request number q store r v in
+      let rest_does = resumes_does s.0 store rest one_does.state (All-tail Resumes x rest h) in
+      let t : Served = resumes number s.0 store rest in
+      record {
+        state = rest_does.state;
+        grows = grows_on q.disk.kept s.0.disk.kept t.0.disk.kept one_does.grows rest_does.grows;
+        out = All-append (Out t.0.disk.kept) s.1 t.1
+            (All-weaker (Out s.0.disk.kept) (Out t.0.disk.kept)
+            (out_later s.0.disk.kept t.0.disk.kept rest_does.grows) s.1 one_does.out)
+            rest_does.out;
+      }
+
+  same_held : (held : Held) (x : Parked) → is_for held x ≡ true → x.held ≡ held
+  same_held held x h =
+      let a = and_parts (x.held.id == held.id) (x.held.epoch == held.epoch) h in
+      let i : x.held.id ≡ held.id = grind (arith, nat_tests, a.0) in
+      let e : x.held.epoch ≡ held.epoch = grind (arith, nat_tests, a.1) in
+      λ j. record { id = i j; epoch = e j }
+
+  no_success : (c : ErrorCode) → c ≢ code.NoError → passed_on c ≢ code.NoError
+  no_success code.ProducerFenced n = λ e. cc
+  no_success c n = n
+
+  others_wait : (held : Held) → State p → All Waits (without p.parked held)
+  others_wait held st = All-filter (λ x. not (is_for held x)) Waits p.parked st.parked
+
+  on_yes_does : (store : Store) (n : ℕ) (txn : List ℕ) (held : Held) → State p
+      → input ≡ Some (msg.AddReply n txn held code.NoError)
+      → Does p (on_add_reply number p store held code.NoError)
+  on_yes_does store n txn held st i =
+      let d = resumes_does (record p { parked = without p.parked held }) store
+      (parked_for p.parked held)
+      (record { log = st.log; hidden = st.hidden; parked = others_wait held st }) waiting in
+      record { state = d.state; grows = d.grows; out = d.out }
+    where
+      resumed : (x : Parked) → Waits x → is_for held x ≡ true → Resumes x
+      resumed x w h = record {
+        origin = w.origin;
+        judged = on_yes n txn held i (w.paired ∙ ap Some (same_held held x h));
+      }
+
+      waiting : All Resumes (parked_for p.parked held)
+      waiting k d lt =
+          resumed (slice_index_or (parked_for p.parked held) k d)
+          (All-filter (is_for held) Waits p.parked st.parked k d lt)
+          (filter_passes (is_for held) p.parked k d lt)
+
+  on_no_does : (store : Store) (held : Held) (c : ErrorCode) → State p → c ≢ code.NoError
+      → Does p (
+        record p { parked = without p.parked held },
+        map (passes_on c) (parked_for p.parked held),
+      )
+  on_no_does store held c st n = record {
+    state = record { log = st.log; hidden = st.hidden; parked = others_wait held st };
+    grows = same p.disk.kept;
+    out = All-map (Out p.disk.kept) (passes_on c) (parked_for p.parked held)
+        (All-weaker Waits (λ x. Out p.disk.kept (passes_on c x))
+        (λ x w. refused x.request (passed_on c) w.origin (no_success c n))
+        (parked_for p.parked held) (All-filter (is_for held) Waits p.parked st.parked));
+  }
+
+  on_reply_does : (store : Store) (n : ℕ) (txn : List ℕ) (held : Held) (c : ErrorCode) → State p
+      → input ≡ Some (msg.AddReply n txn held c) → Does p (on_add_reply number p store held c)
+  on_reply_does store n txn held code.NoError st i = on_yes_does store n txn held st i
+  on_reply_does store n txn held c st i = on_no_does store held c st (λ e. cc)
+
+  ------ markers
+
+  on_marker_does : (store : Store) (n : ℕ) (txn : List ℕ) (held : Held) (coordinator : ℤ)
+      (outcome : Outcome) (v : MarkerVerdict) → State p
+      → input ≡ Some (msg.WriteMarker n txn held coordinator outcome)
+      → judge_marker (entries_of p) (marker_of held coordinator outcome) ≡ v
+      → Does p (
+        (marked_with p store (marker_of held coordinator outcome) v).partition,
+        msg.MarkerReply number txn held
+            (marked_with p store (marker_of held coordinator outcome) v).code ∷ [],
+      )
+  on_marker_does store n txn held coordinator outcome (Answers c) st i j =
+      says p (msg.MarkerReply number txn held c) st
+      (unmarked n txn held coordinator outcome c i (λ e. j ∙ ap Answers e))
+  on_marker_does store n txn held coordinator outcome Appends st i j =
+      let log = p.disk.kept in
+      let text = text_of (marker_of held coordinator outcome) in
+      let later = log ++ behind log text ∷ [] in
+      record {
+        state = appended_state p store text st (marker n txn held coordinator outcome i j);
+        grows = appended_grows p store text;
+        out = by_written (is_written p.disk store) log later
+            (λ after c offset. All (Out after) (msg.MarkerReply number txn held c ∷ [])) (at_end p)
+            (one later (msg.MarkerReply number txn held code.NoError)
+            (marked n txn held coordinator outcome i j (same later)))
+            (one log (msg.MarkerReply number txn held code.KafkaStorageError)
+            (unmarked n txn held coordinator outcome code.KafkaStorageError i
+            (λ e. absurd (storage_fails e))));
+      }
+
+  ------ batches of no producer
+
+  -- the partition after a batch that isn't a producer's
+  pub record Put (q after : Partition) : Type 0 where
+    pub state : State after
+    pub grows : GrowsTo q.disk.kept after.disk.kept
+
+  put_by : (q : Partition) (store : Store) (text : List ℕ) (v : Verdict) → State q
+      → HasNoProducer text → judge_text (entries_of q) true text ≡ v
+      → Put q (taken q store text v).partition
+  put_by q store text Next st h e = record {
+    state = appended_state q store text st (plain text h e);
+    grows = appended_grows q store text;
+  }
+  put_by q store text (Duplicate offset) st h e =
+      record { state = st; grows = same q.disk.kept }
+  put_by q store text Unverified st h e = record { state = st; grows = same q.disk.kept }
+  put_by q store text (Refused c) st h e = record { state = st; grows = same q.disk.kept }
+
+  pub puts_does : (q : Partition) (store : Store) (text : List ℕ) → State q → HasNoProducer text
+      → Put q (puts q store text).partition
+  puts_does q store text st h = put_by q store text (judge_text (entries_of q) true text) st h refl
+
+  pub changed_does : (q : Partition) (store : Store) (membership : Membership) → State q
+      → Put q (changed q store membership).partition
+  changed_does q store Already st = record { state = st; grows = same q.disk.kept }
+  changed_does q store (Refuses c) st = record { state = st; grows = same q.disk.kept }
+  changed_does q store (Changes fact) st =
+      puts_does q store (membership_text fact) st (made_without_producer (record_of 0 fact ∷ []))
+
+  tells : (q after : Partition) (x : Message) → Put q after → IsReading x → Does q (after, x ∷ [])
+  tells q after x d r = record {
+    state = d.state;
+    grows = d.grows;
+    out = one after.disk.kept x (reads x r);
+  }
+
+  ------ restarts
+
+  found_hidden : (h : Option Stored) → p.disk.hidden ≡ h → Grew (p.disk.kept ++ option_to_list h)
+  found_hidden None e = subst Grew (sym (append-nil p.disk.kept)) unchanged
+  found_hidden (Some stored) e = found stored e
+
+  reopened_does : State p → Put p (reopened p)
+  reopened_does st = record {
+    state = record { log = found_hidden p.disk.hidden refl; hidden = gone; parked = All-nil Waits };
+    grows = record { more = option_to_list p.disk.hidden; parts = refl };
+  }
+
+  pub restarts_does : (how : Reopening) → State p → Put p (partition_restarts p how)
+  restarts_does Reopens st = reopened_does st
+  restarts_does CannotRead st = record {
+    state = record { log = st.log; hidden = st.hidden; parked = st.parked };
+    grows = same p.disk.kept;
+  }
+  restarts_does (CannotWrite whole) st = reopened_does st
+
+  -- as it was before the event
+  pub was : All IsPaired p.parked → State p
+  was paired = record {
+    log = unchanged;
+    hidden = kept refl;
+    parked = λ k d lt. record {
+      origin = waited (slice_index_or p.parked k d) (Contains-get_or p.parked k d lt) refl;
+      paired = paired k d lt;
+    };
+  }
+
+------ the whole of a message
+
+module _ (number : ℕ) (p : Partition) (store : Store) (paired : All IsPaired p.parked) where
+  abbrev DoesWith : Message → Served → Type 0
+  DoesWith m s = Does number p (Some m) p s
+
+  abbrev before : (m : Message) → State number p (Some m) p
+  before m = was number p (Some m) paired
+
+  takes_does : (m : Message) → DoesWith m (partition_takes number p store m)
+  takes_does (msg.AddReply n txn held c) =
+      let m = msg.AddReply n txn held c in
+      on_reply_does number p (Some m) store n txn held c (before m) refl
+  takes_does (msg.WriteMarker n txn held coordinator outcome) =
+      let m = msg.WriteMarker n txn held coordinator outcome in
+      on_marker_does number p (Some m) store n txn held coordinator outcome
+      (judge_marker (entries_of p) (marker_of held coordinator outcome)) (before m) refl refl
+  takes_does (msg.Fetch client correlation n from room committed) =
+      let m = msg.Fetch client correlation n from room committed in
+      fetch_does m client correlation (fetched p.disk.kept from (min room batch_limit) committed)
+    where
+      fetch_does : (m : Message) (client correlation : ℕ) (r : Result Page ErrorCode)
+          → DoesWith m (p, fetch_reply client correlation number r ∷ [])
+      fetch_does m client correlation (Ok page) =
+          says number p (Some m) p (fetch_reply client correlation number (Ok page)) (before m)
+          (reads (fetch_reply client correlation number (Ok page)) tt)
+      fetch_does m client correlation (Err c) =
+          says number p (Some m) p (fetch_reply client correlation number (Err c)) (before m)
+          (reads (fetch_reply client correlation number (Err c)) tt)
+  takes_does m = silent number p (Some m) p (before m)
+
+  data_takes_does : (m : Message) → DoesWith m (data_takes number p store m)
+  data_takes_does (msg.Produce client correlation txn partition text) =
+      let m = msg.Produce client correlation txn partition text in
+      cond_both (partition == number) _ _ (DoesWith m)
+      (λ e. on_request_does number p (Some m) p store m _ (before m) refl refl
+      (grind (arith, nat_tests, e)))
+      (λ e. says number p (Some m) p (msg.ProduceReply client correlation partition
+      code.UnknownTopicOrPartition (negsuc 0)) (before m)
+      (elsewhere client correlation partition))
+  data_takes_does m = takes_does m
+
+module _ (p : Partition) (store : Store) (paired : All IsPaired p.parked) where
+  abbrev OffsetsDoes : Message → Served → Type 0
+  OffsetsDoes m s = Does offsets_partition p (Some m) p s
+
+  abbrev at_offsets : (m : Message) → State offsets_partition p (Some m) p
+  at_offsets m = was offsets_partition p (Some m) paired
+
+  join_reads : (client correlation : ℕ) (group : List ℕ) (log : List Entry) (c : ErrorCode)
+      → IsReading (join_reply client correlation group log c)
+  join_reads client correlation group log code.NoError = tt
+  join_reads client correlation group log c = tt
+
+  offsets_takes_does : (m : Message) → OffsetsDoes m (offsets_takes p store m)
+  offsets_takes_does
+      (msg.TxnOffsetCommit client correlation txn group member generation held first offsets)
+      =
+      let m =
+      msg.TxnOffsetCommit client correlation txn group member generation held first offsets in
+      on_request_does offsets_partition p (Some m) p store m _ (at_offsets m) refl refl refl
+  offsets_takes_does (msg.Join client correlation group) =
+      let m = msg.Join client correlation group in
+      let t = changed p store (judge_join (entries_of p) group client) in
+      let reply = join_reply client correlation group (entries_of t.partition) t.code in
+      tells offsets_partition p (Some m) p t.partition reply
+      (changed_does offsets_partition p (Some m) p store (judge_join (entries_of p) group client)
+      (at_offsets m))
+      (join_reads client correlation group (entries_of t.partition) t.code)
+  offsets_takes_does (msg.Leave client correlation group) =
+      let m = msg.Leave client correlation group in
+      let t = changed p store (judge_leave (entries_of p) group client) in
+      tells offsets_partition p (Some m) p t.partition (msg.LeaveReply client correlation t.code)
+      (changed_does offsets_partition p (Some m) p store (judge_leave (entries_of p) group client)
+      (at_offsets m))
+      tt
+  offsets_takes_does (msg.OffsetFetch client correlation group partition stable) =
+      let m = msg.OffsetFetch client correlation group partition stable in
+      let a = offset_fetch (entries_of p) group partition stable in
+      let reply = msg.OffsetFetchReply client correlation a.code a.offset in
+      says offsets_partition p (Some m) p reply (at_offsets m) (reads reply tt)
+  offsets_takes_does m = takes_does offsets_partition p store paired m
+
+-- a partition does no more than this with a message
+pub node_does : (number : ℕ) (p : Partition) (store : Store) (m : Message)
+    → All IsPaired p.parked → Does number p (Some m) p (node_takes number p store m)
+node_does number p store m paired =
+    cond_both (number == offsets_partition) (offsets_takes p store m)
+    (data_takes number p store m) (Does number p (Some m) p)
+    (λ e. let is : offsets_partition ≡ number = grind (arith, nat_tests, e) in
+    subst (λ n. Does n p (Some m) p (offsets_takes p store m)) is
+    (offsets_takes_does p store paired m))
+    (λ e. data_takes_does number p store paired m)
