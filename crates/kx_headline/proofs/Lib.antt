@@ -33,3 +33,6 @@ pub mod Splits
 pub mod StablePart
 pub mod StoredTexts
 pub mod Verdicts
+pub mod LogCauses
+pub mod AnsweredMarkers
+pub mod OverSchedules
