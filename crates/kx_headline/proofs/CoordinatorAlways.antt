@@ -112,7 +112,7 @@ module _ (w : World) (stands : CoordinatorStands w) where
         says = others_say messages IsClients (clients_say (w.sent ++ messages) (notes w)) kinds;
       }
 
-stands_next : (w later : World) → CoordinatorStands w → Turn w later → CoordinatorStands later
+pub stands_next : (w later : World) → CoordinatorStands w → Turn w later → CoordinatorStands later
 stands_next w later stands nobodys = stands
 stands_next w later stands (coordinators clock s turn) = coordinator_stands w stands clock s turn
 stands_next w later stands (partitions number p s there turn) = record {
@@ -132,7 +132,7 @@ stands_next w later stands (making number txn timeout new a b c) = record {
   says = stands.says;
 }
 
-stands_first : (count : ℕ) → CoordinatorStands (start count)
+pub stands_first : (count : ℕ) → CoordinatorStands (start count)
 stands_first count = record {
   coordinator = record {
     history = CoordinatorGrows.none;

@@ -14,6 +14,8 @@ pub mod Fencing
 pub mod OwedRows
 pub mod OpenOwed
 pub mod Owners
+pub mod ClientHolds
+pub mod OneHolder
 pub mod AbortedTransactions
 pub mod GrownLogs
 pub mod LogRules
@@ -25,8 +27,12 @@ pub mod PartitionEvents
 pub mod PartitionHolds
 pub mod ReadPages
 pub mod Reading
+pub mod ShownRecords
 pub mod Spans
 pub mod Splits
 pub mod StablePart
 pub mod StoredTexts
 pub mod Verdicts
+pub mod LogCauses
+pub mod AnsweredMarkers
+pub mod OverSchedules

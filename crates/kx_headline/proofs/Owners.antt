@@ -358,7 +358,7 @@ new_names {sent = sent} {log = log} sound f r e id n = by f e
         finishes s q (there sound found)
         (is_completed log s o (ending_range sound found q o was).1) refl (as_new q same)
 
-new_allotment : {sent : List Message} {log : List Note} {note : Note} → Follows sent log note
+pub new_allotment : {sent : List Message} {log : List Note} {note : Note} → Follows sent log note
     → (id : ℕ) → note ≡ Allot id → next_id log ≡ id
 new_allotment (opens low) id e = absurd cc
 new_allotment (allots c k t m) id e = cc
