@@ -1,4 +1,5 @@
 pub mod AbortedTransactions
+pub mod CommittedRecords
 pub mod GrownLogs
 pub mod LogRules
 pub mod Membership
