@@ -1,4 +1,5 @@
 pub mod AbortedTransactions
+pub mod ClosedByCommit
 pub mod CommittedRecords
 pub mod GrownLogs
 pub mod LogRules
@@ -16,3 +17,4 @@ pub mod Splits
 pub mod StablePart
 pub mod StoredTexts
 pub mod Verdicts
+pub mod WorldReaders
