@@ -4,6 +4,7 @@ pub mod CommittedRecords
 pub mod GrownLogs
 pub mod LogRules
 pub mod Membership
+pub mod NothingShown
 pub mod OpenBatches
 pub mod Pages
 pub mod PartitionDoes
