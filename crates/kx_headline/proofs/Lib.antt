@@ -2,6 +2,7 @@ pub mod AbortedTransactions
 pub mod ClosedByCommit
 pub mod CommittedRecords
 pub mod GrownLogs
+pub mod LogCauses
 pub mod LogRules
 pub mod Membership
 pub mod NothingShown
