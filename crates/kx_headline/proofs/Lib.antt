@@ -1,6 +1,7 @@
 pub mod AbortedTransactions
 pub mod ClosedByCommit
 pub mod CommittedRecords
+pub mod GetsExactlyVisible
 pub mod GrownLogs
 pub mod LogCauses
 pub mod LogRules
