@@ -1,15 +1,14 @@
 -- Over every schedule: a partition that has answered a marker with code 0 has reached the marker's
 -- epoch, and its log has its messages for what stands in it.
-use Rattle.std.proofs.Common.{◌≡◌, ◌⊎◌, ℕ, ℤ, zero, suc, ◌+◌, ◌≤◌, Bool, true, false, cond, List}
+use Rattle.std.proofs.Common.{◌≡◌, ℕ, ℤ, zero, suc, ◌+◌, Bool, true, false, cond, List}
 use Rattle.std.proofs.Common.{[], ◌∷◌}
 use Rattle.std.proofs.Common.{◌++◌, Option, Some, None, refl, sym, ap, ◌∙◌, subst, ⊎_elim, arith}
 use Rattle.std.proofs.Common.{Contains}
 use Rattle.std.proofs.Common.{All, slice_get, slice_set, ◌==◌, append_assoc, append-nil, nat_lt}
-use Rattle.std.proofs.lemmas.Bool.{cond_both}
 use Rattle.std.proofs.lemmas.Bool.Decides.{nat_tests}
 use Rattle.std.proofs.Common.{IfSome}
 use Rattle.std.proofs.lemmas.List.Elements.{All-nil, All-contains, All-head, All-tail, All-weaker}
-use Rattle.std.proofs.lemmas.List.Elements.{Contains-append_cases, Contains-append_left}
+use Rattle.std.proofs.lemmas.List.Elements.{Contains-append_cases}
 use Rattle.std.proofs.lemmas.List.Elements.{Contains-push}
 use Rattle.kx_wire.specs.Ranges.{offsets_partition}
 use Rattle.kx_wire.specs.declared.code.ErrorCode.{ErrorCode}
@@ -17,7 +16,6 @@ use Rattle.kx_wire.specs.declared.code.ErrorCode.TheVariants as code
 use Rattle.kx_wire.specs.declared.message.Held.{Held}
 use Rattle.kx_wire.specs.declared.message.Message.{Message}
 use Rattle.kx_wire.specs.declared.message.Message.TheVariants as msg
-use Rattle.kx_wire.specs.declared.outcome.Outcome.{Outcome}
 use Rattle.kx_model.specs.CoordinatorNode.{notes_of}
 use Rattle.kx_model.specs.Disk.{GrowsTo}
 use Rattle.kx_model.specs.Headline.{Always}
@@ -25,7 +23,7 @@ use Rattle.kx_model.specs.Log.{Entry, Control, Marker, Stored, end, entries, ent
 use Rattle.kx_model.specs.PartitionNode.{Partition, Served, entries_of, marker_of}
 use Rattle.kx_model.specs.Produce.{Answers, Appends, MarkerVerdict, ends_another, greatest_offset}
 use Rattle.kx_model.specs.Produce.{is_at_most, is_fenced, judge_marker, marked_by, text_of}
-use Rattle.kx_model.specs.Producers.{epoch_in, epoch_of, greater}
+use Rattle.kx_model.specs.Producers.{epoch_in, epoch_of}
 use Rattle.kx_model.specs.Verification.{Request, Target, ToGroup, ToPartition, reply_for}
 use Rattle.kx_model.specs.Groups.{judge_drop}
 use Rattle.kx_model.specs.Client.{value_records}
@@ -43,15 +41,15 @@ use Rattle.kx_headline.proofs.EventDoes.{nobodys, coordinators, partitions, clie
 use Rattle.kx_headline.proofs.EventDoes.{step_is}
 use Rattle.kx_headline.proofs.GrownLogs.{marker_is}
 use Rattle.kx_headline.proofs.Lists.{found_there}
-use Rattle.kx_headline.proofs.LogCauses.{markers_fit}
-use Rattle.kx_headline.proofs.LogRules.{AtLeast, at_least_left, reaches}
 use Rattle.kx_headline.proofs.Membership.{no_element}
+use Rattle.kx_headline.proofs.MarkersFit.{markers_fit}
+use Rattle.kx_headline.proofs.LogRules.{AtLeast, at_least_left, reaches}
 use Rattle.kx_headline.proofs.PartitionDoes.{IsPaired, IsReading, behind, changed_does}
 use Rattle.kx_headline.proofs.PartitionDoes.{made_without_producer}
 use Rattle.kx_headline.proofs.PartitionDoes.{node_does, puts_does, restarts_does, was}
 use Rattle.kx_headline.proofs.PartitionDoes as does
 use Rattle.kx_headline.proofs.PartitionEvents.{PartitionsHold, start_holds, step_holds}
-use Rattle.kx_headline.proofs.PartitionHolds.{MarkersFit, PartitionHolds, Waiting}
+use Rattle.kx_headline.proofs.PartitionHolds.{PartitionHolds, Waiting}
 use Rattle.kx_headline.proofs.SentKinds.{IsClients, WaitsForOwn, client_sends}
 
 ------ epochs that were reached

@@ -47,7 +47,8 @@ use Rattle.kx_headline.proofs.CoordinatorTables.{Listed, IsReplied, SettleDoes}
 use Rattle.kx_headline.proofs.CoordinatorTables.{writes_row, add_does, end_does, expire_follows}
 use Rattle.kx_headline.proofs.CoordinatorTables.{init_does, log_after, noting_replied, rows_last}
 use Rattle.kx_headline.proofs.CoordinatorTables.{settle_does}
-use Rattle.kx_headline.proofs.Lists.{All-flat_map, All-from_contains, filtered_there, if_some_more}
+use Rattle.kx_headline.proofs.Lists.{All-flat_map, All-from_contains, if_some_more}
+use Rattle.kx_headline.proofs.Membership.{filter_holds}
 
 ------ what a message of the coordinator rests on
 
@@ -527,7 +528,7 @@ module _ (sent : List Message) (co : Coordinator) (ok : CoordinatorOk sent co) w
     client = 0;
     out = rows_out 0 sent (notes_of co) (notes_of co) (coordinator_epoch (notes_of co)) low
         (λ r. filter (λ p. not (is_answered co.answered r p)) r.partitions)
-        (λ r p c. filtered_there (λ p. not (is_answered co.answered r p)) r.partitions p c);
+        (λ r p c. (filter_holds (λ p. not (is_answered co.answered r p)) r.partitions p c).0);
   }
 
   again : Grows sent (notes_of co) (reread co.disk)

@@ -45,8 +45,8 @@ use Rattle.kx_headline.proofs.CoordinatorFollows.{given_up, is_raised, taken_ove
 use Rattle.kx_headline.proofs.CoordinatorFollows.{Raised, higher, anew, there, not_prepare}
 use Rattle.kx_headline.proofs.CoordinatorRows.{ends_own, row_of-found, row_of-own_txn}
 use Rattle.kx_headline.proofs.CoordinatorSound.{Sound}
-use Rattle.kx_headline.proofs.Lists.{cons_cases, found_there, list_all_tells, list_any_tells}
-use Rattle.kx_headline.proofs.Lists.{no_element}
+use Rattle.kx_headline.proofs.Lists.{found_there, list_all_tells}
+use Rattle.kx_headline.proofs.Membership.{any_holds, cons_cases, no_element}
 
 ------ what an answer does
 
@@ -234,7 +234,7 @@ module _ (sent : List Message) (log : List Note) (clock : ℕ) (held : Held) (pa
 
     lists_it : r.state ≡ Ongoing → lists partition r ≡ true → AddDoes (repeats held)
     lists_it going l =
-        let (q, c, t) = list_any_tells (λ p. p == partition) r.partitions l in
+        let (q, c, t) = any_holds (λ p. p == partition) r.partitions l in
         let same : q ≡ partition = grind (arith, nat_tests) in
         record {
           follows = tt;
@@ -415,7 +415,7 @@ module _ (sent : List Message) (log : List Note) (answered : List Answered) (a :
   all_replied r all p c =
       let there = list_all_tells (is_answered (noting answered a) r) r.partitions p all c in
       let (b, in_it, same) =
-      list_any_tells (same_answered (answered_at r p)) (noting answered a) there in
+      any_holds (same_answered (answered_at r p)) (noting answered a) there in
       subst (IsReplied sent) (sym (same_answered_tells (answered_at r p) b same))
       (All-contains (IsReplied sent) (noting answered a) b
       (noting_replied sent answered a replied here) in_it)

@@ -20,7 +20,7 @@ use Rattle.kx_model.specs.Groups.{offsets_in}
 use Rattle.kx_model.specs.Headline.{FollowsDecisions, HasOneOutcome}
 use Rattle.kx_model.specs.Log.{Entry, Plain, Data, Control, Marker, Sequenced}
 use Rattle.kx_model.specs.World.{World, entries_at, notes}
-use Rattle.kx_headline.proofs.Lists.{list_any_tells}
+use Rattle.kx_headline.proofs.Membership.{any_holds}
 
 commit_outcome : (o : Outcome) → same_outcome o Commit ≡ true → o ≡ Commit
 commit_outcome Abort h = absurd cc
@@ -59,7 +59,7 @@ module _ (w : World) (one : HasOneOutcome w) (p : ℕ) where
           → b ≡ (b && commits (notes w) batch.id batch.epoch)
       at false e = refl
       at true e =
-          let (entry, c, t) = list_any_tells (is_commit_of batch) (entries_at w p) e in
+          let (entry, c, t) = any_holds (is_commit_of batch) (entries_at w p) e in
           sym (ap (λ o. option_map_or (same_outcome Commit) o false)
           (decided batch entry c (its_commit batch entry t)))
 

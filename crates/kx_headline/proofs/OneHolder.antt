@@ -35,7 +35,8 @@ use Rattle.kx_headline.proofs.CoordinatorRows.{Names, own, previous, next, above
 use Rattle.kx_headline.proofs.CoordinatorRows.{Ends, one_higher, replaced}
 use Rattle.kx_headline.proofs.EventDoes.{CoordinatorTurn, Turn, nobodys, coordinators, partitions}
 use Rattle.kx_headline.proofs.EventDoes.{clients, making, always}
-use Rattle.kx_headline.proofs.Lists.{found_there, list_any_tells, no_element}
+use Rattle.kx_headline.proofs.Lists.{found_there}
+use Rattle.kx_headline.proofs.Membership.{any_holds, no_element}
 use Rattle.kx_headline.proofs.Owners.{Pairs, has_now, promised, allotted_below}
 use Rattle.kx_headline.proofs.Owners.{new_allotment, one_owner, unnamed}
 use Rattle.kx_headline.proofs.SentKinds.{IsClients, IsPartitions, WaitsForOwn, client_sends}
@@ -415,7 +416,7 @@ hands_tells w c held m there h = absurd cc
 pub holds_tells : (w : World) (c : ℕ) (held : Held) → holds w c held ≡ true
     → Handed w.sent c held
 holds_tells w c held h =
-    let (m, there, t) = list_any_tells (hands c held) w.sent h in
+    let (m, there, t) = any_holds (hands c held) w.sent h in
     hands_tells w c held m there t
 
 module _ (w : World) (h : HoldersStand w) where

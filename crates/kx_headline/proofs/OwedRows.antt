@@ -6,9 +6,8 @@ use Rattle.std.proofs.Common.{◌++◌, Option, Some, None, ◌==◌, Contains, 
 use Rattle.std.proofs.Common.{inl}
 use Rattle.std.proofs.Common.{inr, ⊎_elim, arith}
 use Rattle.std.specs.Prelude.{bytes_eq}
-use Rattle.std.specs.List.{list_any}
 use Rattle.std.specs.Option.{option_map_or, option_or}
-use Rattle.std.proofs.lemmas.Bool.{and_from, or_cases, or_left, or_right}
+use Rattle.std.proofs.lemmas.Bool.{and_from, or_cases, or_left}
 use Rattle.std.proofs.lemmas.Bool.Decides.{nat_tests}
 use Rattle.std.proofs.lemmas.List.Elements.{Contains-append_left, Contains-push_cases}
 use Rattle.std.proofs.lemmas.Slice.Eq.{bytes_eq-Decides}
@@ -31,7 +30,7 @@ use Rattle.kx_headline.proofs.CoordinatorRows.{last_row_found, row_of-found, row
 use Rattle.kx_headline.proofs.CoordinatorRows.{row_of-own, row_of-written}
 use Rattle.kx_headline.proofs.CoordinatorSound.{Sound, same_or_not}
 use Rattle.kx_headline.proofs.CoordinatorTables.{Listed}
-use Rattle.kx_headline.proofs.Lists.{cons_cases, contains_tail, no_element}
+use Rattle.kx_headline.proofs.Membership.{any_keeps, contains_tail}
 
 -- the transaction is under way, or its marker is on the way
 pub data UnderWay (epoch : ℕ) (s : Row) : Type 0 where
@@ -256,15 +255,6 @@ names_tells id r h =
     ⊎_elim (λ a. own (grind (arith, nat_tests))) (λ a. previous (is_tells r.previous id a))
     (or_cases (r.id == id) (is r.previous id) h)
 
-pub listed_there : (p : ℕ) (partitions : List ℕ) → Contains partitions p
-    → list_any (λ q. q == p) partitions ≡ true
-listed_there p [] c = absurd (no_element p c)
-listed_there p (q ∷ partitions) c =
-    ⊎_elim
-    (λ e. or_left (q == p) (list_any (λ q. q == p) partitions) (grind (arith, nat_tests, e)))
-    (λ c. or_right (q == p) (list_any (λ q. q == p) partitions) (listed_there p partitions c))
-    (cons_cases q p partitions c)
-
 at_state : (row_epoch epoch : ℕ) (s : Row) → s.epoch ≡ row_epoch → UnderWay epoch s
     → (st : State) → s.state ≡ st → is_at row_epoch epoch st ≡ true
 at_state row_epoch epoch s same (going g e) Ongoing h = grind (arith, nat_tests)
@@ -292,4 +282,4 @@ owed_is log sound p id epoch o =
     ∙ and_from (s.id == id && is_at s.epoch epoch s.state) (lists p s)
     (and_from (s.id == id) (is_at s.epoch epoch s.state) own_id
     (at_state s.epoch epoch s refl o.under_way s.state refl))
-    (listed_there p s.partitions o.listed)
+    (any_keeps (λ q. q == p) s.partitions p o.listed (grind (arith, nat_tests)))

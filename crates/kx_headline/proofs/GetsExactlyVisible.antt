@@ -1,0 +1,41 @@
+-- Over every schedule, readers get exactly what is visible: given that markers agree, and that the
+-- coordinator's markers have numbers that a control batch holds.
+use Rattle.std.proofs.Common.{◌≡◌, ◌⊎◌, ◌+◌, ◌<◌, ◌≤◌, ℕ, true, List, Some, Contains, length}
+use Rattle.std.specs.Prelude.{◌≢◌}
+use Rattle.kx_wire.specs.declared.outcome.Outcome.TheVariants.{Commit}
+use Rattle.kx_model.specs.Coordinator.{decision}
+use Rattle.kx_model.specs.Headline.{Always, GetsExactlyVisible, MarkersAgree}
+use Rattle.kx_model.specs.Log.{Data, Sequenced, placed}
+use Rattle.kx_model.specs.Page.{page}
+use Rattle.kx_model.specs.Reading.{Shown, committed_records}
+use Rattle.kx_model.specs.World.{Event, World, entries_at, log_at, notes, run, start}
+use Rattle.kx_headline.proofs.NothingShown.{not_shown}
+use Rattle.kx_headline.proofs.PartitionEvents.{PartitionsHold, partitions_hold, start_holds}
+use Rattle.kx_headline.proofs.PartitionHolds.{MarkersFit}
+use Rattle.kx_headline.proofs.WorldReaders.{gives_visible}
+
+-- partitions hold in every world that a schedule leads to
+pub always_hold : Always PartitionsHold
+always_hold partitions events schedule =
+    partitions_hold events (start partitions) (start_holds partitions)
+
+-- no page shows a record of a transaction that isn't decided to commit
+abbrev pub ShowsNothing : World → Type 0
+ShowsNothing w =
+    (id epoch : ℕ) → decision (notes w) id epoch ≢ Some Commit
+    → (q from room offset : ℕ) (d : Sequenced) (s : Shown)
+    → Contains (placed (entries_at w q)) (record { offset = offset; item = Data d })
+    → d.id ≡ id → d.epoch ≡ epoch → d.transactional ≡ true
+    → Contains (committed_records (page (log_at w q) from room true)) s
+    → (s.offset < offset) ⊎ (offset + length d.records ≤ s.offset)
+
+module _ (agree : MarkersAgree) (fit : Always (λ w. MarkersFit w.sent)) where
+  pub gets_exactly_visible : GetsExactlyVisible
+  gets_exactly_visible partitions events schedule q from room within =
+      gives_visible (run events (start partitions)) (always_hold partitions events schedule)
+      (fit partitions events schedule) (agree partitions events schedule) q from room
+
+  pub shows_nothing : Always ShowsNothing
+  shows_nothing partitions events schedule =
+      not_shown (run events (start partitions)) (always_hold partitions events schedule)
+      (fit partitions events schedule) (agree partitions events schedule)
