@@ -43,3 +43,6 @@ pub mod StablePart
 pub mod StoredTexts
 pub mod Verdicts
 pub mod WorldReaders
+pub mod ClientRequests
+pub mod ClientAsks
+pub mod ClientCommands

@@ -347,7 +347,7 @@ module _ (w : World) (h : HoldersStand w) where
       quiet : All HandsNone messages
       quiet = All-weaker IsClients HandsNone (λ m p. clients_own p) messages kinds
 
-holders_next : (w later : World) → HoldersStand w → Turn w later → HoldersStand later
+pub holders_next : (w later : World) → HoldersStand w → Turn w later → HoldersStand later
 holders_next w later h nobodys = h
 holders_next w later h (coordinators clock s turn) = coordinators_turn w h clock s turn
 holders_next w later h (partitions number p s there turn) =
@@ -371,7 +371,7 @@ holders_next w later h (making number txn timeout new a b c) = record {
   once = h.once;
 }
 
-holders_first : (count : ℕ) → HoldersStand (start count)
+pub holders_first : (count : ℕ) → HoldersStand (start count)
 holders_first count = record {
   stands = stands_first count;
   clients = All-nil (HoldsOwn []);
@@ -442,7 +442,7 @@ module _ (w : World) (h : HoldersStand w) where
   allotted_one c d held allotted (by_end k a) y = absurd (end_named c k held a allotted)
   allotted_one c d held allotted x (by_end l b) = absurd (end_named d l held b allotted)
 
-  one_client : (c d : ℕ) (held : Held) → Handed w.sent c held → Handed w.sent d held → c ≡ d
+  pub one_client : (c d : ℕ) (held : Held) → Handed w.sent c held → Handed w.sent d held → c ≡ d
   one_client c d held x y = by (h.owned c held x) (h.owned d held y)
     where
       by : Owned (notes w) c held → Owned (notes w) d held → c ≡ d
