@@ -14,7 +14,8 @@ use Rattle.kx_wire.specs.declared.outcome.Outcome.TheVariants.{Commit}
 use Rattle.kx_model.specs.Client.{Client, is_end, is_init, sequence_of}
 use Rattle.kx_model.specs.Replies.{correlation_of}
 use Rattle.kx_headline.proofs.ClientRequests.{Answered, Carries, HasEnded, IsAwaited, IsIts, IsUpTo}
-use Rattle.kx_headline.proofs.ClientRequests.{IsWithin, Knows, Load, is_offsets, same_id, sender}
+use Rattle.kx_headline.proofs.ClientRequests.{IsWithin, Knows, Load, is_batch, is_offsets}
+use Rattle.kx_headline.proofs.ClientRequests.{same_id, sender}
 use Rattle.kx_headline.proofs.ClientRequests.{with_batch, with_offsets}
 use Rattle.kx_headline.proofs.Lists.{All-from_contains}
 use Rattle.kx_headline.proofs.Membership.{any_holds, any_keeps, no_element}
@@ -77,6 +78,7 @@ module _ (sent later : List Message) (c : Client)
         (λ x there. awaited_later x (All-contains (IsAwaited sent c) c.waiting x k.waiting there));
     beside = k.beside;
     asking = k.asking;
+    asks_once = k.asks_once;
     offsets_inside = k.offsets_inside;
     aborting = k.aborting;
     answered = λ f a none m l its carries held.
@@ -108,6 +110,14 @@ end_is client (msg.EndTxn n k txn held outcome) e s =
     (it_ends k txn held outcome)
 end_is client m e s = absurd cc
 
+pub is_a_batch : (m : Message) (l : Load) → Carries m l → is_batch m ≡ true
+is_a_batch m l (with_batch client correlation txn partition transactional held first records a b) =
+    refl
+is_a_batch m l
+    (with_offsets client correlation txn group member generation held first offsets a b)
+    =
+    refl
+
 pub no_end : (m : Message) (l : Load) → Carries m l → is_end m ≡ true → ⊥
 no_end m l (with_batch client correlation txn partition transactional held first records a b) e =
     cc
@@ -138,13 +148,13 @@ module _ (sent : List Message) (c : Client) (k : Knows sent c) (b : Client) (m :
     pub load : (l : Load) → Carries m l → (c.held ≡ Some l.held)
         × (l.first ≡ sequence_of c.sequences l.partition)
         × (l.first < sequence_of b.sequences l.partition)
-        × (list_any is_end c.waiting ≡ false)
+    pub batch : is_batch m ≡ true → (is_end m ≡ false) × (list_any is_end c.waiting ≡ false)
     pub offsets : is_offsets m ≡ true → c.in_transaction ≡ true
     pub ending : (i : ℕ) (txn : List ℕ) (held : Held) (outcome : Outcome)
         → m ≡ msg.EndTxn c.number i txn held outcome
         → (c.held ≡ Some held) × (b.waiting ≡ []) × (outcome ≡ Commit → (x : Message) (l : Load)
         → IsIts sent c x → Carries x l → l.held ≡ held → Answered sent x)
-    pub init : is_init m ≡ true → c.held ≡ None
+    pub init : is_init m ≡ true → (c.held ≡ None) × (list_any is_init c.waiting ≡ false)
 
 module _ (sent : List Message) (c : Client) (k : Knows sent c) (b : Client) (m : Message)
     (asks : Asks sent c k b m) where
@@ -177,8 +187,8 @@ module _ (sent : List Message) (c : Client) (k : Knows sent c) (b : Client) (m :
   an_end x there e = any_keeps is_end c.waiting x there e
 
   -- no EndTxn waits where a batch goes out
-  no_end_waits : (l : Load) → Carries m l → list_any is_end c.waiting ≡ true → ⊥
-  no_end_waits l carries e = let none = (asks.load l carries).3 in absurd (cc)
+  no_end_waits : is_batch m ≡ true → list_any is_end c.waiting ≡ true → ⊥
+  no_end_waits batch e = let none = (asks.batch batch).1 in absurd (cc)
 
   ended_old : (i : ℕ) (txn : List ℕ) (held : Held) (outcome : Outcome)
       → Contains sent (msg.EndTxn c.number i txn held outcome) → c.held ≡ Some held
@@ -310,25 +320,30 @@ module _ (sent : List Message) (c : Client) (k : Knows sent c) (b : Client) (m :
   no_other_end : is_end m ≡ true → (x : Message) → Contains b.waiting x → ⊥
   no_other_end e x there = alone x e there
 
+  not_true : (t : Bool) → (t ≡ true → ⊥) → t ≡ false
+  not_true true h = absurd (h refl)
+  not_true false h = refl
+
   beside : (x y : Message) → Contains after'.waiting x → is_end x ≡ true
-      → Contains after'.waiting y
-      → (is_end y ≡ true → x ≡ y) × ((l : Load) → Carries y l → ⊥)
+      → Contains after'.waiting y → (is_end y ≡ true → x ≡ y) × (is_batch y ≡ false)
   beside x y a e d = by (waits_old_or_new x a) (waits_old_or_new y d)
     where
       by : Contains b.waiting x ⊎ (m ≡ x) → Contains b.waiting y ⊎ (m ≡ y)
-          → (is_end y ≡ true → x ≡ y) × ((l : Load) → Carries y l → ⊥)
+          → (is_end y ≡ true → x ≡ y) × (is_batch y ≡ false)
       by (inl p) (inl q) = k.beside x y (asks.waiting x p) e (asks.waiting y q)
       by (inl p) (inr q) = (
         λ f. absurd (alone x (ap is_end q ∙ f) p),
-        λ l carries. no_end_waits l (of_new y l q carries) (an_end x (asks.waiting x p) e),
+        not_true (is_batch y)
+            (λ f. no_end_waits (ap is_batch q ∙ f) (an_end x (asks.waiting x p) e)),
       )
       by (inr p) (inl q) = (
         λ f. absurd (alone y (ap is_end p ∙ e) q),
-        λ l carries. alone y (ap is_end p ∙ e) q,
+        absurd (alone y (ap is_end p ∙ e) q),
       )
       by (inr p) (inr q) = (
         λ f. sym p ∙ q,
-        λ l carries. no_end m l (of_new y l q carries) (ap is_end p ∙ e),
+        not_true (is_batch y) (λ f.
+            let no = sym (asks.batch (ap is_batch q ∙ f)).0 ∙ ap is_end p ∙ e in cc),
       )
 
   asking : list_any is_init after'.waiting ≡ true → b.held ≡ None
@@ -336,7 +351,23 @@ module _ (sent : List Message) (c : Client) (k : Knows sent c) (b : Client) (m :
       let (x, there, is) = any_holds is_init after'.waiting e in
       asks.held
       ∙ ⊎_elim (λ old. k.asking (any_keeps is_init c.waiting x (asks.waiting x old) is))
-      (λ new. asks.init (ap is_init new ∙ is)) (waits_old_or_new x there)
+      (λ new. (asks.init (ap is_init new ∙ is)).0) (waits_old_or_new x there)
+
+  -- no id is asked for where one is already
+  no_init_waits : (x : Message) → is_init m ≡ true → Contains b.waiting x → is_init x ≡ true → ⊥
+  no_init_waits x e there is =
+      let no = sym (any_keeps is_init c.waiting x (asks.waiting x there) is) ∙ (asks.init e).1 in
+      cc
+
+  asks_once : (x y : Message) → Contains after'.waiting x → Contains after'.waiting y
+      → is_init x ≡ true → is_init y ≡ true → x ≡ y
+  asks_once x y a d e f = by (waits_old_or_new x a) (waits_old_or_new y d)
+    where
+      by : Contains b.waiting x ⊎ (m ≡ x) → Contains b.waiting y ⊎ (m ≡ y) → x ≡ y
+      by (inl p) (inl q) = k.asks_once x y (asks.waiting x p) (asks.waiting y q) e f
+      by (inl p) (inr q) = absurd (no_init_waits x (ap is_init q ∙ f) p e)
+      by (inr p) (inl q) = absurd (no_init_waits y (ap is_init p ∙ e) q f)
+      by (inr p) (inr q) = sym p ∙ q
 
   offsets_inside : (x : Message) → Contains after'.waiting x → is_offsets x ≡ true
       → b.in_transaction ≡ true
@@ -422,7 +453,7 @@ module _ (sent : List Message) (c : Client) (k : Knows sent c) (b : Client) (m :
           answered_later sent later' up x (k.committed i txn held p x l q carries same)
       by (inl p) (inr q) =
           let now = asks.load l (of_new x l q carries) in
-          absurd (no_end_waits l (of_new x l q carries)
+          absurd (no_end_waits (is_a_batch m l (of_new x l q carries))
           (ended_old i txn held Commit p (now.0 ∙ ap Some same)))
       by (inr p) (inl q) =
           answered_later sent later' up x
@@ -440,6 +471,7 @@ module _ (sent : List Message) (c : Client) (k : Knows sent c) (b : Client) (m :
     waiting = waiting;
     beside = beside;
     asking = asking;
+    asks_once = asks_once;
     offsets_inside = offsets_inside;
     aborting = aborting;
     answered = answered;

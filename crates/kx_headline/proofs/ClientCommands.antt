@@ -25,8 +25,8 @@ use Rattle.kx_model.specs.Replies.{correlation_of}
 use Rattle.kx_headline.proofs.ClientAsks as ask
 use Rattle.kx_headline.proofs.ClientAsks.{Asks, asked, knows_later}
 use Rattle.kx_headline.proofs.ClientRequests.{Answered, Carries, HasEnded, HeldFits, IsIts, Knows, Load}
-use Rattle.kx_headline.proofs.ClientRequests.{IsAwaited, is_offsets, sender, with_batch}
-use Rattle.kx_headline.proofs.ClientRequests.{with_offsets}
+use Rattle.kx_headline.proofs.ClientRequests.{IsAwaited, is_batch, is_offsets, sender}
+use Rattle.kx_headline.proofs.ClientRequests.{with_batch, with_offsets}
 use Rattle.kx_headline.proofs.Lists.{All-from_contains}
 use Rattle.kx_headline.proofs.Membership.{filter_holds, no_element}
 
@@ -173,20 +173,17 @@ module _ (sent : List Message) (c : Client) (k : Knows sent c)
     out = λ m there. absurd (no_element m there);
   })
 
-  no_load : (m : Message) → ((l : Load) → Carries m l → ⊥) → (l : Load) → Carries m l
-      → (c.held ≡ Some l.held) × (l.first ≡ sequence_of c.sequences l.partition)
-      × (l.first < sequence_of c.sequences l.partition) × (list_any is_end c.waiting ≡ false)
-  no_load m none l carries = absurd (none l carries)
-
   -- a request that carries no batch and ends nothing
   plain : (b : Client) (m : Message) → b.number ≡ c.number → b.held ≡ c.held
       → b.correlation ≡ c.correlation → c.failed ≡ false → b.must_abort ≡ c.must_abort
       → b.in_transaction ≡ c.in_transaction → b.sequences ≡ c.sequences → b.waiting ≡ c.waiting
       → sender m ≡ Some c.number → correlation_of m ≡ c.correlation
-      → ((l : Load) → Carries m l → ⊥) → is_end m ≡ false → is_offsets m ≡ false
-      → (is_init m ≡ true → c.held ≡ None) → Asks sent c k b m
+      → ((l : Load) → Carries m l → ⊥) → is_end m ≡ false → is_batch m ≡ false
+      → is_offsets m ≡ false
+      → (is_init m ≡ true → (c.held ≡ None) × (list_any is_init c.waiting ≡ false))
+      → Asks sent c k b m
   plain b m number held correlation works aborting inside sequences waiting s n none not_end
-      not_offsets init = record {
+      not_batch not_offsets init = record {
     number = number;
     held = held;
     correlation = correlation;
@@ -199,6 +196,7 @@ module _ (sent : List Message) (c : Client) (k : Knows sent c)
     waiting = λ x there. subst (λ l. Contains l x) waiting there;
     kept = inl waiting;
     load = λ l carries. absurd (none l carries);
+    batch = λ e. absurd (let no = sym e ∙ not_batch in cc);
     offsets = λ e. absurd (let no = sym e ∙ not_offsets in cc);
     ending = λ i txn h outcome e. absurd (let no = sym not_end ∙ ap is_end e in cc);
     init = init;
@@ -228,6 +226,7 @@ module _ (sent : List Message) (c : Client) (k : Knows sent c)
     waiting = λ x w. w;
     kept = inl refl;
     load = λ l other. subst Loads (one_load m own l carries other) own_loads;
+    batch = λ e. (not_end, none);
     offsets = inside;
     ending = λ i txn h outcome e. absurd (let no = sym not_end ∙ ap is_end e in cc);
     init = λ e. absurd (let no = sym e ∙ not_init in cc);
@@ -243,13 +242,12 @@ module _ (sent : List Message) (c : Client) (k : Knows sent c)
       Loads : Load → Type 0
       Loads l = (c.held ≡ Some l.held) × (l.first ≡ sequence_of c.sequences l.partition)
           × (l.first < sequence_of (sending c partition more).sequences l.partition)
-          × (list_any is_end c.waiting ≡ false)
 
       own_loads : Loads own
       own_loads =
           let now = sequence_now c.sequences partition
           (sequence_of c.sequences partition + more) in
-          (there, refl, omega (arith, now, some), none)
+          (there, refl, omega (arith, now, some))
 
   ------ each command
 
@@ -327,6 +325,7 @@ module _ (sent : List Message) (c : Client) (k : Knows sent c)
     kept = inr refl;
     load = λ l carries. absurd (ask.no_end
         (msg.EndTxn c.number c.correlation txn held outcome) l carries refl);
+    batch = λ e. absurd cc;
     offsets = λ e. absurd cc;
     ending = λ i t h o e.
         let pair : held ≡ h = cc in
@@ -378,6 +377,7 @@ module _ (sent : List Message) (c : Client) (k : Knows sent c)
             (sym empty) (All-nil (IsAwaited sent (record c { in_transaction = false })));
         beside = k.beside;
         asking = k.asking;
+        asks_once = k.asks_once;
         offsets_inside = λ m w is. absurd (no_element m (subst (λ l. Contains l m) empty w));
         aborting = λ e. absurd (let no = sym going ∙ e in cc);
         answered = λ f a none' m l its carries h.
@@ -411,7 +411,7 @@ module _ (sent : List Message) (c : Client) (k : Knows sent c)
   leaves_go (Some place) passed =
       asks_goes c (msg.Leave c.number c.correlation place.group)
       (plain c (msg.Leave c.number c.correlation place.group) refl refl refl passed.0 refl refl
-      refl refl refl refl (λ l carries. elim carries [ ]) refl refl (λ e. absurd cc)) tt
+      refl refl refl refl (λ l carries. elim carries [ ]) refl refl refl (λ e. absurd cc)) tt
 
   none_held : (o : Option Held) → is_some o ≡ false → o ≡ None
   none_held None e = refl
@@ -435,6 +435,7 @@ module _ (sent : List Message) (c : Client) (k : Knows sent c)
             record { its = a.its; load = a.load; ends = a.ends });
         beside = k.beside;
         asking = k.asking;
+        asks_once = k.asks_once;
         offsets_inside = λ m w is. refl;
         aborting = λ e. absurd cc;
         answered = λ f a none m l its carries h.
@@ -471,7 +472,7 @@ module _ (sent : List Message) (c : Client) (k : Knows sent c)
       (λ e. repeats (filter is_init c.waiting)
       (λ x there. waited x (filter_holds is_init c.waiting x there).0))
       (λ e. asks_goes c m (plain c m refl refl refl passed.0 refl refl refl refl refl refl
-      (λ l carries. elim carries [ ]) refl refl (λ is. none_held c.held none)) tt)
+      (λ l carries. elim carries [ ]) refl refl refl (λ is. (none_held c.held none, e))) tt)
   does_goes Begin passed = begins passed
   does_goes (Send partition value more) passed =
       sends_goes partition value more c.held refl passed
@@ -479,7 +480,7 @@ module _ (sent : List Message) (c : Client) (k : Knows sent c)
       let m = msg.Join c.number c.correlation group in
       asks_goes (record c { group = Some group }) m
       (plain (record c { group = Some group }) m refl refl refl passed.0 refl refl refl refl refl
-      refl (λ l carries. elim carries [ ]) refl refl (λ e. absurd cc)) tt
+      refl (λ l carries. elim carries [ ]) refl refl refl (λ e. absurd cc)) tt
   does_goes LeaveGroup passed = leaves_go c.place passed
   does_goes (SendOffsets offset more) passed =
       offsets_go offset more c.txn c.held c.place refl passed

@@ -37,6 +37,10 @@ is_offsets
     = true
 is_offsets m = false
 
+abbrev pub is_batch : Message → Bool
+is_batch (msg.Produce client correlation txn partition text) = true
+is_batch m = is_offsets m
+
 -- what a batch is to its client: its partition, the id and epoch, and the first sequence
 pub record Load : Type 0 where
   pub partition : ℕ
@@ -117,9 +121,11 @@ module _ (sent : List Message) (c : Client) where
     pub waiting : All IsAwaited c.waiting
     -- beside an EndTxn no batch waits, and no other EndTxn
     pub beside : (m n : Message) → Contains c.waiting m → is_end m ≡ true → Contains c.waiting n
-        → (is_end n ≡ true → m ≡ n) × ((l : Load) → Carries n l → ⊥)
-    -- an id is asked for while none is held
+        → (is_end n ≡ true → m ≡ n) × (is_batch n ≡ false)
+    -- an id is asked for once, while none is held
     pub asking : list_any is_init c.waiting ≡ true → c.held ≡ None
+    pub asks_once : (m n : Message) → Contains c.waiting m → Contains c.waiting n
+        → is_init m ≡ true → is_init n ≡ true → m ≡ n
     pub offsets_inside : (m : Message) → Contains c.waiting m → is_offsets m ≡ true
         → c.in_transaction ≡ true
     pub aborting : c.must_abort ≡ true → c.in_transaction ≡ true
