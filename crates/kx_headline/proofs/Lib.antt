@@ -46,3 +46,4 @@ pub mod WorldReaders
 pub mod ClientRequests
 pub mod ClientAsks
 pub mod ClientCommands
+pub mod ClientReplies
