@@ -90,6 +90,7 @@ Says sent log (msg.AddReply partition txn held code.NoError) =
 Says sent log (msg.InitReply client correlation code.NoError (Some held)) = Has log client held
 Says sent log (msg.EndReply client correlation code.NoError (Some held)) =
     GivesNext sent log client correlation held
+Says sent log (msg.EndReply client correlation code.NoError None) = ⊥
 Says sent log m = ⊤
 
 -- the kinds that the coordinator hands out
@@ -160,6 +161,7 @@ says_later sent later log log' up on (msg.EndReply c k code.NoError (Some held))
   its_end = s.its_end;
   given = s.given;
 }
+says_later sent later log log' up on (msg.EndReply c k code.NoError None) s = absurd s
 says_later sent later log log' up on m s = tt
 
 ------ the coordinator, and its steps

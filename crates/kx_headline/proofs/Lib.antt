@@ -47,3 +47,4 @@ pub mod ClientRequests
 pub mod ClientAsks
 pub mod ClientCommands
 pub mod ClientReplies
+pub mod SentBatches
