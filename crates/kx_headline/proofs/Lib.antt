@@ -48,3 +48,5 @@ pub mod ClientAsks
 pub mod ClientCommands
 pub mod ClientReplies
 pub mod SentBatches
+pub mod Loads
+pub mod RequestsAlways
