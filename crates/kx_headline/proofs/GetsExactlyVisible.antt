@@ -1,6 +1,6 @@
 -- Over every schedule, readers get exactly what is visible: given that markers agree, and that the
 -- coordinator's markers have numbers that a control batch holds.
-use Rattle.std.proofs.Common.{◌≡◌, ◌⊎◌, ◌+◌, ◌<◌, ◌≤◌, ℕ, true, List, Some, Contains, length}
+use Rattle.std.proofs.Common.{◌≡◌, ◌⊎◌, ◌+◌, ◌<◌, ◌≤◌, ℕ, true, Some, Contains, length}
 use Rattle.std.specs.Prelude.{◌≢◌}
 use Rattle.kx_wire.specs.declared.outcome.Outcome.TheVariants.{Commit}
 use Rattle.kx_model.specs.Coordinator.{decision}
@@ -8,7 +8,7 @@ use Rattle.kx_model.specs.Headline.{Always, GetsExactlyVisible, MarkersAgree}
 use Rattle.kx_model.specs.Log.{Data, Sequenced, placed}
 use Rattle.kx_model.specs.Page.{page}
 use Rattle.kx_model.specs.Reading.{Shown, committed_records}
-use Rattle.kx_model.specs.World.{Event, World, entries_at, log_at, notes, run, start}
+use Rattle.kx_model.specs.World.{World, entries_at, log_at, notes, run, start}
 use Rattle.kx_headline.proofs.NothingShown.{not_shown}
 use Rattle.kx_headline.proofs.PartitionEvents.{PartitionsHold, partitions_hold, start_holds}
 use Rattle.kx_headline.proofs.PartitionHolds.{MarkersFit}

@@ -8,6 +8,7 @@ pub mod LogRules
 pub mod Membership
 pub mod NothingShown
 pub mod OpenBatches
+pub mod OpenIsLast
 pub mod Pages
 pub mod PartitionDoes
 pub mod PartitionEvents
