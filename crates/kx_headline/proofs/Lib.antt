@@ -1,4 +1,5 @@
 pub mod AbortedTransactions
+pub mod ClientRequests
 pub mod ClosedByCommit
 pub mod CommittedRecords
 pub mod GetsExactlyVisible

@@ -101,7 +101,8 @@ module _ (sent : List Message) (number : ℕ) where
       → judge_text (entries before) verified text ≡ Next
       → entry_of (behind before text) ≡ Control m → ⊥
   not_a_marker before verified text m e is =
-      let entry : entry_in (batch_of text) ≡ Control m = sym (batch_is before verified text e) ∙ is in
+      let entry : entry_in (batch_of text) ≡ Control m =
+      sym (batch_is before verified text e) ∙ is in
       let refused = ap (judge_entry (entries before) verified) (sym entry)
       ∙ (judged_text (entries before) verified text e).judged in
       cc
