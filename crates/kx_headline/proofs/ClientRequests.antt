@@ -1,5 +1,5 @@
 -- A client hands out requests alone: to the coordinator, to partitions and of groups.
-use Rattle.std.proofs.Common.{ℕ, Bool, true, false, not, cond, List, [], ◌∷◌, ◌++◌, filter, All}
+use Rattle.std.proofs.Common.{ℕ, Bool, false, not, List, [], ◌∷◌, filter, All}
 use Rattle.std.proofs.Common.{Option, Some, None, length}
 use Rattle.std.specs.List.{list_any}
 use Rattle.std.proofs.lemmas.Bool.{cond_both}
@@ -14,11 +14,11 @@ use Rattle.kx_wire.specs.declared.payload.PartitionOffset.{PartitionOffset}
 use Rattle.kx_batch.specs.Record.{Record}
 use Rattle.kx_model.specs.Client.{Client, Command, Commanded, Declines, Does, Fault, Place, Init}
 use Rattle.kx_model.specs.Client.{Begin, Send, JoinGroup, LeaveGroup, SendOffsets, End, Resend}
-use Rattle.kx_model.specs.Client.{asks, client_batch, command, does, is_init, leaves, refusals}
-use Rattle.kx_model.specs.Client.{sending, sends, sends_end, sends_offsets, sequence_of, unless}
+use Rattle.kx_model.specs.Client.{asks, command, does, is_init, leaves, refusals}
+use Rattle.kx_model.specs.Client.{sending, sends, sends_end, sends_offsets, unless}
 use Rattle.kx_model.specs.Client.{value_records}
 use Rattle.kx_model.specs.Replies.{Meaning, Done, Waits, Aborts, Fails, holding, is_answer_to}
-use Rattle.kx_model.specs.Replies.{is_awaited, learns, meaning, offsets_meaning, placed_in}
+use Rattle.kx_model.specs.Replies.{is_awaited, learns, meaning, offsets_meaning}
 use Rattle.kx_model.specs.Replies.{take_reply, told}
 
 abbrev pub IsRequest : Message → Type 0

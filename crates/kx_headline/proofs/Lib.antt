@@ -6,6 +6,7 @@ pub mod GetsExactlyVisible
 pub mod GrownLogs
 pub mod LogCauses
 pub mod LogRules
+pub mod MarkerNumbers
 pub mod Membership
 pub mod NothingShown
 pub mod OpenBatches
