@@ -7,6 +7,7 @@ pub mod GrownLogs
 pub mod LogCauses
 pub mod LogRules
 pub mod MarkerNumbers
+pub mod MarkersFitAlways
 pub mod Membership
 pub mod NothingShown
 pub mod OpenBatches

@@ -483,8 +483,8 @@ opens_fits : (co : Coordinator) (now : ℕ) (how : Reopening) (o : Option Note)
     → CoordinatorFits co → IfSome o NoteFits → StepFits (opens co now how o)
 opens_fits co now how None h f = none_out co h
 opens_fits co now how (Some note) h f =
-    opened_fits (reread co.disk) now note how (reread_fits co.disk.kept co.disk.hidden h.kept h.hidden)
-    f
+    opened_fits (reread co.disk) now note how
+    (reread_fits co.disk.kept co.disk.hidden h.kept h.hidden) f
 
 pub restarts_fits : (co : Coordinator) (now : ℕ) (how : Reopening) → CoordinatorFits co
     → StepFits (coordinator_restarts co now how)

@@ -77,12 +77,12 @@ changes w number s all new q =
     (others w s.1 all q)
 
 -- what holds of the partition at a number
-there_holds : (w : World) (number : ℕ) (p : Partition) → PartitionsHold w
+pub there_holds : (w : World) (number : ℕ) (p : Partition) → PartitionsHold w
     → partition_at w number ≡ Some p → PartitionHolds w.sent number p
 there_holds w number p all there =
     subst (λ o. IfSome o (PartitionHolds w.sent number)) there (all number)
 
-pairs : (sent : List Message) (number : ℕ) (p : Partition) → PartitionHolds sent number p
+pub pairs : (sent : List Message) (number : ℕ) (p : Partition) → PartitionHolds sent number p
     → All IsPaired p.parked
 pairs sent number p h =
     All-weaker (Waiting sent number) IsPaired (λ x w. w.paired) p.parked h.parked
