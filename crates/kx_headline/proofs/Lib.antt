@@ -18,6 +18,7 @@ pub mod PartitionEvents
 pub mod PartitionHolds
 pub mod ReadPages
 pub mod Reading
+pub mod Sequences
 pub mod ShownRecords
 pub mod Spans
 pub mod Splits
