@@ -2,6 +2,7 @@ pub mod AbortedTransactions
 pub mod ClientRequests
 pub mod ClosedByCommit
 pub mod CommittedRecords
+pub mod Duplicates
 pub mod GetsExactlyVisible
 pub mod GrownLogs
 pub mod LogCauses
@@ -17,6 +18,7 @@ pub mod PartitionDoes
 pub mod PartitionEvents
 pub mod PartitionHolds
 pub mod ReadPages
+pub mod PartitionPromises
 pub mod Reading
 pub mod Sequences
 pub mod ShownRecords

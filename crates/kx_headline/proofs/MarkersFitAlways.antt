@@ -60,7 +60,7 @@ request_fits m is = tt
 
 out_fits : (number : ℕ) (p : Partition) (input : Option Message) (log : List Stored)
     (m : Message) → does.Out number p input log m → MessageFits m
-out_fits number p input log m (does.done r earlier o g) = reply_for_fits r _ _ r.target
+out_fits number p input log m (does.done r earlier v o j g) = reply_for_fits r _ _ r.target
 out_fits number p input log m (does.again r offset earlier v o was g j) =
     reply_for_fits r _ _ r.target
 out_fits number p input log m (does.refused r c o n) = reply_for_fits r c _ r.target
