@@ -19,6 +19,7 @@ pub mod PartitionEvents
 pub mod PartitionHolds
 pub mod ReadPages
 pub mod PartitionPromises
+pub mod PromisesKept
 pub mod Reading
 pub mod Sequences
 pub mod ShownRecords

@@ -129,10 +129,14 @@ own_epoch_fits log all = epoch_fits 0 log (omega arith) all
 
 ------ markers
 
-abbrev pub MessageFits : Message → Type 0
-MessageFits (msg.WriteMarker partition txn held coordinator outcome) =
+-- what the coordinator hands out: markers that fit, and replies
+abbrev pub CoordinatorHands : Message → Type 0
+CoordinatorHands (msg.WriteMarker partition txn held coordinator outcome) =
     MarkerFits (marker_of held coordinator outcome)
-MessageFits m = Unit {0}
+CoordinatorHands (msg.InitReply client correlation c held) = Unit {0}
+CoordinatorHands (msg.EndReply client correlation c held) = Unit {0}
+CoordinatorHands (msg.AddReply partition txn held c) = Unit {0}
+CoordinatorHands m = ⊥
 
 marker_fits : (coordinator : ℕ) (r : Row) (outcome : Outcome) → coordinator ≤ greatest_epoch
     → r.id < 2 ^ 63 → r.epoch ≤ spent_epoch
@@ -141,35 +145,35 @@ marker_fits coordinator r outcome c i e =
     record { id = i; epoch = omega (arith, e); coordinator = record { sfits = omega (arith, c) } }
 
 markers_fit_in : (coordinator : ℕ) (r : Row) (st : State) → coordinator ≤ greatest_epoch
-    → r.id < 2 ^ 63 → EpochFits st r.epoch → All MessageFits (markers_in coordinator r st)
-markers_fit_in coordinator r Empty c i e = All-nil MessageFits
-markers_fit_in coordinator r Ongoing c i e = All-nil MessageFits
-markers_fit_in coordinator r (Complete outcome) c i e = All-nil MessageFits
+    → r.id < 2 ^ 63 → EpochFits st r.epoch → All CoordinatorHands (markers_in coordinator r st)
+markers_fit_in coordinator r Empty c i e = All-nil CoordinatorHands
+markers_fit_in coordinator r Ongoing c i e = All-nil CoordinatorHands
+markers_fit_in coordinator r (Complete outcome) c i e = All-nil CoordinatorHands
 markers_fit_in coordinator r (Prepare outcome) c i e =
-    All-map MessageFits (marker_message coordinator r outcome) r.partitions
+    All-map CoordinatorHands (marker_message coordinator r outcome) r.partitions
     (λ k d lt. marker_fits coordinator r outcome c i e)
 
 markers_of_fit : (coordinator : ℕ) (r : Row) → coordinator ≤ greatest_epoch → RowFits r
-    → All MessageFits (markers_of coordinator r)
+    → All CoordinatorHands (markers_of coordinator r)
 markers_of_fit coordinator r c f = markers_fit_in coordinator r r.state c f.id f.low
 
 all_fit : (of : Row → List Message) (list : List Row)
-    → ((r : Row) → RowFits r → All MessageFits (of r)) → All RowFits list
-    → All MessageFits (flat_map of list)
-all_fit of [] fits all = All-nil MessageFits
+    → ((r : Row) → RowFits r → All CoordinatorHands (of r)) → All RowFits list
+    → All CoordinatorHands (flat_map of list)
+all_fit of [] fits all = All-nil CoordinatorHands
 all_fit of (r ∷ list) fits all =
-    All-append MessageFits (of r) (flat_map of list)
+    All-append CoordinatorHands (of r) (flat_map of list)
     (fits r (All-head RowFits r list all))
     (all_fit of list fits (All-tail RowFits r list all))
 
-all_markers_fit : (log : List Note) → All NoteFits log → All MessageFits (all_markers log)
+all_markers_fit : (log : List Note) → All NoteFits log → All CoordinatorHands (all_markers log)
 all_markers_fit log all =
     all_fit (markers_of (coordinator_epoch log)) (rows log)
     (λ r f. markers_of_fit (coordinator_epoch log) r (own_epoch_fits log all) f)
     (rows_fit log all)
 
 remind_fits : (log : List Note) (answered : List Answered) → All NoteFits log
-    → All MessageFits (remind log answered)
+    → All CoordinatorHands (remind log answered)
 remind_fits log answered all =
     all_fit (missing_of (coordinator_epoch log) answered) (rows log)
     (λ r f. markers_of_fit (coordinator_epoch log)
@@ -178,9 +182,9 @@ remind_fits log answered all =
     (rows_fit log all)
 
 markers_after_fit : (coordinator : ℕ) (note : Note) → coordinator ≤ greatest_epoch → NoteFits note
-    → All MessageFits (markers_after coordinator note)
-markers_after_fit coordinator (CoordinatorEpoch epoch) c f = All-nil MessageFits
-markers_after_fit coordinator (Allot id) c f = All-nil MessageFits
+    → All CoordinatorHands (markers_after coordinator note)
+markers_after_fit coordinator (CoordinatorEpoch epoch) c f = All-nil CoordinatorHands
+markers_after_fit coordinator (Allot id) c f = All-nil CoordinatorHands
 markers_after_fit coordinator (Written r) c f = markers_of_fit coordinator r c (row_fits r f)
 
 ------ tables
@@ -345,13 +349,13 @@ CoordinatorFits co = DiskFits co.disk
 
 pub record StepFits (s : Coordinated) : Type 0 where
   pub node : CoordinatorFits s.0
-  pub out : All MessageFits s.1
+  pub out : All CoordinatorHands s.1
 
 none_out : (co : Coordinator) → CoordinatorFits co → StepFits (co, [])
-none_out co h = record { node = h; out = All-nil MessageFits }
+none_out co h = record { node = h; out = All-nil CoordinatorHands }
 
-one_out : (m : Message) → MessageFits m → All MessageFits (m ∷ [])
-one_out m h = All-cons MessageFits m [] h (All-nil MessageFits)
+one_out : (m : Message) → CoordinatorHands m → All CoordinatorHands (m ∷ [])
+one_out m h = All-cons CoordinatorHands m [] h (All-nil CoordinatorHands)
 
 left_fits : (store : Store) (note : Note) → NoteFits note
     → IfSome (left_behind store note) NoteFits
@@ -376,15 +380,15 @@ not_true true e = absurd cc
 not_true false e = refl
 
 writes_fits : (co : Coordinator) (store : Store) (note : Note) (done failed : List Message)
-    → CoordinatorFits co → NoteLow note → All MessageFits done → All MessageFits failed
+    → CoordinatorFits co → NoteLow note → All CoordinatorHands done → All CoordinatorHands failed
     → StepFits (writes co store note done failed)
 writes_fits co store note done failed h low d f = record {
   node = cond_both (has_no_id note) co.disk (appended co.disk store note) DiskFits (λ e. h)
       (λ e. appended_fits co.disk store note h (record { low = low; ids = has_id note e }));
   out =
       let markers = markers_after (coordinator_epoch (notes_of co)) note in
-      cond_both (is_appended co store note) (done ++ markers) failed (All MessageFits)
-      (λ e. All-append MessageFits done markers d
+      cond_both (is_appended co store note) (done ++ markers) failed (All CoordinatorHands)
+      (λ e. All-append CoordinatorHands done markers d
       (markers_after_fit (coordinator_epoch (notes_of co)) note
       (own_epoch_fits (notes_of co) h.kept)
       (record {
@@ -397,7 +401,7 @@ writes_fits co store note done failed h low d f = record {
 
 replies_fit : (co : Coordinator) (store : Store) (a : Answer) (reply : Reply)
     (note : Option Note) → CoordinatorFits co → IfSome note NoteLow
-    → ((c : ErrorCode) (held : Option Held) → MessageFits (reply c held))
+    → ((c : ErrorCode) (held : Option Held) → CoordinatorHands (reply c held))
     → StepFits (replies co store a reply note)
 replies_fit co store a reply None h low fits =
     record { node = h; out = one_out (reply a.code a.held) (fits a.code a.held) }
@@ -410,10 +414,10 @@ replies_fit co store a reply (Some note) h low fits =
 settled_fits : (co : Coordinator) (store : Store) (a : Answered) (s : Settled)
     → CoordinatorFits co → SettledLow s → StepFits (on_settled co store a s)
 settled_fits co store a Ignored h low = none_out co h
-settled_fits co store a Noted h low = record { node = h; out = All-nil MessageFits }
+settled_fits co store a Noted h low = record { node = h; out = All-nil CoordinatorHands }
 settled_fits co store a (Completes r) h low =
-    let w = writes_fits co store (Written r) [] [] h low (All-nil MessageFits)
-    (All-nil MessageFits) in
+    let w = writes_fits co store (Written r) [] [] h low (All-nil CoordinatorHands)
+    (All-nil CoordinatorHands) in
     record { node = w.node; out = w.out }
 
 marker_reply_fits : (co : Coordinator) (store : Store) (a : Answered) (c : ErrorCode)
@@ -448,7 +452,7 @@ expires_row_fits : (co : Coordinator) (store : Store) (o : Option Row) → Coord
     → IfSome o RowLow → StepFits (expires_row co store o)
 expires_row_fits co store None h low = none_out co h
 expires_row_fits co store (Some r) h low =
-    writes_fits co store (Written r) [] [] h low (All-nil MessageFits) (All-nil MessageFits)
+    writes_fits co store (Written r) [] [] h low (All-nil CoordinatorHands) (All-nil CoordinatorHands)
 
 pub expires_fits : (co : Coordinator) (now : ℕ) (store : Store) → CoordinatorFits co
     → StepFits (expires co now store)
@@ -473,10 +477,10 @@ opened_fits log now note Reopens all f =
       out = all_markers_fit (log ++ note ∷ []) later;
     }
 opened_fits log now note CannotRead all f =
-    record { node = record { kept = all; hidden = tt }; out = All-nil MessageFits }
+    record { node = record { kept = all; hidden = tt }; out = All-nil CoordinatorHands }
 opened_fits log now note (CannotWrite whole) all f = record {
   node = record { kept = all; hidden = left_fits (Fails whole) note f };
-  out = All-nil MessageFits;
+  out = All-nil CoordinatorHands;
 }
 
 opens_fits : (co : Coordinator) (now : ℕ) (how : Reopening) (o : Option Note)
@@ -489,7 +493,7 @@ opens_fits co now how (Some note) h f =
 pub restarts_fits : (co : Coordinator) (now : ℕ) (how : Reopening) → CoordinatorFits co
     → StepFits (coordinator_restarts co now how)
 restarts_fits co now CannotRead h =
-    record { node = record { kept = h.kept; hidden = h.hidden }; out = All-nil MessageFits }
+    record { node = record { kept = h.kept; hidden = h.hidden }; out = All-nil CoordinatorHands }
 restarts_fits co now Reopens h =
     opens_fits co now Reopens (reopen (reread co.disk)) h
     (reopen_low (reread co.disk) (reread_fits co.disk.kept co.disk.hidden h.kept h.hidden))

@@ -18,8 +18,9 @@ use Rattle.kx_model.specs.CoordinatorNode.{expires, reminds}
 use Rattle.kx_model.specs.Disk.{Reopening, Store}
 use Rattle.kx_model.specs.Groups.{judge_drop}
 use Rattle.kx_model.specs.Headline.{Always}
-use Rattle.kx_model.specs.Log.{Stored}
-use Rattle.kx_model.specs.PartitionNode.{Partition, changed, entries_of, partition_restarts, puts}
+use Rattle.kx_model.specs.Log.{MarkerFits, Stored}
+use Rattle.kx_model.specs.PartitionNode.{Partition, changed, entries_of, marker_of}
+use Rattle.kx_model.specs.PartitionNode.{partition_restarts, puts}
 use Rattle.kx_model.specs.Replies.{take_reply}
 use Rattle.kx_model.specs.Verification.{Request, Target, ToGroup, ToPartition, reply_for}
 use Rattle.kx_model.specs.World.{Event, World, Deliver, Make, Do, Expire, Remind, Drop, Put}
@@ -30,13 +31,19 @@ use Rattle.kx_model.specs.World.{to_client, to_node, to_partition, with_client, 
 use Rattle.kx_model.specs.World.{with_partition}
 use Rattle.kx_headline.proofs.ClientRequests.{AwaitsRequests, HandsRequests, IsRequest}
 use Rattle.kx_headline.proofs.ClientRequests.{command_requests, reply_requests}
-use Rattle.kx_headline.proofs.MarkerNumbers.{CoordinatorFits, MessageFits, StepFits, expires_fits}
+use Rattle.kx_headline.proofs.MarkerNumbers.{CoordinatorFits, CoordinatorHands, StepFits}
+use Rattle.kx_headline.proofs.MarkerNumbers.{expires_fits}
 use Rattle.kx_headline.proofs.MarkerNumbers.{new_fits, reminds_fits, restarts_fits, takes_fits}
 use Rattle.kx_headline.proofs.PartitionDoes.{IsPaired, IsReading, node_does}
 use Rattle.kx_headline.proofs.PartitionDoes as does
 use Rattle.kx_headline.proofs.PartitionEvents.{PartitionsHold, pairs, start_holds, step_holds}
 use Rattle.kx_headline.proofs.PartitionEvents.{there_holds}
 use Rattle.kx_headline.proofs.PartitionHolds.{MarkersFit}
+
+abbrev pub MessageFits : Message → Type 0
+MessageFits (msg.WriteMarker partition txn held coordinator outcome) =
+    MarkerFits (marker_of held coordinator outcome)
+MessageFits m = Unit {0}
 
 pub record NumbersFit (w : World) : Type 0 where
   pub coordinator : CoordinatorFits w.coordinator
@@ -57,6 +64,10 @@ reading_fits m is = tt
 request_fits : (m : Message) → IsRequest m → MessageFits m
 request_fits (msg.WriteMarker partition txn held coordinator outcome) is = absurd is
 request_fits m is = tt
+
+hands_fit : (m : Message) → CoordinatorHands m → MessageFits m
+hands_fit (msg.WriteMarker partition txn held coordinator outcome) h = h
+hands_fit m h = tt
 
 out_fits : (number : ℕ) (p : Partition) (input : Option Message) (log : List Stored)
     (m : Message) → does.Out number p input log m → MessageFits m
@@ -92,7 +103,8 @@ coordinated_fits : (w : World) (s : Coordinated) → NumbersFit w → StepFits s
 coordinated_fits w s h f = record {
   coordinator = f.node;
   clients = h.clients;
-  sent = with_more w s.1 h.sent f.out;
+  sent = with_more w s.1 h.sent
+      (All-weaker CoordinatorHands MessageFits hands_fit s.1 f.out);
 }
 
 partition_fits : (w : World) (number : ℕ) (p : Partition) (sent : List Message) → NumbersFit w
@@ -132,7 +144,7 @@ to_client_fits w m None h a = h
 to_client_fits w m (Some c) h a =
     client_fits w (take_reply c m) [] h (reply_requests c m a) (All-nil MessageFits)
 
-at_client : (w : World) (number : ℕ) → NumbersFit w → IfSome (client_at w number) AwaitsRequests
+pub at_client : (w : World) (number : ℕ) → NumbersFit w → IfSome (client_at w number) AwaitsRequests
 at_client w number h =
     find_holds AwaitsRequests (λ c. c.number == number) w.clients h.clients
 
@@ -184,7 +196,7 @@ made_fits w number txn timeout h =
     (All-cons AwaitsRequests c [] (All-nil IsRequest) (All-nil AwaitsRequests)))
     (λ e. h.clients)
 
-step_fits : (w : World) (event : Event) → NumbersFit w → PartitionsHold w
+pub step_fits : (w : World) (event : Event) → NumbersFit w → PartitionsHold w
     → NumbersFit (step w event).0
 unfolding step
 step_fits w (Deliver which store) h all = delivered_fits w store (slice_get w.sent which) h all
@@ -213,6 +225,13 @@ step_fits w (RestartCoordinator how) h all =
 step_fits w (RestartPartition number how) h all =
     restarts_at_fits w number how (partition_at w number) h
 
+pub start_fits : (count : ℕ) → NumbersFit (start count)
+start_fits count = record {
+  coordinator = new_fits;
+  clients = All-nil AwaitsRequests;
+  sent = All-nil MessageFits;
+}
+
 numbers_fit : (events : List Event) (w : World) → NumbersFit w → PartitionsHold w
     → NumbersFit (run events w)
 unfolding run
@@ -220,14 +239,13 @@ numbers_fit [] w h all = h
 numbers_fit (event ∷ events) w h all =
     numbers_fit events (step w event).0 (step_fits w event h all) (step_holds w event all)
 
-pub markers_fit : Always (λ w. MarkersFit w.sent)
-markers_fit partitions events schedule number txn held coordinator outcome c =
-    let w = run events (start partitions) in
-    let h = numbers_fit events (start partitions)
-    (record {
-      coordinator = new_fits;
-      clients = All-nil AwaitsRequests;
-      sent = All-nil MessageFits;
-    })
-    (start_holds partitions) in
+-- the markers that are handed out fit
+pub sent_fit : (w : World) → NumbersFit w → MarkersFit w.sent
+sent_fit w h number txn held coordinator outcome c =
     All-contains MessageFits w.sent (msg.WriteMarker number txn held coordinator outcome) h.sent c
+
+pub markers_fit : Always (λ w. MarkersFit w.sent)
+markers_fit partitions events schedule =
+    let h = numbers_fit events (start partitions) (start_fits partitions)
+    (start_holds partitions) in
+    sent_fit (run events (start partitions)) h

@@ -175,7 +175,8 @@ restarts_at_holds w number how (Some p) all there =
     quietly w number p (partition_restarts p how) all there
     (λ st. (restarts_does number p None how st).state)
 
-found_in : {A : Type 0} (items : List A) (o : Option A) (i : ℕ) → slice_get items i ≡ o
+-- what is found in a list is one of its elements
+pub found_in : {A : Type 0} (items : List A) (o : Option A) (i : ℕ) → slice_get items i ≡ o
     → IfSome o (Contains items)
 found_in items None i e = tt
 found_in items (Some x) i e = get_contains items i x e

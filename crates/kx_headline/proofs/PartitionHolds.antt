@@ -76,7 +76,7 @@ module _ (sent : List Message) (number : ℕ) where
 
 module _ (sent later : List Message) (number : ℕ)
     (more : (m : Message) → Contains sent m → Contains later m) where
-  asked_later : (r : Request) → WasAsked sent number r → WasAsked later number r
+  pub asked_later : (r : Request) → WasAsked sent number r → WasAsked later number r
   asked_later r w = record {
     message = w.message;
     handed = more w.message w.handed;
