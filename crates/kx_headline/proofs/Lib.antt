@@ -26,6 +26,7 @@ pub mod ShownRecords
 pub mod Spans
 pub mod Splits
 pub mod StablePart
+pub mod StoredOnce
 pub mod StoredTexts
 pub mod Verdicts
 pub mod WorldReaders

@@ -452,7 +452,8 @@ expires_row_fits : (co : Coordinator) (store : Store) (o : Option Row) → Coord
     → IfSome o RowLow → StepFits (expires_row co store o)
 expires_row_fits co store None h low = none_out co h
 expires_row_fits co store (Some r) h low =
-    writes_fits co store (Written r) [] [] h low (All-nil CoordinatorHands) (All-nil CoordinatorHands)
+    writes_fits co store (Written r) [] [] h low (All-nil CoordinatorHands)
+    (All-nil CoordinatorHands)
 
 pub expires_fits : (co : Coordinator) (now : ℕ) (store : Store) → CoordinatorFits co
     → StepFits (expires co now store)

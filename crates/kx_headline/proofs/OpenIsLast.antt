@@ -13,7 +13,8 @@ use Rattle.kx_model.specs.Log.{Entry, Plain, Data, Control, Placed, Sequenced, e
 use Rattle.kx_model.specs.Producers.{epoch_in, epoch_of, greater}
 use Rattle.kx_model.specs.Transactions.{is_marker_of, unclosed}
 use Rattle.kx_headline.proofs.GrownLogs.{Admits}
-use Rattle.kx_headline.proofs.LogRules.{AtLeast, admitted_batch, batch_no_lower, batch_tells}
+use Rattle.kx_headline.proofs.LogRules.{AtLeast, admitted_batch, batch_epoch, batch_no_lower}
+use Rattle.kx_headline.proofs.LogRules.{batch_tells}
 use Rattle.kx_headline.proofs.Membership.{any_keeps, cons_cases, contains_head, contains_tail}
 use Rattle.kx_headline.proofs.Membership.{in_the_middle, none_holds, split_at}
 use Rattle.kx_headline.proofs.OpenBatches.{StandsOpen, standing_is_listed}
@@ -30,12 +31,6 @@ within_a_transaction false opened e is = absurd cc
 no_higher : (id other epoch new : ℕ) → ((id == other) && ltb epoch new) ≡ false → id ≡ other
     → new ≤ epoch
 no_higher id other epoch new e same = grind (arith, nat_tests, e, same)
-
-its_epoch : (d : Sequenced) (id : ℕ) → d.id ≡ id → epoch_in id (Data d) ≡ Some d.epoch
-its_epoch d id same = at (d.id == id) (grind (arith, nat_tests, same))
-  where
-    at : (b : Bool) → b ≡ true → cond b (Some d.epoch) None ≡ Some d.epoch
-    at b e = ap (λ b. cond b (Some d.epoch) None) e
 
 -- a batch of the id behind an open one is of the same transaction
 pub goes_on : (before between : List Entry) (d next : Sequenced)
@@ -61,7 +56,7 @@ goes_on before between d next a t none same =
         arith,
         no_higher d.id next.id d.epoch next.epoch low (sym same),
         batch_no_lower log next (Data d) d.epoch a (in_the_middle before between (Data d))
-            (its_epoch d next.id (sym same)),
+            (batch_epoch d next.id (sym same)),
       ),
     )
 

@@ -1,7 +1,7 @@
 -- What the messages that a partition hands out promise of its log, for good: a reply of code 0 to a
 -- marker that the epoch is reached, one to a batch that it stands.
 use Rattle.std.proofs.Common.{◌≡◌, ℕ, ℤ, pos, negsuc, ◌+◌, ◌≤◌, Bool, true}
-use Rattle.std.proofs.Common.{cond, ltb, List, [], ◌∷◌, ◌++◌, Option, Some, None, ◌==◌, All}
+use Rattle.std.proofs.Common.{cond, ltb, List, [], ◌∷◌, ◌++◌, Option, Some, None, All}
 use Rattle.std.proofs.Common.{Contains, refl, sym, ap, ◌∙◌, subst, arith}
 use Rattle.std.specs.Prelude.{◌≢◌}
 use Rattle.std.proofs.lemmas.Bool.{cond_both}
@@ -23,12 +23,12 @@ use Rattle.kx_model.specs.PartitionNode.{Partition, Served, marker_of}
 use Rattle.kx_model.specs.Produce.{Appends, Answers, MarkerVerdict, Duplicate, Next, ends_another}
 use Rattle.kx_model.specs.Produce.{greatest_offset, is_at_most, is_fenced, judge_entry}
 use Rattle.kx_model.specs.Produce.{judge_marker, marked_by, text_of}
-use Rattle.kx_model.specs.Producers.{epoch_in, epoch_of}
+use Rattle.kx_model.specs.Producers.{epoch_of}
 use Rattle.kx_model.specs.Verification.{Request, Target, ToGroup, ToPartition, judge_request}
 use Rattle.kx_model.specs.Verification.{partition_of, reply_for}
 use Rattle.kx_headline.proofs.Duplicates.{StoredLike, duplicate_stands}
 use Rattle.kx_headline.proofs.GrownLogs.{batch_is, marker_is}
-use Rattle.kx_headline.proofs.LogRules.{AtLeast, reaches}
+use Rattle.kx_headline.proofs.LogRules.{AtLeast, marker_epoch, reaches}
 use Rattle.kx_headline.proofs.Membership.{in_the_middle, map_keeps}
 use Rattle.kx_headline.proofs.OpenIsLast.{reached_by}
 use Rattle.kx_headline.proofs.PartitionDoes.{IsReading, behind}
@@ -130,12 +130,6 @@ stored_promises sent number log r offset (ToGroup group member generation) n s =
 
 ------ markers
 
-its_epoch : (m : Marker) → epoch_in m.id (Control m) ≡ Some m.epoch
-its_epoch m = at (m.id == m.id) (grind (arith, nat_tests))
-  where
-    at : (b : Bool) → b ≡ true → cond b (Some m.epoch) None ≡ Some m.epoch
-    at b e = ap (λ b. cond b (Some m.epoch) None) e
-
 at_most_reached : (n : ℕ) (o : Option ℕ) → is_at_most n o ≡ true → AtLeast n o
 at_most_reached n None h = absurd cc
 at_most_reached n (Some m) h = grind (arith, nat_tests, h)
@@ -230,7 +224,7 @@ module _ (sent : List Message) (number : ℕ) (p : Partition) (input : Option Me
       reaches (entries log) (Control m) held.id held.epoch
       (subst (Contains (entries log)) is
       (last_there p.disk.kept log (behind p.disk.kept (text_of m)) g))
-      (its_epoch m)
+      (marker_epoch m held.id refl)
 
   out_promises : (log : List Stored) → GrowsTo p.disk.kept log → (m : Message)
       → does.Out number p input log m → Promises sent number log m
