@@ -147,7 +147,8 @@ stored_as d e i k f =
     (grind (arith, nat_tests, k)))
     (grind (arith, nat_tests, f))
 
-built_in : (sent : List Message) (q : ℕ) (o : Option Partition)
+-- the log of a partition that holds is built, and where there is none it is empty
+pub built_in : (sent : List Message) (q : ℕ) (o : Option Partition)
     → IfSome o (PartitionHolds sent q) → Built sent q (log_in o)
 built_in sent q None h = holds.start
 built_in sent q (Some p) h = h.log
