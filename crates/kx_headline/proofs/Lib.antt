@@ -3,6 +3,7 @@ pub mod ClientRequests
 pub mod ClosedByCommit
 pub mod CommittedRecords
 pub mod Duplicates
+pub mod FromMarkers
 pub mod FromTheCoordinator
 pub mod GetsExactlyVisible
 pub mod GrownLogs
