@@ -80,7 +80,7 @@ pub no_first_row : (r : Row) → Contains (CoordinatorEpoch 1 ∷ []) (Written r
 no_first_row r c =
     ⊎_elim (λ e. cc) (no_element (Written r)) (cons_cases (CoordinatorEpoch 1) (Written r) [] c)
 
-first_sound : Sound (CoordinatorEpoch 1 ∷ [])
+pub first_sound : Sound (CoordinatorEpoch 1 ∷ [])
 first_sound = record {
   current = λ r c. absurd (no_first_row r c);
   one_txn = λ r s id c. absurd (no_first_row r c);

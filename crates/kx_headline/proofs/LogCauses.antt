@@ -21,7 +21,8 @@ use Rattle.kx_model.specs.Producers.{is_of}
 use Rattle.kx_model.specs.Transactions.{is_open, unclosed}
 use Rattle.kx_model.specs.Verification.{Request, pair_in, pair_of}
 use Rattle.kx_model.proofs.Logs.{entries-push}
-use Rattle.kx_headline.proofs.GrownLogs.{KindOf, control_kind, data_kind, plain_kind, batch_is}
+use Rattle.kx_headline.proofs.GrownLogs.{no_batch_is_marker, same_marker, KindOf, control_kind}
+use Rattle.kx_headline.proofs.GrownLogs.{data_kind, plain_kind, batch_is}
 use Rattle.kx_headline.proofs.GrownLogs.{kind_of, marker_is}
 use Rattle.kx_headline.proofs.LogRules.{batch_tells}
 use Rattle.kx_headline.proofs.Membership.{any_holds, in_the_middle, no_element}
@@ -66,12 +67,6 @@ module _ (sent : List Message) (number : ℕ) where
     pub is : marker_of held coordinator outcome ≡ m
     pub verdict : judge_marker (entries before) m ≡ Appends
 
-  no_batch_is_marker : (d : Sequenced) (m : Marker) → Data d ≡ Control m → ⊥
-  no_batch_is_marker d m e = cc
-
-  same_control : (m n : Marker) → Control m ≡ Control n → m ≡ n
-  same_control m n e = cc
-
   no_id : (n : ℕ) → negsuc 0 ≡ pos n → ⊥
   no_id n e = cc
 
@@ -101,7 +96,8 @@ module _ (sent : List Message) (number : ℕ) where
       → judge_text (entries before) verified text ≡ Next
       → entry_of (behind before text) ≡ Control m → ⊥
   not_a_marker before verified text m e is =
-      let entry : entry_in (batch_of text) ≡ Control m = sym (batch_is before verified text e) ∙ is in
+      let entry : entry_in (batch_of text) ≡ Control m =
+      sym (batch_is before verified text e) ∙ is in
       let refused = ap (judge_entry (entries before) verified) (sym entry)
       ∙ (judged_text (entries before) verified text e).judged in
       cc
@@ -146,7 +142,7 @@ module _ (sent : List Message) (number : ℕ) where
             (ap entry_of (sym same) ∙ is))
         by text same (ended txn held coordinator outcome h j) =
             let n = marker_of held coordinator outcome in
-            let one = same_control n m
+            let one = same_marker n m
             (sym (marker_is before n (fit number txn held coordinator outcome h) j)
             ∙ ap entry_of (sym same) ∙ is) in
             record {

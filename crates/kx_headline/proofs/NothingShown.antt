@@ -5,7 +5,6 @@ use Rattle.std.proofs.Common.{None, Contains, refl, sym, ap, ◌∙◌, subst, a
 use Rattle.std.specs.Prelude.{◌≢◌, nat_lt, not}
 use Rattle.std.specs.List.{flat_map}
 use Rattle.std.specs.Option.{option_map_or}
-use Rattle.std.proofs.lemmas.List.Elements.{Contains-append_cases}
 use Rattle.std.proofs.lemmas.List.Sums.{sum_by-cons}
 use Rattle.kx_wire.specs.declared.outcome.Outcome.{Outcome}
 use Rattle.kx_wire.specs.declared.outcome.Outcome.TheVariants.{Abort, Commit}
@@ -17,9 +16,10 @@ use Rattle.kx_model.specs.Reading.{Shown, committed_records, numbered, standing,
 use Rattle.kx_model.specs.Transactions.{last_stable_offset}
 use Rattle.kx_model.specs.World.{World, entries_at, log_at, notes}
 use Rattle.kx_headline.proofs.CommittedRecords.{Between, in_page, standing_between}
-use Rattle.kx_headline.proofs.Membership.{cons_cases, contains_head, contains_tail, filter_holds}
+use Rattle.kx_headline.proofs.Membership.{cons_cases, filter_holds}
+use Rattle.kx_headline.proofs.Membership.{flat_map_holds}
 use Rattle.kx_headline.proofs.Membership.{no_element}
-use Rattle.kx_headline.proofs.PartitionEvents.{PartitionsHold}
+use Rattle.kx_headline.proofs.PartitionsAlways.{PartitionsHold}
 use Rattle.kx_headline.proofs.PartitionHolds.{MarkersFit}
 use Rattle.kx_headline.proofs.Spans.{end_behind}
 use Rattle.kx_headline.proofs.Splits.{Beside, beside, earlier, later, same_place}
@@ -51,14 +51,6 @@ stands_at n (entry ∷ log) p c =
       offset = omega (arith, s.offset, sum_by-cons width entry s.before);
     })
     (cons_cases (record { offset = n; item = entry }) p (placed_from (n + width entry) log) c)
-
-flat_map_holds : {A B : Type 0} (f : A → List B) (items : List A) (y : B)
-    → Contains (flat_map f items) y → (x : A) × Contains items x × Contains (f x) y
-flat_map_holds f [] y c = absurd (no_element y c)
-flat_map_holds f (x ∷ items) y c =
-    ⊎_elim (λ c. (x, contains_head x items, c))
-    (λ c. let h = flat_map_holds f items y c in (h.0, contains_tail x h.0 items h.1, h.2))
-    (Contains-append_cases (f x) (flat_map f items) y c)
 
 between_holds : (low high : ℕ) (records : List Shown) (s : Shown) → Between low high records
     → Contains records s → (low ≤ s.offset) × (s.offset < high)

@@ -1,6 +1,6 @@
 -- Each open transaction of a log is owed its marker: its partition was told that it is listed, and
 -- an answered marker would have closed it.
-use Rattle.std.proofs.Common.{sym, ◌≡◌, ℕ, ◌+◌, ◌≤◌, true}
+use Rattle.std.proofs.Common.{sym, ◌≡◌, ℕ, ◌+◌, ◌≤◌, List, true}
 use Rattle.std.proofs.Common.{Contains}
 use Rattle.std.proofs.Common.{subst, ⊎_elim, arith}
 use Rattle.std.proofs.lemmas.List.Elements.{All-contains}
@@ -9,13 +9,13 @@ use Rattle.kx_wire.specs.declared.message.Held.{Held}
 use Rattle.kx_wire.specs.declared.message.Message.TheVariants as msg
 use Rattle.kx_model.specs.Coordinator.{owed}
 use Rattle.kx_model.specs.Log.{Data, Placed, Sequenced}
+use Rattle.kx_model.specs.Producers.{epoch_of}
 use Rattle.kx_model.specs.Transactions.{open_transactions, unclosed}
 use Rattle.kx_model.specs.World.{World, entries_at, log_at, notes}
 use Rattle.kx_headline.proofs.CoordinatorAlways.{CoordinatorStands, stands_sound}
 use Rattle.kx_headline.proofs.CoordinatorDoes.{Says}
 use Rattle.kx_headline.proofs.CoordinatorTables.{Listed}
 use Rattle.kx_headline.proofs.AbortedTransactions.{first_is_listed}
-use Rattle.kx_headline.proofs.AnsweredMarkers.{AnsweredReached}
 use Rattle.kx_headline.proofs.LogCauses.{transactional_is_added}
 use Rattle.kx_headline.proofs.MarkersFit.{markers_fit}
 use Rattle.kx_headline.proofs.Membership.{in_the_middle}
@@ -24,6 +24,12 @@ use Rattle.kx_headline.proofs.OpenTop.{open_at_top}
 use Rattle.kx_headline.proofs.PartitionHolds.{Built, built_grown}
 use Rattle.kx_headline.proofs.LogRules.{AtLeast}
 use Rattle.kx_headline.proofs.OwedRows.{IsAnswered, owed_is, owes}
+
+-- an answered marker has brought its id to its epoch
+abbrev pub AnsweredReached : World → Type 0
+AnsweredReached w = (p : ℕ) (txn : List ℕ) (held : Held)
+    → Contains w.sent (msg.MarkerReply p txn held NoError)
+    → AtLeast held.epoch (epoch_of (entries_at w p) held.id)
 
 -- an open transaction of a partition is owed its marker
 pub open_owed : (w : World) → CoordinatorStands w → AnsweredReached w → (p : ℕ)

@@ -7,25 +7,27 @@ use Rattle.kx_model.specs.Headline.{Always, GetsExactlyVisible, HasOneOutcome, M
 use Rattle.kx_model.specs.Headline.{NothingCommits}
 use Rattle.kx_model.specs.Headline.{OffsetsWithTheirTransaction, OpenIsOwed}
 use Rattle.kx_model.specs.Log.{Control, Stored, entries, entry_of}
+use Rattle.kx_wire.specs.declared.code.ErrorCode.TheVariants.{NoError}
 use Rattle.kx_wire.specs.declared.message.Message.TheVariants as msg
 use Rattle.kx_model.proofs.Logs.{entries-push}
-use Rattle.std.proofs.lemmas.List.Elements.{Contains-push_cases}
+use Rattle.std.proofs.lemmas.List.Elements.{All-contains, Contains-push_cases}
 use Rattle.kx_model.specs.PartitionNode.{Partition}
 use Rattle.kx_model.specs.World.{World, log_at, log_in, partition_at, run, start}
-use Rattle.kx_headline.proofs.AnsweredMarkers.{LogsStand, logs_stand_always}
+use Rattle.kx_headline.proofs.PartitionsAlways.{PartitionsStand, Promised, partitions_stand_always}
 use Rattle.kx_headline.proofs.Fencing.{fenced_never, no_commit_marker}
-use Rattle.kx_headline.proofs.GetsExactlyVisible.{gets_exactly_visible, shows_nothing}
+use Rattle.kx_headline.proofs.NothingShown.{not_shown}
+use Rattle.kx_headline.proofs.WorldReaders.{gives_visible}
 use Rattle.kx_headline.proofs.LogCauses.{MarkerCause, marker_came}
 use Rattle.kx_headline.proofs.MarkersFit.{markers_fit}
 use Rattle.kx_headline.proofs.Membership.{no_element}
 use Rattle.kx_headline.proofs.PartitionDoes.{behind}
 use Rattle.kx_headline.proofs.OffsetsFollow.{follows_decisions}
 use Rattle.kx_headline.proofs.OneOutcome.{AreAsked, IsAsked, has_one_outcome}
-use Rattle.kx_headline.proofs.OpenOwed.{open_owed}
+use Rattle.kx_headline.proofs.OpenOwed.{AnsweredReached, open_owed}
 use Rattle.kx_headline.proofs.PartitionHolds.{Built, MarkersFit, PartitionHolds}
 use Rattle.kx_headline.proofs.PartitionHolds
 
-module _ (w : World) (h : LogsStand w) where
+module _ (w : World) (h : PartitionsStand w) where
   log_built : (p : ℕ) → Built w.sent p (log_at w p)
   log_built p = by (partition_at w p) (h.holds p)
     where
@@ -38,7 +40,7 @@ module _ (w : World) (h : LogsStand w) where
   are_asked p m c = by (log_at w p) (log_built p) c
     where
       fit : MarkersFit w.sent
-      fit = markers_fit w h.stands
+      fit = markers_fit w h.coordinator
 
       by : (log : List Stored) → Built w.sent p log → Contains (entries log) (Control m)
           → IsAsked w m
@@ -60,28 +62,32 @@ module _ (w : World) (h : LogsStand w) where
           }
 
   pub one_outcome : HasOneOutcome w
-  one_outcome = has_one_outcome w h.stands are_asked
+  one_outcome = has_one_outcome w h.coordinator are_asked
+
+  -- an answered marker has brought its id to its epoch
+  answered_reached : AnsweredReached w
+  answered_reached p txn held there =
+      All-contains (Promised w) w.sent (msg.MarkerReply p txn held NoError) h.promised there
 
 pub markers_agree : MarkersAgree
 markers_agree count events fits =
-    one_outcome (run events (start count)) (logs_stand_always count events fits)
-
-pub markers_fit_always : Always (λ w. MarkersFit w.sent)
-markers_fit_always count events fits =
-    markers_fit (run events (start count)) (logs_stand_always count events fits).stands
+    one_outcome (run events (start count)) (partitions_stand_always count events fits)
 
 pub readers_get_what_is_visible : GetsExactlyVisible
-readers_get_what_is_visible = gets_exactly_visible markers_agree markers_fit_always
+readers_get_what_is_visible count events fits q from room within =
+    let w = run events (start count) in
+    let h = partitions_stand_always count events fits in
+    gives_visible w h.holds (markers_fit w h.coordinator) (one_outcome w h) q from room
 
 pub nothing_commits : NothingCommits
 nothing_commits count events fits id epoch fenced =
     let w = run events (start count) in
-    let h = logs_stand_always count events fits in
-    let un = fenced_never h.stands.coordinator.history id epoch fenced in
+    let h = partitions_stand_always count events fits in
+    let un = fenced_never h.coordinator.coordinator.history id epoch fenced in
     record {
       undecided = un;
       no_marker = no_commit_marker w (one_outcome w h) id epoch un;
-      not_shown = shows_nothing markers_agree markers_fit_always count events fits id epoch un;
+      not_shown = not_shown w h.holds (markers_fit w h.coordinator) (one_outcome w h) id epoch un;
     }
 
 pub offsets_with_their_transaction : OffsetsWithTheirTransaction
@@ -91,5 +97,5 @@ offsets_with_their_transaction count events fits =
 pub open_is_owed : OpenIsOwed
 open_is_owed count events fits p =
     let w = run events (start count) in
-    let h = logs_stand_always count events fits in
-    open_owed w h.stands h.answered p (log_built w h p)
+    let h = partitions_stand_always count events fits in
+    open_owed w h.coordinator (answered_reached w h) p (log_built w h p)

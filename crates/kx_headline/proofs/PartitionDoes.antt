@@ -113,7 +113,8 @@ module _ (number : ℕ) (p : Partition) (input : Option Message) where
 
   -- what a message that goes out rests on
   pub data Out (log : List Stored) : Message → Type 0 where
-    done : (r : Request) (earlier : List Stored) → Origin r
+    done : (r : Request) (earlier : List Stored) (verified : Bool) → Origin r
+        → judge_request (entries earlier) verified r ≡ Next
         → GrowsTo (earlier ++ behind earlier r.text ∷ []) log
         → Out log (reply_to r code.NoError (pos (end (entries earlier))))
     again : (r : Request) (offset : ℕ) (earlier : List Stored) (verified : Bool) → Origin r
@@ -170,8 +171,8 @@ module _ (number : ℕ) (p : Partition) (input : Option Message) where
 
   out_later : (log later : List Stored) → GrowsTo log later → (x : Message) → Out log x
       → Out later x
-  out_later log later g x (done r earlier o h) =
-      done r earlier o (grows_on (earlier ++ behind earlier r.text ∷ []) log later h g)
+  out_later log later g x (done r earlier v o j h) =
+      done r earlier v o j (grows_on (earlier ++ behind earlier r.text ∷ []) log later h g)
   out_later log later g x (again r offset earlier v o was h j) =
       again r offset earlier v o was (grows_on earlier log later h g) j
   out_later log later g x (refused r c o n) = refused r c o n
@@ -282,7 +283,7 @@ module _ (number : ℕ) (p : Partition) (input : Option Message) where
         out = by_written (is_written q.disk store) log (log ++ behind log r.text ∷ [])
             (λ after c offset. All (Out after) (reply_to r c offset ∷ [])) (at_end q)
             (one (log ++ behind log r.text ∷ []) (reply_to r code.NoError (pos (at_end q)))
-            (done r log o (same (log ++ behind log r.text ∷ []))))
+            (done r log verified o e (same (log ++ behind log r.text ∷ []))))
             (one log (reply_to r code.KafkaStorageError (negsuc 0))
             (refused r code.KafkaStorageError o storage_fails));
       }

@@ -25,6 +25,7 @@ use Rattle.kx_model.specs.Verification.{Target, ToGroup, ToPartition, judge_targ
 use Rattle.kx_headline.specs.Grown.{IsGrown, Unwritten, WithBatch, WithMarker}
 use Rattle.kx_headline.proofs.PartitionDoes.{HasNoProducer, IsPaired, behind}
 use Rattle.kx_headline.proofs.PartitionDoes as does
+use Rattle.kx_headline.proofs.StoredTexts.{Accepts}
 
 -- given the messages, of the partition of this number
 module _ (sent : List Message) (number : ℕ) where
@@ -75,7 +76,7 @@ module _ (sent : List Message) (number : ℕ) where
 
 module _ (sent later : List Message) (number : ℕ)
     (more : (m : Message) → Contains sent m → Contains later m) where
-  asked_later : (r : Request) → WasAsked sent number r → WasAsked later number r
+  pub asked_later : (r : Request) → WasAsked sent number r → WasAsked later number r
   asked_later r w = record {
     message = w.message;
     handed = more w.message w.handed;
@@ -128,7 +129,7 @@ pub data Comes (sent : List Message) (number : ℕ) : Option Message → Type 0 
 
 module _ (sent : List Message) (number : ℕ) (p : Partition) (input : Option Message)
     (holds : PartitionHolds sent number p) (comes : Comes sent number input) where
-  handed_out : (m : Message) → input ≡ Some m
+  pub handed_out : (m : Message) → input ≡ Some m
       → Contains sent m × (receiver_of m ≡ node.Partition number)
   handed_out m e = by input comes e
     where
@@ -142,7 +143,7 @@ module _ (sent : List Message) (number : ℕ) (p : Partition) (input : Option Me
   same_number : (a b : ℕ) → node.Partition a ≡ node.Partition b → a ≡ b
   same_number a b e = cc
 
-  origin_asked : (r : Request) → does.Origin number p input r → WasAsked sent number r
+  pub origin_asked : (r : Request) → does.Origin number p input r → WasAsked sent number r
   origin_asked r (does.came m i e n) =
       record { message = m; handed = (handed_out m i).0; is = e; here = n }
   origin_asked r (does.waited x c e) =
@@ -211,20 +212,27 @@ MarkersFit sent =
     → Contains sent (msg.WriteMarker partition txn held coordinator outcome)
     → MarkerFits (marker_of held coordinator outcome)
 
-unless : (b : Bool) (code : ErrorCode) (v : Verdict) → cond b (Refused code) v ≡ Next → v ≡ Next
-unless true code v e = absurd cc
-unless false code v e = e
+unless : (b : Bool) (code : ErrorCode) (v verdict : Verdict) → Accepts verdict
+    → cond b (Refused code) v ≡ verdict → v ≡ verdict
+unless true code v verdict some e = absurd (some code e)
+unless false code v verdict some e = e
 
--- the text of a request that is to be appended is to be appended
-pub text_next : (log : List Entry) (verified : Bool) (text : List ℕ) (target : Target)
-    → judge_target log verified text target ≡ Next → judge_text log verified text ≡ Next
-text_next log verified text (ToPartition partition) e = e
-text_next log verified text (ToGroup group member named) e =
+-- the text of a request that isn't refused is judged alike
+pub text_verdict : (log : List Entry) (verified : Bool) (text : List ℕ) (target : Target)
+    (verdict : Verdict) → Accepts verdict → judge_target log verified text target ≡ verdict
+    → judge_text log verified text ≡ verdict
+text_verdict log verified text (ToPartition partition) verdict some e = e
+text_verdict log verified text (ToGroup group member named) verdict some e =
     let judged = judge_text log verified text in
     let old = not (int_eq named (pos (generation log group))) in
-    unless old IllegalGeneration judged
+    unless old IllegalGeneration judged verdict some
     (unless (not (is_member log group member)) UnknownMemberId
-    (cond old (Refused IllegalGeneration) judged) e)
+    (cond old (Refused IllegalGeneration) judged) verdict some e)
+
+pub text_next : (log : List Entry) (verified : Bool) (text : List ℕ) (target : Target)
+    → judge_target log verified text target ≡ Next → judge_text log verified text ≡ Next
+text_next log verified text target e =
+    text_verdict log verified text target Next (λ code h. cc) e
 
 pub built_grown : (sent : List Message) (number : ℕ) (log : List Stored) → MarkersFit sent
     → Built sent number log → IsGrown log

@@ -19,7 +19,7 @@ use Rattle.kx_headline.proofs.CommittedRecords.{gives_standing}
 use Rattle.kx_headline.proofs.GrownLogs.{Admits, each_admitted, each_stands}
 use Rattle.kx_headline.proofs.LogRules.{closes_its_own}
 use Rattle.kx_headline.proofs.Membership.{in_the_middle}
-use Rattle.kx_headline.proofs.PartitionEvents.{PartitionsHold}
+use Rattle.kx_headline.proofs.PartitionsAlways.{PartitionsHold}
 use Rattle.kx_headline.proofs.PartitionHolds.{MarkersFit, PartitionHolds, built_grown}
 use Rattle.kx_headline.proofs.Reading.{KnowsClosed}
 use Rattle.kx_headline.proofs.Splits.{Each}
