@@ -1,7 +1,8 @@
 pub mod AbortedTransactions
-pub mod ClientRequests
+pub mod ClientMessages
 pub mod ClosedByCommit
 pub mod CommittedRecords
+pub mod DroppedIds
 pub mod Duplicates
 pub mod FromMarkers
 pub mod FromTheCoordinator
@@ -19,10 +20,9 @@ pub mod Pages
 pub mod PartitionDoes
 pub mod PartitionEvents
 pub mod PartitionHolds
-pub mod ReadPages
 pub mod PartitionPromises
 pub mod PromisesKept
-pub mod Reading
+pub mod ReaderSteps
 pub mod Sequences
 pub mod ShownRecords
 pub mod Spans

@@ -29,8 +29,8 @@ use Rattle.kx_model.specs.World.{data_partition_at, delivered, does, is_new, nod
 use Rattle.kx_model.specs.World.{partition_at, plain_text, puts_at, restarts_at, run, start, step}
 use Rattle.kx_model.specs.World.{to_client, to_node, to_partition, with_client, with_coordinator}
 use Rattle.kx_model.specs.World.{with_partition}
-use Rattle.kx_headline.proofs.ClientRequests.{AwaitsRequests, HandsRequests, IsRequest}
-use Rattle.kx_headline.proofs.ClientRequests.{command_requests, reply_requests}
+use Rattle.kx_headline.proofs.ClientMessages.{AwaitsRequests, HandsRequests, IsRequest}
+use Rattle.kx_headline.proofs.ClientMessages.{command_requests, reply_requests}
 use Rattle.kx_headline.proofs.MarkerNumbers.{CoordinatorFits, CoordinatorHands, StepFits}
 use Rattle.kx_headline.proofs.MarkerNumbers.{expires_fits}
 use Rattle.kx_headline.proofs.MarkerNumbers.{new_fits, reminds_fits, restarts_fits, takes_fits}

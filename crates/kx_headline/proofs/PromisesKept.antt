@@ -30,8 +30,8 @@ use Rattle.kx_model.specs.World.{node_takes, partition_at, plain_text, puts_at, 
 use Rattle.kx_model.specs.World.{start, step, to_client, to_node, to_partition, with_client}
 use Rattle.kx_model.specs.World.{with_coordinator, with_partition}
 use Rattle.kx_model.proofs.Schedules.{partitions_grow}
-use Rattle.kx_headline.proofs.ClientRequests.{AwaitsRequests, HandsRequests, IsRequest}
-use Rattle.kx_headline.proofs.ClientRequests.{command_requests}
+use Rattle.kx_headline.proofs.ClientMessages.{AwaitsRequests, HandsRequests, IsRequest}
+use Rattle.kx_headline.proofs.ClientMessages.{command_requests}
 use Rattle.kx_headline.proofs.LogRules.{AtLeast}
 use Rattle.kx_headline.proofs.MarkerNumbers.{CoordinatorHands, StepFits, expires_fits}
 use Rattle.kx_headline.proofs.MarkerNumbers.{reminds_fits, restarts_fits, takes_fits}
