@@ -23,6 +23,7 @@ pub mod PartitionHolds
 pub mod PartitionPromises
 pub mod PromisesKept
 pub mod ReaderSteps
+pub mod SentBatches
 pub mod Sequences
 pub mod ShownRecords
 pub mod Spans
