@@ -27,7 +27,7 @@ use Rattle.kx_headline.proofs.OpenIsLast.{open_is_highest}
 use Rattle.kx_headline.proofs.PartitionEvents.{PartitionsHold}
 use Rattle.kx_headline.proofs.PartitionHolds.{MarkersFit}
 use Rattle.kx_headline.proofs.PromisesKept.{Promised, promises_kept}
-use Rattle.kx_headline.proofs.StoredOnce.{built_in}
+use Rattle.kx_headline.proofs.StoredRequests.{built_in}
 
 ------ markers agree
 

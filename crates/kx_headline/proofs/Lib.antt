@@ -21,6 +21,7 @@ pub mod PartitionDoes
 pub mod PartitionEvents
 pub mod PartitionHolds
 pub mod PartitionPromises
+pub mod PartitionsSay
 pub mod PromisesKept
 pub mod ReaderSteps
 pub mod SentBatches
@@ -30,6 +31,7 @@ pub mod Spans
 pub mod Splits
 pub mod StablePart
 pub mod StoredOnce
+pub mod StoredRequests
 pub mod StoredTexts
 pub mod Verdicts
 pub mod WorldReaders

@@ -81,10 +81,16 @@ last_there log later s g =
 
 ------ promises
 
--- a request of this client and correlation was handed out, and its batch stands
+-- a commit of offsets
+abbrev pub IsToGroup : Target → Type 0
+IsToGroup (ToPartition partition) = ⊥
+IsToGroup (ToGroup group member generation) = Unit {0}
+
+-- a request of this client and correlation was handed out, to such a target, and its batch stands
 pub record IsStored (sent : List Message) (number : ℕ) (log : List Stored)
-    (client correlation : ℕ) : Type 0 where
+    (client correlation : ℕ) (To : Target → Type 0) : Type 0 where
   pub request : Request
+  pub target : To request.target
   pub asked_for : WasAsked sent number request
   pub its_client : request.client ≡ client
   pub its_correlation : request.correlation ≡ correlation
@@ -95,9 +101,9 @@ abbrev pub Promises : List Message → ℕ → List Stored → Message → Type 
 Promises sent number log (msg.MarkerReply q txn held code.NoError) =
     (q ≡ number) × AtLeast held.epoch (epoch_of (entries log) held.id)
 Promises sent number log (msg.ProduceReply client correlation q code.NoError offset) =
-    (q ≡ number) × IsStored sent number log client correlation
+    (q ≡ number) × IsStored sent number log client correlation (λ t. t ≡ ToPartition q)
 Promises sent number log (msg.OffsetsReply client correlation code.NoError) =
-    (offsets_partition ≡ number) × IsStored sent number log client correlation
+    (offsets_partition ≡ number) × IsStored sent number log client correlation IsToGroup
 Promises sent number log m = Unit {0}
 
 reading_promises : (sent : List Message) (number : ℕ) (log : List Stored) (m : Message)
@@ -122,11 +128,14 @@ refusal_promises sent number log r c offset (ToPartition partition) n = tt
 refusal_promises sent number log r c offset (ToGroup group member generation) n = tt
 
 stored_promises : (sent : List Message) (number : ℕ) (log : List Stored) (r : Request)
-    (offset : ℤ) (target : Target) → partition_of target ≡ number
-    → IsStored sent number log r.client r.correlation
+    (offset : ℤ) (target : Target) → r.target ≡ target → partition_of target ≡ number
+    → ((To : Target → Type 0) → To r.target
+    → IsStored sent number log r.client r.correlation To)
     → Promises sent number log (reply_for r code.NoError offset target)
-stored_promises sent number log r offset (ToPartition partition) n s = (n, s)
-stored_promises sent number log r offset (ToGroup group member generation) n s = (n, s)
+stored_promises sent number log r offset (ToPartition partition) e n s =
+    (n, s (λ t. t ≡ ToPartition partition) e)
+stored_promises sent number log r offset (ToGroup group member generation) e n s =
+    (n, s IsToGroup (subst IsToGroup (sym e) tt))
 
 ------ markers
 
@@ -172,10 +181,11 @@ module _ (sent : List Message) (number : ℕ) (p : Partition) (input : Option Me
     (fit : MarkersFit sent) where
   done_stored : (log : List Stored) (r : Request) (earlier : List Stored) (verified : Bool)
       → does.Origin number p input r → judge_request (entries earlier) verified r ≡ Next
-      → GrowsTo (earlier ++ behind earlier r.text ∷ []) log
-      → IsStored sent number log r.client r.correlation
-  done_stored log r earlier verified o j g = record {
+      → GrowsTo (earlier ++ behind earlier r.text ∷ []) log → (To : Target → Type 0)
+      → To r.target → IsStored sent number log r.client r.correlation To
+  done_stored log r earlier verified o j g To t = record {
     request = r;
+    target = t;
     asked_for = origin_asked sent number p input holds comes r o;
     its_client = refl;
     its_correlation = refl;
@@ -194,14 +204,15 @@ module _ (sent : List Message) (number : ℕ) (p : Partition) (input : Option Me
 
   again_stored : (log : List Stored) (r : Request) (offset : ℕ) (earlier : List Stored)
       (verified : Bool) → does.Origin number p input r → GrowsTo earlier log
-      → judge_request (entries earlier) verified r ≡ Duplicate offset
-      → IsStored sent number log r.client r.correlation
-  again_stored log r offset earlier verified o g j =
+      → judge_request (entries earlier) verified r ≡ Duplicate offset → (To : Target → Type 0)
+      → To r.target → IsStored sent number log r.client r.correlation To
+  again_stored log r offset earlier verified o g j To t =
       let text = text_verdict (entries earlier) verified r.text r.target (Duplicate offset)
       (λ c h. cc) j in
       let read = judged_as (entries earlier) verified r.text (Duplicate offset) (λ c h. cc) text in
       record {
         request = r;
+        target = t;
         asked_for = origin_asked sent number p input holds comes r o;
         its_client = refl;
         its_correlation = refl;
@@ -229,10 +240,10 @@ module _ (sent : List Message) (number : ℕ) (p : Partition) (input : Option Me
   out_promises : (log : List Stored) → GrowsTo p.disk.kept log → (m : Message)
       → does.Out number p input log m → Promises sent number log m
   out_promises log grows m (does.done r earlier v o j g) =
-      stored_promises sent number log r _ r.target
+      stored_promises sent number log r _ r.target refl
       (origin_asked sent number p input holds comes r o).here (done_stored log r earlier v o j g)
   out_promises log grows m (does.again r offset earlier v o was g j) =
-      stored_promises sent number log r (pos offset) r.target
+      stored_promises sent number log r (pos offset) r.target refl
       (origin_asked sent number p input holds comes r o).here
       (again_stored log r offset earlier v o g j)
   out_promises log grows m (does.refused r c o n) =

@@ -23,6 +23,7 @@ use Rattle.kx_model.specs.PartitionNode.{Partition, Served, changed, entries_of}
 use Rattle.kx_model.specs.PartitionNode.{partition_restarts, puts}
 use Rattle.kx_model.specs.Producers.{epoch_of}
 use Rattle.kx_model.specs.Replies.{take_reply}
+use Rattle.kx_model.specs.Verification.{Target, ToPartition}
 use Rattle.kx_model.specs.World.{Event, World, Deliver, Make, Do, Expire, Remind, Drop, Put}
 use Rattle.kx_model.specs.World.{RestartCoordinator, RestartPartition, client_at, commanded}
 use Rattle.kx_model.specs.World.{data_partition_at, delivered, does, entries_at, log_at, log_in}
@@ -41,7 +42,8 @@ use Rattle.kx_headline.proofs.PartitionDoes.{node_does}
 use Rattle.kx_headline.proofs.PartitionEvents.{PartitionsHold, found_in, pairs, start_holds}
 use Rattle.kx_headline.proofs.PartitionEvents.{step_holds, there_holds}
 use Rattle.kx_headline.proofs.PartitionHolds.{MarkersFit, asked_later, message}
-use Rattle.kx_headline.proofs.PartitionPromises.{IsStored, Promises, like_stays, reached_stays}
+use Rattle.kx_headline.proofs.PartitionPromises.{IsStored, IsToGroup, Promises, like_stays}
+use Rattle.kx_headline.proofs.PartitionPromises.{reached_stays}
 use Rattle.kx_headline.proofs.PartitionPromises.{step_promises}
 
 -- a reply of code 0 to a marker means that its epoch is reached there, one to a batch that it
@@ -50,9 +52,9 @@ abbrev pub Promised : World → Message → Type 0
 Promised w (msg.MarkerReply q txn held NoError) =
     AtLeast held.epoch (epoch_of (entries_at w q) held.id)
 Promised w (msg.ProduceReply client correlation q NoError offset) =
-    IsStored w.sent q (log_at w q) client correlation
+    IsStored w.sent q (log_at w q) client correlation (λ t. t ≡ ToPartition q)
 Promised w (msg.OffsetsReply client correlation NoError) =
-    IsStored w.sent offsets_partition (log_at w offsets_partition) client correlation
+    IsStored w.sent offsets_partition (log_at w offsets_partition) client correlation IsToGroup
 Promised w m = Unit {0}
 
 pub record PromisesKept (w : World) : Type 0 where
@@ -65,11 +67,12 @@ record Later (w later : World) : Type 0 where
   sent : later.sent ≡ w.sent ++ more
   logs : (q : ℕ) → GrowsTo (log_at w q) (log_at later q)
 
-stored_later : (w later : World) (q client correlation : ℕ) → Later w later
-    → IsStored w.sent q (log_at w q) client correlation
-    → IsStored later.sent q (log_at later q) client correlation
-stored_later w later q client correlation l s = record {
+stored_later : (w later : World) (q client correlation : ℕ) (To : Target → Type 0)
+    → Later w later → IsStored w.sent q (log_at w q) client correlation To
+    → IsStored later.sent q (log_at later q) client correlation To
+stored_later w later q client correlation To l s = record {
   request = s.request;
+  target = s.target;
   asked_for = asked_later w.sent later.sent q
       (λ m c. subst (λ list. Contains list m) (sym l.sent) (Contains-append_left w.sent l.more m c))
       s.request s.asked_for;
@@ -83,9 +86,9 @@ promised_later : (w later : World) → Later w later → (m : Message) → Promi
 promised_later w later l (msg.MarkerReply q txn held NoError) h =
     reached_stays (log_at w q) (log_at later q) held.id held.epoch (l.logs q) h
 promised_later w later l (msg.ProduceReply client correlation q NoError offset) h =
-    stored_later w later q client correlation l h
+    stored_later w later q client correlation (λ t. t ≡ ToPartition q) l h
 promised_later w later l (msg.OffsetsReply client correlation NoError) h =
-    stored_later w later offsets_partition client correlation l h
+    stored_later w later offsets_partition client correlation IsToGroup l h
 promised_later w later l m h = tt
 
 ------ what a step hands out
@@ -158,12 +161,13 @@ module _ (w : World) (number : ℕ) (p : Partition) (s : Served)
   log_is : s.0.disk.kept ≡ log_at after number
   log_is = sym (ap log_in (changed_there w number p s there))
 
-  is_there : (q client correlation : ℕ) → q ≡ number
-      → IsStored w.sent number s.0.disk.kept client correlation
-      → IsStored after.sent q (log_at after q) client correlation
-  is_there q client correlation e h =
-      subst (λ n. IsStored after.sent n (log_at after n) client correlation) (sym e) (record {
+  is_there : (q client correlation : ℕ) (To : Target → Type 0) → q ≡ number
+      → IsStored w.sent number s.0.disk.kept client correlation To
+      → IsStored after.sent q (log_at after q) client correlation To
+  is_there q client correlation To e h =
+      subst (λ n. IsStored after.sent n (log_at after n) client correlation To) (sym e) (record {
         request = h.request;
+        target = h.target;
         asked_for = asked_later w.sent after.sent number (Contains-append_left w.sent s.1)
             h.request h.asked_for;
         its_client = h.its_client;
@@ -179,9 +183,9 @@ module _ (w : World) (number : ℕ) (p : Partition) (s : Served)
       subst (λ n. AtLeast held.epoch (epoch_of (entries_at after n) held.id)) (sym h.0)
       (subst (λ log. AtLeast held.epoch (epoch_of (entries log) held.id)) log_is h.1)
   node_promised (msg.ProduceReply client correlation q NoError offset) h =
-      is_there q client correlation h.0 h.1
+      is_there q client correlation (λ t. t ≡ ToPartition q) h.0 h.1
   node_promised (msg.OffsetsReply client correlation NoError) h =
-      is_there offsets_partition client correlation h.0 h.1
+      is_there offsets_partition client correlation IsToGroup h.0 h.1
   node_promised m h = tt
 
 ------ events

@@ -73,7 +73,8 @@ numbers_are v d id epoch first n e = by (end_marker_of v) refl e
         (sym (ap (λ z. control_of z v.producer_epoch said v) n.id_is
         ∙ ap (λ z. control_of (pos id) z said v) n.epoch_is) ∙ e))
     by None s e =
-        let is = same_batch d _ (sym e ∙ ap (λ z. data_of z v.producer_epoch v.base_sequence v) n.id_is
+        let is = same_batch d _ (sym e
+        ∙ ap (λ z. data_of z v.producer_epoch v.base_sequence v) n.id_is
         ∙ ap (λ z. data_of (pos id) z v.base_sequence v) n.epoch_is
         ∙ ap (λ z. data_of (pos id) (pos epoch) z v) n.first_is) in (
           ap (λ (x : Sequenced). x.id) is,
