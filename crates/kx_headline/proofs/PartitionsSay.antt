@@ -1,5 +1,5 @@
--- Over every schedule, a reply of code 0 to a batch names a request that was handed out, whose batch
--- stands in the log.
+-- Over every schedule, a reply of code 0 to a batch names a request that was handed out, and whose
+-- batch stands in the log.
 use Rattle.std.proofs.Common.{◌≡◌, ℕ, ℤ, true, Contains}
 use Rattle.std.proofs.lemmas.List.Elements.{All-contains}
 use Rattle.kx_wire.specs.Ranges.{offsets_partition}
