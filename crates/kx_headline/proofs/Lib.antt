@@ -6,8 +6,8 @@ pub mod ClientReplies
 pub mod ClientRequests
 pub mod ClientsKeep
 pub mod ClosedByCommit
-pub mod CommittedRecords
 pub mod CommitsAsked
+pub mod CommittedRecords
 pub mod CoordinatorAlways
 pub mod CoordinatorDoes
 pub mod CoordinatorFollows
@@ -15,6 +15,7 @@ pub mod CoordinatorGrows
 pub mod CoordinatorRows
 pub mod CoordinatorSound
 pub mod CoordinatorTables
+pub mod DroppedIds
 pub mod Duplicates
 pub mod EventDoes
 pub mod Fencing
@@ -40,8 +41,7 @@ pub mod PartitionDoes
 pub mod PartitionHolds
 pub mod PartitionPromises
 pub mod PartitionsAlways
-pub mod ReadPages
-pub mod Reading
+pub mod ReaderSteps
 pub mod RequestsAlways
 pub mod SentBatches
 pub mod SentKinds
@@ -51,6 +51,7 @@ pub mod Spans
 pub mod Splits
 pub mod StablePart
 pub mod StoredOnce
+pub mod StoredRequests
 pub mod StoredTexts
 pub mod Verdicts
 pub mod WorldReaders

@@ -16,7 +16,8 @@ use Rattle.kx_model.specs.World.{World, log_at, log_in, partition_at, run, start
 use Rattle.kx_headline.proofs.PartitionsAlways.{PartitionsStand, Promised, partitions_stand_always}
 use Rattle.kx_headline.proofs.Fencing.{fenced_never, no_commit_marker}
 use Rattle.kx_headline.proofs.NothingShown.{not_shown}
-use Rattle.kx_headline.proofs.WorldReaders.{gives_visible}
+use Rattle.kx_headline.specs.Grown.{IsGrown}
+use Rattle.kx_headline.proofs.WorldReaders.{gives_visible, grown_at}
 use Rattle.kx_headline.proofs.LogCauses.{MarkerCause, marker_came}
 use Rattle.kx_headline.proofs.MarkersFit.{markers_fit}
 use Rattle.kx_headline.proofs.Membership.{no_element}
@@ -99,3 +100,9 @@ open_is_owed count events fits p =
     let w = run events (start count) in
     let h = partitions_stand_always count events fits in
     open_owed w h.coordinator (answered_reached w h) p (log_built w h p)
+
+pub logs_grow : Always (λ w. (partition : ℕ) → IsGrown (log_at w partition))
+logs_grow count events fits q =
+    let w = run events (start count) in
+    let h = partitions_stand_always count events fits in
+    grown_at w q h.holds (markers_fit w h.coordinator)

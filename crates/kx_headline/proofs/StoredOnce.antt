@@ -34,6 +34,7 @@ use Rattle.kx_headline.proofs.PartitionHolds.{Built, MarkersFit, PartitionHolds,
 use Rattle.kx_headline.proofs.PartitionHolds as holds
 use Rattle.kx_headline.proofs.PartitionPromises.{IsStored}
 use Rattle.kx_headline.proofs.Sequences.{grown_ordered}
+use Rattle.kx_headline.proofs.StoredRequests.{place_of, same_tells, stored_as, stored_request}
 
 ------ what clients keep to
 
@@ -58,101 +59,6 @@ pub record ClientsKeep (w : World) : Type 0 where
       → request_of m ≡ Some r → entry_in (batch_of r.text) ≡ Data d
       → decision (notes w) d.id d.epoch ≡ Some Commit → IsAnswered w r
 
------- a stored batch and its place
-
--- a stored batch between those before it and those behind it
-record StandsIn (n : ℕ) (log : List Stored) (p : Placed Stored) : Type 0 where
-  before : List Stored
-  after : List Stored
-  parts : log ≡ before ++ p.item ∷ after
-  offset : p.offset ≡ n + end (entries before)
-
-stands_in : (n : ℕ) (log : List Stored) (p : Placed Stored)
-    → Contains (placed_by stored_width n log) p → StandsIn n log p
-stands_in n [] p c = absurd (no_element p c)
-stands_in n (s ∷ log) p c =
-    ⊎_elim
-    (λ e. record {
-      before = [];
-      after = log;
-      parts = ap (λ (q : Placed Stored). q.item ∷ log) e;
-      offset = sym (ap (λ (q : Placed Stored). q.offset) e) ∙ omega arith;
-    })
-    (λ c. let t = stands_in (n + stored_width s) log p c in
-    record {
-      before = s ∷ t.before;
-      after = t.after;
-      parts = ap (λ (l : List Stored). s ∷ l) t.parts;
-      offset = omega (
-        arith,
-        t.offset,
-        end_is t.before,
-        end_is (s ∷ t.before),
-        sum_by-cons stored_width s t.before,
-      );
-    })
-    (cons_cases (record { offset = n; item = s }) p
-    (placed_by stored_width (n + stored_width s) log) c)
-
-in_the_log : (before after : List Stored) (s : Stored)
-    → Contains (placed_by stored_width 0 (before ++ s ∷ after))
-    (record { offset = end (entries before); item = s })
-in_the_log before after s =
-    let n = 0 + sum_by stored_width before in
-    let at : ℕ → Placed Stored = λ k. record { offset = k; item = s } in
-    let place : n ≡ end (entries before) = omega (arith, end_is before) in
-    subst (λ l. Contains l (at (end (entries before))))
-    (sym (placed_by-append stored_width 0 before (s ∷ after)))
-    (Contains-append_right (placed_by stored_width 0 before)
-    (placed_by stored_width n (s ∷ after)) (at (end (entries before)))
-    (subst (λ k. Contains (placed_by stored_width n (s ∷ after)) (at k)) place
-    (contains_head (at n) (placed_by stored_width (n + stored_width s) after))))
-
--- a batch of the log stands at the end of those before it
-stands_at_end : (log : List Stored) (s : Stored) (p : SplitAt log s)
-    → Contains (placed_by stored_width 0 log)
-    (record { offset = end (entries p.before); item = s })
-stands_at_end log s p =
-    subst (λ l. Contains (placed_by stored_width 0 l)
-    (record { offset = end (entries p.before); item = s })) (sym p.parts)
-    (in_the_log p.before p.after s)
-
--- the entry is a batch of this id, epoch and first sequence
-record IsSame (d : Sequenced) (entry : Entry) : Type 0 where
-  batch : Sequenced
-  is : entry ≡ Data batch
-  id : batch.id ≡ d.id
-  epoch : batch.epoch ≡ d.epoch
-  first : batch.first ≡ d.first
-
-same_tells : (d : Sequenced) (entry : Entry) → is_stored_as d entry ≡ true → IsSame d entry
-same_tells d (Plain records) h = absurd cc
-same_tells d (Control m) h = absurd cc
-same_tells d (Data e) h =
-    let x = and_parts (e.id == d.id && e.epoch == d.epoch) (e.first == d.first) h in
-    let y = and_parts (e.id == d.id) (e.epoch == d.epoch) x.0 in
-    record {
-      batch = e;
-      is = refl;
-      id = grind (arith, nat_tests, y.0);
-      epoch = grind (arith, nat_tests, y.1);
-      first = grind (arith, nat_tests, x.1);
-    }
-
-stored_as : (d e : Sequenced) → e.id ≡ d.id → e.epoch ≡ d.epoch → e.first ≡ d.first
-    → is_stored_as d (Data e) ≡ true
-stored_as d e i k f =
-    and_from (e.id == d.id && e.epoch == d.epoch) (e.first == d.first)
-    (and_from (e.id == d.id) (e.epoch == d.epoch) (grind (arith, nat_tests, i))
-    (grind (arith, nat_tests, k)))
-    (grind (arith, nat_tests, f))
-
--- the log of a partition that holds is built, and where there is none it is empty
-pub built_in : (sent : List Message) (q : ℕ) (o : Option Partition)
-    → IfSome o (PartitionHolds sent q) → Built sent q (log_in o)
-built_in sent q None h = holds.start
-built_in sent q (Some p) h = h.log
-
 ------ in a world
 
 module _ (w : World) (all : PartitionsHold w) (fit : MarkersFit w.sent) (clients : ClientsKeep w)
@@ -164,19 +70,13 @@ module _ (w : World) (all : PartitionsHold w) (fit : MarkersFit w.sent) (clients
   itself : (offset : ℕ) (stored : Stored) → StandsAt w r offset stored
       → is_stored_as d (entry_of stored) ≡ true → stored ≡ stored_at offset r.text
   itself offset stored c same =
-      let log = log_at w q in
-      let s = stands_in 0 log (record { offset = offset; item = stored }) c in
       let e = same_tells d (entry_of stored) same in
-      let came = each_came w.sent q log (built_in w.sent q (partition_at w q) (all q)) s.before
-      stored s.after s.parts in
-      let cause = data_came w.sent q fit s.before stored e.batch came e.is in
-      let a = cause.asked_for in
-      let text : cause.request.text ≡ r.text =
-      clients.one_batch a.message m cause.request r e.batch d a.handed handed a.is is a.here
-      cause.entry reads e.id e.epoch e.first in
-      let place : end (entries s.before) ≡ offset = omega (arith, s.offset) in
-      cause.is ∙ ap (stored_at (end (entries s.before))) text
-      ∙ ap (λ n. stored_at n r.text) place
+      let s = stored_request w all fit q offset stored e.batch c e.is in
+      let a = s.asked_for in
+      let text : s.request.text ≡ r.text =
+      clients.one_batch a.message m s.request r e.batch d a.handed handed a.is is a.here s.reads
+      reads e.id e.epoch e.first in
+      s.is ∙ ap (stored_at offset) text
 
   committed : decision (notes w) d.id d.epoch ≡ Some Commit
       → (offset : ℕ) × StandsAt w r offset (stored_at offset r.text)
@@ -187,16 +87,16 @@ module _ (w : World) (all : PartitionsHold w) (fit : MarkersFit w.sent) (clients
       clients.one_request asked.message m a.stored.request r asked.handed handed asked.is is
       a.stored.its_client a.stored.its_correlation in
       let here : a.partition ≡ q =
-      sym asked.here ∙ ap (λ (x : Request). partition_of x.target) one in
+      sym asked.here ∙ ap (λ (x : Request). partition_of x.target) {x = a.stored.request} one in
       let like = subst (λ n. StoredLike (entries (log_at w n)) d) here
-      (a.stored.stored d (ap (λ (x : Request). entry_in (batch_of x.text)) one ∙ reads)) in
-      let x = map_holds entry_of (log_at w q) (Data like.batch) like.there in
-      let p = split_at (log_at w q) x.0 x.1 in
-      let offset = end (entries p.before) in
-      let stands : StandsAt w r offset x.0 = stands_at_end (log_at w q) x.0 p in
-      let same = itself offset x.0 stands
-      (ap (is_stored_as d) x.2 ∙ stored_as d like.batch like.id like.epoch like.first) in
-      (offset, subst (StandsAt w r offset) {y = stored_at offset r.text} same stands)
+      (a.stored.stored d (ap (λ (x : Request). entry_in (batch_of x.text)) {x = a.stored.request} one
+      ∙ reads)) in
+      let p = place_of w q like.batch like.there in
+      let same = itself p.offset p.stored p.there
+      (ap (is_stored_as d) p.is ∙ stored_as d like.batch like.id like.epoch like.first) in (
+        p.offset,
+        subst (StandsAt w r p.offset) {y = stored_at p.offset r.text} same p.there,
+      )
 
 -- each batch sent stands once in a world, where clients keep to that
 pub stored_once : (w : World) → PartitionsStand w → ClientsKeep w → (m : Message) (r : Request)

@@ -21,7 +21,7 @@ use Rattle.kx_headline.proofs.LogRules.{closes_its_own}
 use Rattle.kx_headline.proofs.Membership.{in_the_middle}
 use Rattle.kx_headline.proofs.PartitionsAlways.{PartitionsHold}
 use Rattle.kx_headline.proofs.PartitionHolds.{MarkersFit, PartitionHolds, built_grown}
-use Rattle.kx_headline.proofs.Reading.{KnowsClosed}
+use Rattle.kx_headline.proofs.DroppedIds.{KnowsClosed}
 use Rattle.kx_headline.proofs.Splits.{Each}
 
 grown_in : (sent : List Message) (q : ℕ) (o : Option Partition)
