@@ -1,6 +1,6 @@
 -- A client that hands out one new request keeps what stands of its requests.
 use Rattle.std.proofs.Common.{◌≡◌, ◌⊎◌, ◌+◌, ◌<◌, ◌≤◌, ℕ, Bool, true, false, List, [], ◌∷◌, ◌++◌}
-use Rattle.std.proofs.Common.{Option, Some, None, Contains, All, refl, sym, ap, ◌∙◌, subst, arith}
+use Rattle.std.proofs.Common.{Some, None, Contains, All, refl, sym, ap, ◌∙◌, subst, arith}
 use Rattle.std.proofs.Common.{inl, inr, ⊎_elim}
 use Rattle.std.specs.List.{list_any}
 use Rattle.std.proofs.lemmas.List.Elements.{All-contains, All-push, Contains-append_left}

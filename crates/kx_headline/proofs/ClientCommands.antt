@@ -1,5 +1,5 @@
 -- A command keeps what stands of its client's requests.
-use Rattle.std.proofs.Common.{◌≡◌, ◌⊎◌, ◌+◌, ◌<◌, ◌≤◌, ◌==◌, ◌&&◌, ◌||◌, not, ℕ, pos, Bool, true, false}
+use Rattle.std.proofs.Common.{◌≡◌, ◌⊎◌, ◌+◌, ◌<◌, ◌≤◌, ◌==◌, ◌||◌, not, ℕ, pos, Bool, true, false}
 use Rattle.std.proofs.Common.{cond, List, [], ◌∷◌, ◌++◌, length, filter, nat_lt, Option, Some, None}
 use Rattle.std.proofs.Common.{Contains, All, refl, sym, ap, ◌∙◌, subst, arith, inl, inr, ⊎_elim}
 use Rattle.std.proofs.Common.{is_some, is_none, append-nil}
@@ -7,7 +7,7 @@ use Rattle.std.specs.List.{list_any}
 use Rattle.std.proofs.lemmas.Bool.{cond_both, or_parts}
 use Rattle.std.proofs.lemmas.Bool.Decides.{nat_tests}
 use Rattle.std.proofs.lemmas.List.Elements.{All-contains, All-nil, Contains-append_cases}
-use Rattle.std.proofs.lemmas.List.Elements.{Contains-append_left, Contains-push, Contains-push_cases}
+use Rattle.std.proofs.lemmas.List.Elements.{Contains-append_left, Contains-push_cases}
 use Rattle.kx_wire.specs.Ranges.{offsets_partition}
 use Rattle.kx_wire.specs.declared.message.Held.{Held}
 use Rattle.kx_wire.specs.declared.message.Message.{Message}
@@ -15,7 +15,6 @@ use Rattle.kx_wire.specs.declared.message.Message.TheVariants as msg
 use Rattle.kx_wire.specs.declared.outcome.Outcome.{Outcome}
 use Rattle.kx_wire.specs.declared.outcome.Outcome.TheVariants.{Abort, Commit}
 use Rattle.kx_wire.specs.declared.payload.PartitionOffset.{PartitionOffset}
-use Rattle.kx_batch.specs.Record.{Record}
 use Rattle.kx_model.specs.Client.{Begin, Client, Command, Commanded, Declines, Does, End, Fault, Init}
 use Rattle.kx_model.specs.Client.{JoinGroup, LeaveGroup, Place, Resend, Send, SendOffsets, Sequence}
 use Rattle.kx_model.specs.Client.{asks, client_batch, command, does, is_end, is_ending, is_init}
@@ -184,23 +183,23 @@ module _ (sent : List Message) (c : Client) (k : Knows sent c)
       → Asks sent c k b m
   plain b m number held correlation works aborting inside sequences waiting s n none not_end
       not_batch not_offsets init = record {
-    number = number;
-    held = held;
-    correlation = correlation;
-    works = works;
-    aborting = aborting;
-    inside = inside;
-    its_sender = s;
-    its_number = n;
-    sequences = λ q. let same = ap (λ l. sequence_of l q) sequences in omega (arith, same);
-    waiting = λ x there. subst (λ l. Contains l x) waiting there;
-    kept = inl waiting;
-    load = λ l carries. absurd (none l carries);
-    batch = λ e. absurd (let no = sym e ∙ not_batch in cc);
-    offsets = λ e. absurd (let no = sym e ∙ not_offsets in cc);
-    ending = λ i txn h outcome e. absurd (let no = sym not_end ∙ ap is_end e in cc);
-    init = init;
-  }
+        number = number;
+        held = held;
+        correlation = correlation;
+        works = works;
+        aborting = aborting;
+        inside = inside;
+        its_sender = s;
+        its_number = n;
+        sequences = λ q. let same = ap (λ l. sequence_of l q) sequences in omega (arith, same);
+        waiting = λ x there. subst (λ l. Contains l x) waiting there;
+        kept = inl waiting;
+        load = λ l carries. absurd (none l carries);
+        batch = λ e. absurd (let no = sym e ∙ not_batch in cc);
+        offsets = λ e. absurd (let no = sym e ∙ not_offsets in cc);
+        ending = λ i txn h outcome e. absurd (let no = sym not_end ∙ ap is_end e in cc);
+        init = init;
+      }
 
   -- a batch goes out
   carrying : (partition more : ℕ) (m : Message) (held : Held) → c.held ≡ Some held
@@ -312,30 +311,30 @@ module _ (sent : List Message) (c : Client) (k : Knows sent c)
       → Asks sent c k b (msg.EndTxn c.number c.correlation txn held outcome)
   ending b txn held outcome there number same correlation aborting inside sequences empty works
       answered = record {
-    number = number;
-    held = same;
-    correlation = correlation;
-    works = works;
-    aborting = aborting;
-    inside = inside;
-    its_sender = refl;
-    its_number = refl;
-    sequences = λ q. let is = ap (λ l. sequence_of l q) sequences in omega (arith, is);
-    waiting = λ x w. absurd (no_element x (subst (λ l. Contains l x) empty w));
-    kept = inr refl;
-    load = λ l carries. absurd (ask.no_end
-        (msg.EndTxn c.number c.correlation txn held outcome) l carries refl);
-    batch = λ e. absurd cc;
-    offsets = λ e. absurd cc;
-    ending = λ i t h o e.
-        let pair : held ≡ h = cc in
-        let so : outcome ≡ o = cc in (
-          there ∙ ap Some pair,
-          empty,
-          λ commit x l its carries eq. answered (so ∙ commit) x l its carries (eq ∙ sym pair),
-        );
-    init = λ e. absurd cc;
-  }
+        number = number;
+        held = same;
+        correlation = correlation;
+        works = works;
+        aborting = aborting;
+        inside = inside;
+        its_sender = refl;
+        its_number = refl;
+        sequences = λ q. let is = ap (λ l. sequence_of l q) sequences in omega (arith, is);
+        waiting = λ x w. absurd (no_element x (subst (λ l. Contains l x) empty w));
+        kept = inr refl;
+        load = λ l carries. absurd (ask.no_end
+            (msg.EndTxn c.number c.correlation txn held outcome) l carries refl);
+        batch = λ e. absurd cc;
+        offsets = λ e. absurd cc;
+        ending = λ i t h o e.
+            let pair : held ≡ h = cc in
+            let so : outcome ≡ o = cc in (
+              there ∙ ap Some pair,
+              empty,
+              λ commit x l its carries eq. answered (so ∙ commit) x l its carries (eq ∙ sym pair),
+            );
+        init = λ e. absurd cc;
+      }
 
   -- what was sent of the pair is answered where nothing waits
   all_answered : (held : Held) → c.held ≡ Some held → c.failed ≡ false → c.must_abort ≡ false

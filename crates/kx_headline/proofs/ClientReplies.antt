@@ -1,6 +1,6 @@
 -- A reply that comes keeps what stands of its client's requests.
-use Rattle.std.proofs.Common.{◌≡◌, ◌⊎◌, ◌+◌, ◌<◌, ◌≤◌, ◌==◌, ◌&&◌, not, ℕ, ℤ, Bool, true, false, List}
-use Rattle.std.proofs.Common.{[], ◌∷◌, ◌++◌, filter, Option, Some, None, Contains, All, refl, sym, ap}
+use Rattle.std.proofs.Common.{◌≡◌, ◌⊎◌, ◌+◌, ◌<◌, ◌==◌, not, ℕ, ℤ, Bool, true, false, List}
+use Rattle.std.proofs.Common.{filter, Option, Some, None, Contains, refl, sym, ap}
 use Rattle.std.proofs.Common.{◌∙◌, subst, arith, inl, inr, ⊎_elim}
 use Rattle.std.specs.List.{list_any}
 use Rattle.std.proofs.lemmas.Bool.{and_parts, cond_both}
@@ -15,16 +15,14 @@ use Rattle.kx_wire.specs.declared.message.Message.{Message}
 use Rattle.kx_wire.specs.declared.message.Message.TheVariants as msg
 use Rattle.kx_wire.specs.declared.message.Node.TheVariants as node
 use Rattle.kx_wire.specs.declared.outcome.Outcome.{Outcome}
-use Rattle.kx_wire.specs.declared.outcome.Outcome.TheVariants.{Commit}
 use Rattle.kx_model.specs.Client.{Client, Place, is_end, is_init}
 use Rattle.kx_model.specs.Replies.{Aborts, Done, Fails, Meaning, Waits, correlation_of, holding}
 use Rattle.kx_model.specs.Replies.{is_answer_to, is_awaited, learns, meaning, offsets_meaning}
 use Rattle.kx_model.specs.Replies.{take_reply, told}
-use Rattle.kx_headline.proofs.ClientAsks.{end_is, is_a_batch, it_ends}
-use Rattle.kx_headline.proofs.ClientAsks as ask
+use Rattle.kx_headline.proofs.ClientAsks.{is_a_batch}
 use Rattle.kx_headline.proofs.ClientRequests.{Answered, Carries, HasEnded, IsAwaited, IsIts, IsUpTo}
 use Rattle.kx_headline.proofs.ClientRequests.{IsWithin, Knows, Load, is_batch, is_offsets, older_id}
-use Rattle.kx_headline.proofs.ClientRequests.{same_id, sender}
+use Rattle.kx_headline.proofs.ClientRequests.{same_id}
 use Rattle.kx_headline.proofs.Lists.{All-from_contains}
 use Rattle.kx_headline.proofs.Membership.{any_holds, any_keeps, filter_holds, filter_keeps}
 

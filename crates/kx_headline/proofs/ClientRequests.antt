@@ -1,6 +1,6 @@
 -- What stands of the requests that clients sent: each is known by its client and number, a batch
 -- begins where the one before it ended, and what was committed was answered.
-use Rattle.std.proofs.Common.{◌≡◌, ◌⊎◌, ◌+◌, ◌<◌, ◌≤◌, ◌^◌, ℕ, ℤ, pos, Bool, true, false, List}
+use Rattle.std.proofs.Common.{◌≡◌, ◌⊎◌, ◌<◌, ◌≤◌, ◌^◌, ℕ, ℤ, pos, Bool, true, false, List}
 use Rattle.std.proofs.Common.{map, Option, Some, None, Contains, All}
 use Rattle.std.specs.List.{list_any}
 use Rattle.kx_wire.specs.Ranges.{offsets_partition}

@@ -1,6 +1,6 @@
 -- Clients keep to what each batch standing once rests on: from what stands of their requests.
-use Rattle.std.proofs.Common.{◌≡◌, ◌+◌, ◌==◌, ℕ, ℤ, pos, negsuc, List, Option, Some, None, Contains}
-use Rattle.std.proofs.Common.{All, map, refl, sym, ap, ◌∙◌, subst}
+use Rattle.std.proofs.Common.{◌≡◌, ℕ, ℤ, pos, negsuc, Option, Some, None, Contains}
+use Rattle.std.proofs.Common.{sym, ap, ◌∙◌, subst}
 use Rattle.std.proofs.lemmas.List.Elements.{All-contains}
 use Rattle.kx_wire.specs.Ranges.{offsets_partition}
 use Rattle.kx_wire.specs.declared.code.ErrorCode.TheVariants.{NoError}
@@ -13,16 +13,16 @@ use Rattle.kx_batch.specs.Batch.{Batch, batch_of}
 use Rattle.kx_batch.specs.Marker.{end_marker_of}
 use Rattle.kx_model.specs.Client.{Client}
 use Rattle.kx_model.specs.Coordinator.{decision}
-use Rattle.kx_model.specs.Headline.{Always, StandsOnce}
-use Rattle.kx_model.specs.Log.{Data, Entry, Sequenced, control_of, data_of, entry_by, entry_in}
+use Rattle.kx_model.specs.Headline.{StandsOnce}
+use Rattle.kx_model.specs.Log.{Data, Sequenced, control_of, data_of, entry_by, entry_in}
 use Rattle.kx_model.specs.Replies.{correlation_of}
 use Rattle.kx_model.specs.Verification.{Request, partition_of, request_of}
 use Rattle.kx_model.specs.World.{World, notes, run, start}
 use Rattle.kx_headline.proofs.ClientHolds.{Handed, IsEntitled}
-use Rattle.kx_headline.proofs.ClientRequests.{Answered, AreMade, IsIts, IsMade, Knows, Load}
+use Rattle.kx_headline.proofs.ClientRequests.{Answered, AreMade, IsIts, IsMade, Knows}
 use Rattle.kx_headline.proofs.ClientRequests.{RequestsStand, sender}
 use Rattle.kx_headline.proofs.CommitsAsked.{commit_asked}
-use Rattle.kx_headline.proofs.Loads.{Reads, carries_reads}
+use Rattle.kx_headline.proofs.Loads.{carries_reads}
 use Rattle.kx_headline.proofs.Membership.{map_holds}
 use Rattle.kx_headline.proofs.OneHolder.{one_client}
 use Rattle.kx_headline.proofs.PartitionsAlways.{PartitionsStand, Promised, partitions_stand_always}
@@ -80,9 +80,9 @@ request_is (msg.Produce client correlation txn partition text) r e = (
 request_is
     (msg.TxnOffsetCommit client correlation txn group member generation held first offsets) r e
     = (
-  ap (λ (x : Request). Some x.client) (same_request _ r e),
-  ap (λ (x : Request). x.correlation) (same_request _ r e),
-)
+      ap (λ (x : Request). Some x.client) (same_request _ r e),
+      ap (λ (x : Request). x.correlation) (same_request _ r e),
+    )
 request_is other r e = absurd cc
 
 ------ in a world

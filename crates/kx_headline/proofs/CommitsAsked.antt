@@ -1,15 +1,14 @@
 -- What is decided to commit was asked to: an EndTxn of that id and epoch was handed out.
-use Rattle.std.proofs.Common.{◌≡◌, ◌⊎◌, ◌+◌, ◌≤◌, ℕ, List, [], ◌∷◌, ◌++◌, Option, Some, None, Contains}
-use Rattle.std.proofs.Common.{refl, sym, ap, ◌∙◌, subst, arith, inl, inr, ⊎_elim, true}
+use Rattle.std.proofs.Common.{◌≡◌, ℕ, List, Option, Some, None, Contains}
+use Rattle.std.proofs.Common.{ap, ◌∙◌, subst, arith, ⊎_elim}
 use Rattle.std.proofs.lemmas.List.Elements.{Contains-push_cases}
-use Rattle.kx_wire.specs.declared.message.Held.{Held}
 use Rattle.kx_wire.specs.declared.message.Message.{Message}
 use Rattle.kx_wire.specs.declared.message.Message.TheVariants as msg
 use Rattle.kx_wire.specs.declared.outcome.Outcome.{Outcome}
-use Rattle.kx_wire.specs.declared.outcome.Outcome.TheVariants.{Abort, Commit}
-use Rattle.kx_model.specs.Coordinator.{Cause, Complete, CoordinatorEpoch, Note, Prepare, Row, Written}
+use Rattle.kx_wire.specs.declared.outcome.Outcome.TheVariants.{Commit}
+use Rattle.kx_model.specs.Coordinator.{Cause, Note, Row, Written}
 use Rattle.kx_model.specs.Coordinator.{decision, ends, first_row, outcome_in, outcome_of}
-use Rattle.kx_model.specs.Requests.{completed, first_use, own_pair, prepared}
+use Rattle.kx_model.specs.Requests.{completed, first_use, prepared}
 use Rattle.kx_headline.proofs.CoordinatorFollows as follows
 use Rattle.kx_headline.proofs.CoordinatorFollows.{Follows, Reason, completed_ends, given_up}
 use Rattle.kx_headline.proofs.CoordinatorFollows.{is_completed, taken_over, with_added}

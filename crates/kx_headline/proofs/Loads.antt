@@ -1,14 +1,9 @@
 -- What a request carries is what its batch reads as, so it carries one load.
-use Rattle.std.proofs.Common.{◌≡◌, ◌<◌, ◌^◌, ℕ, ℤ, pos, List, Option, Some, refl, sym, ap, ◌∙◌, arith}
-use Rattle.std.specs.Int.{w16, w32, w64}
-use Rattle.std.specs.Int.RustNames.{FitsSigned}
-use Rattle.kx_wire.specs.declared.message.Held.{Held}
+use Rattle.std.proofs.Common.{◌≡◌, ℕ, pos, Some, refl, sym, ap, ◌∙◌, arith}
 use Rattle.kx_wire.specs.declared.message.Message.{Message}
-use Rattle.kx_batch.specs.Batch.{Batch, batch_of}
-use Rattle.kx_batch.specs.Build.{made}
-use Rattle.kx_model.specs.Groups.{offset_records}
+use Rattle.kx_batch.specs.Batch.{batch_of}
 use Rattle.kx_model.specs.Verification.{Request, partition_of, request_of}
-use Rattle.kx_headline.proofs.ClientRequests.{Carries, HeldFits, Load, with_batch, with_offsets}
+use Rattle.kx_headline.proofs.ClientRequests.{Carries, Load, with_batch, with_offsets}
 use Rattle.kx_headline.proofs.SentBatches.{reads_epoch, reads_id, reads_sequence}
 
 -- the request of a message, and that its batch has the load's numbers

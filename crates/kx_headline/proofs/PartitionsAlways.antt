@@ -1,6 +1,6 @@
 -- Over every schedule: why each entry stands in each partition's log, and what partitions have
 -- promised of their logs.
-use Rattle.std.proofs.Common.{◌≡◌, ◌+◌, ◌<◌, ◌≤◌, ◌==◌, ℕ, ℤ, zero, suc, Bool, true, false, cond, List}
+use Rattle.std.proofs.Common.{◌≡◌, ◌==◌, ℕ, zero, suc, Bool, true, false, cond, List}
 use Rattle.std.proofs.Common.{[], ◌∷◌, ◌++◌, Option, Some, None, Contains, All, replicate, refl, sym}
 use Rattle.std.proofs.Common.{ap, ◌∙◌, subst}
 use Rattle.std.specs.Prelude.{IfSome, slice_get, slice_set}
@@ -10,15 +10,14 @@ use Rattle.std.proofs.lemmas.List.Elements.{All-append, All-contains, All-nil, A
 use Rattle.std.proofs.lemmas.List.Elements.{Contains-append_left}
 use Rattle.kx_wire.specs.Ranges.{offsets_partition}
 use Rattle.kx_wire.specs.declared.code.ErrorCode.TheVariants.{NoError}
-use Rattle.kx_wire.specs.declared.message.Held.{Held}
 use Rattle.kx_wire.specs.declared.message.Message.{Message}
 use Rattle.kx_wire.specs.declared.message.Message.TheVariants as msg
-use Rattle.kx_model.specs.Client.{Client, value_records}
+use Rattle.kx_model.specs.Client.{value_records}
 use Rattle.kx_model.specs.CoordinatorNode.{notes_of}
 use Rattle.kx_model.specs.Disk.{GrowsTo}
 use Rattle.kx_model.specs.Groups.{judge_drop}
 use Rattle.kx_model.specs.Headline.{Always}
-use Rattle.kx_model.specs.Log.{Stored, entries}
+use Rattle.kx_model.specs.Log.{entries}
 use Rattle.kx_model.specs.PartitionNode.{Partition, Served, changed, empty_partition, entries_of}
 use Rattle.kx_model.specs.PartitionNode.{partition_restarts, puts}
 use Rattle.kx_model.specs.Producers.{epoch_of}

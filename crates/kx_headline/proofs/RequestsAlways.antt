@@ -1,22 +1,20 @@
 -- Over every schedule: what stands of the requests that clients sent.
-use Rattle.std.proofs.Common.{◌≡◌, ◌⊎◌, ◌+◌, ◌<◌, ◌≤◌, ◌^◌, ◌==◌, ℕ, Bool, true, false, cond, List, []}
-use Rattle.std.proofs.Common.{◌∷◌, ◌++◌, map, Option, Some, None, is_some, Contains, All, refl, sym, ap}
-use Rattle.std.proofs.Common.{◌∙◌, subst, arith, inl, inr, ⊎_elim, nat_lt}
+use Rattle.std.proofs.Common.{◌≡◌, ◌≤◌, ◌^◌, ◌==◌, ℕ, true, cond, List, []}
+use Rattle.std.proofs.Common.{◌∷◌, ◌++◌, map, Option, Some, None, is_some, Contains, All, refl, sym}
+use Rattle.std.proofs.Common.{◌∙◌, subst, arith, ⊎_elim, nat_lt}
 use Rattle.std.specs.Prelude.{IfSome, unwrap_or}
-use Rattle.std.specs.List.{list_all}
 use Rattle.std.proofs.lemmas.Bool.{cond_both}
 use Rattle.std.proofs.lemmas.Bool.Decides.{nat_tests}
 use Rattle.std.proofs.lemmas.List.{append-nil, map-append}
 use Rattle.std.proofs.lemmas.List.Elements.{All-append, All-contains, All-map, All-nil, All-push}
 use Rattle.std.proofs.lemmas.List.Elements.{All-weaker, Contains-append_cases, Contains-append_left}
-use Rattle.std.proofs.lemmas.List.Elements.{Contains-append_right, Contains-push}
 use Rattle.kx_wire.specs.declared.code.ErrorCode.TheVariants as code
 use Rattle.kx_wire.specs.declared.message.Held.{Held}
 use Rattle.kx_wire.specs.declared.message.Message.{Message}
 use Rattle.kx_wire.specs.declared.message.Message.TheVariants as msg
 use Rattle.kx_wire.specs.declared.outcome.Outcome.TheVariants.{Commit}
 use Rattle.kx_model.specs.Client.{Client, new_client}
-use Rattle.kx_model.specs.Coordinator.{Allot, Complete, Empty, Note, Ongoing, Prepare, Row, State}
+use Rattle.kx_model.specs.Coordinator.{Complete, Empty, Ongoing, Prepare, Row, State}
 use Rattle.kx_model.specs.Coordinator.{Written, ends, next_id}
 use Rattle.kx_model.specs.Requests.{held_after}
 use Rattle.kx_model.specs.Headline.{Always}
@@ -28,7 +26,7 @@ use Rattle.kx_headline.proofs.ClientCommands.{Makes, Moved, command_moves}
 use Rattle.kx_headline.proofs.ClientHolds.{Handed, HoldsOwn, by_end, by_init, handed_later}
 use Rattle.kx_headline.proofs.ClientHolds.{turn_holds}
 use Rattle.kx_headline.proofs.ClientReplies.{IsBelow, Raises, earlier_epoch, earlier_id, reply_knows}
-use Rattle.kx_headline.proofs.ClientRequests.{AreMade, HeldFits, IsIts, IsMade, Knows, RequestsStand}
+use Rattle.kx_headline.proofs.ClientRequests.{AreMade, HeldFits, IsIts, Knows, RequestsStand}
 use Rattle.kx_headline.proofs.ClientRequests.{IsAwaited, sender}
 use Rattle.kx_headline.proofs.CoordinatorAlways.{CoordinatorStands, stands_sound, turn_does}
 use Rattle.kx_headline.proofs.CoordinatorDoes.{GivesNext, Has, Out, Says, by_allotment, by_row}
@@ -37,7 +35,7 @@ use Rattle.kx_headline.proofs.CoordinatorGrows.{history_in_range}
 use Rattle.kx_headline.proofs.CoordinatorRows.{Ends, Names, above_own, ends_tells, next, one_higher}
 use Rattle.kx_headline.proofs.CoordinatorRows.{own, replaced}
 use Rattle.kx_headline.proofs.CoordinatorSound.{Shape}
-use Rattle.kx_headline.proofs.EventDoes.{ClientTurn, CoordinatorTurn, PartitionTurn, Turn, always}
+use Rattle.kx_headline.proofs.EventDoes.{ClientTurn, Turn, always}
 use Rattle.kx_headline.proofs.EventDoes.{clients, commands, coordinators, hears, making, nobodys}
 use Rattle.kx_headline.proofs.EventDoes.{partitions}
 use Rattle.kx_headline.proofs.Lists.{All-from_contains, found_there, list_all_tells}
@@ -186,12 +184,12 @@ made_later sent later up (msg.Produce client correlation txn partition text) h =
 made_later sent later up
     (msg.TxnOffsetCommit client correlation txn group member generation held first offsets) h
     = record {
-  load = h.load;
-  carries = h.carries;
-  client = h.client;
-  its_sender = h.its_sender;
-  handed = handed_later up h.handed;
-}
+      load = h.load;
+      carries = h.carries;
+      client = h.client;
+      its_sender = h.its_sender;
+      handed = handed_later up h.handed;
+    }
 made_later sent later up other h = tt
 
 ------ each turn
@@ -289,12 +287,12 @@ module _ (w : World) (h : RequestsStand w) where
         (msg.TxnOffsetCommit client correlation txn group member generation held first offsets) s
         makes
         = record {
-      load = makes.0;
-      carries = makes.1;
-      client = c.number;
-      its_sender = s;
-      handed = handed_later (up messages) (entitled makes.0.held makes.2);
-    }
+          load = makes.0;
+          carries = makes.1;
+          client = c.number;
+          its_sender = s;
+          handed = handed_later (up messages) (entitled makes.0.held makes.2);
+        }
     new_made other s makes = tt
 
     client_stands : HoldersStand (with_client w after messages)

@@ -1,19 +1,17 @@
 -- What a batch that a client makes reads as, at the fixed places of its text: the id, the epoch and
 -- the first sequence that it was made with.
-use Rattle.std.proofs.Common.{◌≡◌, ◌+◌, ◌-◌, ◌<◌, ◌≤◌, ◌^◌, ℕ, ℤ, pos, List, [], ◌∷◌, ◌++◌, length, drop}
-use Rattle.std.proofs.Common.{take, refl, sym, ap, ◌∙◌, subst, arith, append_assoc}
+use Rattle.std.proofs.Common.{◌≡◌, ◌+◌, ◌-◌, ℕ, ℤ, List, ◌++◌, length, drop}
+use Rattle.std.proofs.Common.{refl, sym, ap, ◌∙◌, arith, append_assoc}
 use Rattle.std.specs.Int.{Width, byte_len, cast_unsigned, w8, w16, w32, w64}
 use Rattle.std.specs.Int.RustNames.{FitsSigned}
 use Rattle.std.proofs.lemmas.List.{drop-drop, drop_at}
 use Rattle.kx_varint.specs.BigEndian.{signed_at, signed_text, unsigned_text}
 use Rattle.kx_varint.specs.Text.{Exactly}
 use Rattle.kx_varint.proofs.FixedWidth.{IsWide, signed_back, wide16, wide32, wide64, wide8}
-use Rattle.kx_wire.specs.declared.message.Held.{Held}
 use Rattle.kx_batch.specs.Batch.{Batch, batch_of}
-use Rattle.kx_batch.specs.Build.{batch_text, covered_text, fields_text, made, records_text}
+use Rattle.kx_batch.specs.Build.{batch_text, covered_text, fields_text, records_text}
 use Rattle.kx_batch.specs.Build.{whole_text}
 use Rattle.kx_batch.specs.Crc.{crc32c_of}
-use Rattle.kx_batch.specs.Record.{Record}
 
 ------ a text in parts
 

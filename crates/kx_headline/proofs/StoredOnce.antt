@@ -1,37 +1,24 @@
 -- Each batch stands at most once in its log, as it was sent, and once if its transaction commits:
 -- given what clients keep to.
-use Rattle.std.proofs.Common.{◌≡◌, ⊎_elim, ℕ, ℤ, ◌+◌, true}
-use Rattle.std.proofs.Common.{◌&&◌, List, [], ◌∷◌, ◌++◌, Option, Some, None, ◌==◌, Contains, refl}
-use Rattle.std.proofs.Common.{sym, ap, ◌∙◌, subst, arith}
-use Rattle.std.specs.Prelude.{IfSome, sum_by}
-use Rattle.std.proofs.lemmas.Bool.{and_from, and_parts}
-use Rattle.std.proofs.lemmas.Bool.Decides.{nat_tests}
-use Rattle.std.proofs.lemmas.List.Elements.{All-contains, Contains-append_right}
-use Rattle.std.proofs.lemmas.List.Sums.{sum_by-cons}
-use Rattle.kx_wire.specs.declared.code.ErrorCode.TheVariants.{NoError}
+use Rattle.std.proofs.Common.{◌≡◌, ℕ, true}
+use Rattle.std.proofs.Common.{Some, Contains}
+use Rattle.std.proofs.Common.{sym, ap, ◌∙◌, subst}
 use Rattle.kx_wire.specs.declared.message.Message.{Message}
 use Rattle.kx_wire.specs.declared.outcome.Outcome.TheVariants.{Commit}
 use Rattle.kx_batch.specs.Batch.{batch_of}
 use Rattle.kx_model.specs.Coordinator.{decision}
 use Rattle.kx_model.specs.Headline.{IsStoredOnce, StandsAt, is_stored_as}
-use Rattle.kx_model.specs.Log.{Entry, Plain, Data, Control, Placed, Sequenced, Stored, end, entries}
-use Rattle.kx_model.specs.Log.{entry_in, entry_of, placed_by, stored_width}
-use Rattle.kx_model.specs.PartitionNode.{Partition}
+use Rattle.kx_model.specs.Log.{Data, Sequenced, Stored, entries}
+use Rattle.kx_model.specs.Log.{entry_in, entry_of}
 use Rattle.kx_model.specs.Produce.{stored_at}
-use Rattle.kx_model.specs.Verification.{Request, Target, ToGroup, ToPartition, partition_of}
-use Rattle.kx_model.specs.Verification.{reply_for, reply_to, request_of}
-use Rattle.kx_model.specs.World.{World, log_at, log_in, notes, partition_at, run, start}
-use Rattle.kx_model.proofs.Logs.{end_is}
+use Rattle.kx_model.specs.Verification.{Request, partition_of}
+use Rattle.kx_model.specs.Verification.{request_of}
+use Rattle.kx_model.specs.World.{World, log_at, notes}
 use Rattle.kx_headline.proofs.WorldReaders.{grown_at}
-use Rattle.kx_headline.proofs.LogCauses.{data_came, each_came}
 use Rattle.kx_headline.proofs.MarkersFit.{markers_fit}
-use Rattle.kx_headline.proofs.Membership.{cons_cases, contains_head, map_holds, no_element}
-use Rattle.kx_headline.proofs.Membership.{SplitAt, split_at}
-use Rattle.kx_headline.proofs.Pages.{placed_by-append}
 use Rattle.kx_headline.proofs.PartitionsAlways.{PartitionsHold, PartitionsStand}
 use Rattle.kx_headline.proofs.Duplicates.{StoredLike}
-use Rattle.kx_headline.proofs.PartitionHolds.{Built, MarkersFit, PartitionHolds, WasAsked}
-use Rattle.kx_headline.proofs.PartitionHolds as holds
+use Rattle.kx_headline.proofs.PartitionHolds.{MarkersFit}
 use Rattle.kx_headline.proofs.PartitionPromises.{IsStored}
 use Rattle.kx_headline.proofs.Sequences.{grown_ordered}
 use Rattle.kx_headline.proofs.StoredRequests.{place_of, same_tells, stored_as, stored_request}
