@@ -15,7 +15,8 @@ use Rattle.kx_wire.specs.declared.message.Message.TheVariants as msg
 use Rattle.kx_wire.specs.declared.outcome.Outcome.{Outcome}
 use Rattle.kx_wire.specs.declared.outcome.Outcome.TheVariants.{Abort, Commit}
 use Rattle.kx_wire.specs.declared.payload.PartitionOffset.{PartitionOffset}
-use Rattle.kx_model.specs.Client.{Begin, Client, Command, Commanded, Declines, Does, End, Fault, Init}
+use Rattle.kx_model.specs.Client.{Begin, Client, Command, Commanded, Declines, Does, End}
+use Rattle.kx_model.specs.Client.{Fault, Init}
 use Rattle.kx_model.specs.Client.{JoinGroup, LeaveGroup, Place, Resend, Send, SendOffsets, Sequence}
 use Rattle.kx_model.specs.Client.{asks, client_batch, command, does, is_end, is_ending, is_init}
 use Rattle.kx_model.specs.Client.{leaves, refusals, sending, sends, sends_end, sends_offsets}
@@ -23,7 +24,8 @@ use Rattle.kx_model.specs.Client.{sequence_of, unless, value_records, with_seque
 use Rattle.kx_model.specs.Replies.{correlation_of}
 use Rattle.kx_headline.proofs.ClientAsks as ask
 use Rattle.kx_headline.proofs.ClientAsks.{Asks, asked, knows_later}
-use Rattle.kx_headline.proofs.ClientRequests.{Answered, Carries, HasEnded, HeldFits, IsIts, Knows, Load}
+use Rattle.kx_headline.proofs.ClientRequests.{Answered, Carries, HasEnded, HeldFits}
+use Rattle.kx_headline.proofs.ClientRequests.{IsIts, Knows, Load}
 use Rattle.kx_headline.proofs.ClientRequests.{IsAwaited, is_batch, is_offsets, sender}
 use Rattle.kx_headline.proofs.ClientRequests.{with_batch, with_offsets}
 use Rattle.kx_headline.proofs.Lists.{All-from_contains}
@@ -212,24 +214,25 @@ module _ (sent : List Message) (c : Client) (k : Knows sent c)
       })
       → is_end m ≡ false → is_init m ≡ false → (is_offsets m ≡ true → c.in_transaction ≡ true)
       → Asks sent c k (sending c partition more) m
-  carrying partition more m held there works none some s n carries not_end not_init inside = record {
-    number = refl;
-    held = refl;
-    correlation = refl;
-    works = works;
-    aborting = refl;
-    inside = refl;
-    its_sender = s;
-    its_number = n;
-    sequences = sequence_grows c.sequences partition more;
-    waiting = λ x w. w;
-    kept = inl refl;
-    load = λ l other. subst Loads (one_load m own l carries other) own_loads;
-    batch = λ e. (not_end, none);
-    offsets = inside;
-    ending = λ i txn h outcome e. absurd (let no = sym not_end ∙ ap is_end e in cc);
-    init = λ e. absurd (let no = sym e ∙ not_init in cc);
-  }
+  carrying partition more m held there works none some s n carries not_end not_init inside =
+      record {
+        number = refl;
+        held = refl;
+        correlation = refl;
+        works = works;
+        aborting = refl;
+        inside = refl;
+        its_sender = s;
+        its_number = n;
+        sequences = sequence_grows c.sequences partition more;
+        waiting = λ x w. w;
+        kept = inl refl;
+        load = λ l other. subst Loads (one_load m own l carries other) own_loads;
+        batch = λ e. (not_end, none);
+        offsets = inside;
+        ending = λ i txn h outcome e. absurd (let no = sym not_end ∙ ap is_end e in cc);
+        init = λ e. absurd (let no = sym e ∙ not_init in cc);
+      }
     where
       own : Load
       own = record {

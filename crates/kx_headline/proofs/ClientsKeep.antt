@@ -22,7 +22,8 @@ use Rattle.kx_headline.proofs.ClientHolds.{Handed, IsEntitled}
 use Rattle.kx_headline.proofs.ClientRequests.{Answered, AreMade, IsIts, IsMade, Knows}
 use Rattle.kx_headline.proofs.ClientRequests.{RequestsStand, sender}
 use Rattle.kx_headline.proofs.CommitsAsked.{commit_asked}
-use Rattle.kx_headline.proofs.Loads.{carries_reads}
+use Rattle.kx_headline.proofs.DroppedIds.{same_number}
+use Rattle.kx_headline.proofs.Loads.{carries_reads, same_request}
 use Rattle.kx_headline.proofs.Membership.{map_holds}
 use Rattle.kx_headline.proofs.OneHolder.{one_client}
 use Rattle.kx_headline.proofs.PartitionsAlways.{PartitionsStand, Promised, partitions_stand_always}
@@ -63,12 +64,6 @@ numbers_of v d e = by (end_marker_of v) e
         → Numbers v.producer_id v.producer_epoch v.base_sequence d
     by None e = data_numbers v.producer_id v.producer_epoch v.base_sequence v d e
     by (Some said) e = absurd (control_numbers v.producer_id v.producer_epoch said v d e)
-
-same_number : (a b : ℕ) → pos a ≡ pos b → a ≡ b
-same_number a b e = cc
-
-same_request : (r s : Request) → Some r ≡ Some s → r ≡ s
-same_request r s e = cc
 
 -- the client and the correlation of a request are those of its message
 request_is : (m : Message) (r : Request) → request_of m ≡ Some r

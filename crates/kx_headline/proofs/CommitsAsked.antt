@@ -35,7 +35,8 @@ RowAsked sent r =
 RowsAsked : List Message → List Note → Type 0
 RowsAsked sent log = (r : Row) → Contains log (Written r) → RowAsked sent r
 
-module _ (sent : List Message) (log : List Note) (sound : Sound log) (asked : RowsAsked sent log) where
+module _ (sent : List Message) (log : List Note) (sound : Sound log)
+    (asked : RowsAsked sent log) where
   by_reason : (s : Row) (o : Outcome) (cause : Cause) → Reason sent s o cause → o ≡ Commit
       → (id epoch : ℕ) → Ends id epoch (prepared log s o cause) → CommitAsked sent id epoch
   by_reason s o cause (follows.by_end u client k m) is id epoch (one_higher a b d) =

@@ -20,7 +20,7 @@ use Rattle.kx_headline.proofs.CoordinatorSound.{Sound}
 use Rattle.kx_headline.proofs.EventDoes.{CoordinatorTurn, ClientTurn, Turn, nobodys, coordinators}
 use Rattle.kx_headline.proofs.EventDoes.{partitions, clients, making, always, expires_now}
 use Rattle.kx_headline.proofs.EventDoes.{reminds_now}
-use Rattle.kx_headline.proofs.Lists.{found_there}
+use Rattle.kx_headline.proofs.Membership.{find_tells}
 use Rattle.kx_headline.proofs.SentKinds.{IsClients, IsPartitions, WaitsForOwn, client_sends}
 use Rattle.kx_headline.proofs.SentKinds.{turn_sends}
 use Rattle.kx_headline.proofs.SentKinds
@@ -124,7 +124,7 @@ stands_next w later stands (partitions number p s there turn) = record {
 stands_next w later stands (clients c after messages there turn) =
     client_stands w stands c after messages
     (All-contains WaitsForOwn w.clients c stands.waiting
-    (found_there (λ d. d.number == c.number) w.clients c there).0) turn
+    (find_tells (λ d. d.number == c.number) w.clients c there).0) turn
 stands_next w later stands (making number txn timeout new a b c) = record {
   coordinator = stands.coordinator;
   waiting = All-push WaitsForOwn w.clients (new_client number txn timeout) stands.waiting

@@ -45,7 +45,8 @@ use Rattle.kx_headline.proofs.CoordinatorFollows.{given_up, is_raised, taken_ove
 use Rattle.kx_headline.proofs.CoordinatorFollows.{Raised, higher, anew, there, not_prepare}
 use Rattle.kx_headline.proofs.CoordinatorRows.{ends_own, row_of-found, row_of-own_txn}
 use Rattle.kx_headline.proofs.CoordinatorSound.{Sound}
-use Rattle.kx_headline.proofs.Lists.{found_there, list_all_tells}
+use Rattle.kx_headline.proofs.Lists.{list_all_tells}
+use Rattle.kx_headline.proofs.Membership.{find_tells}
 use Rattle.kx_headline.proofs.Membership.{any_holds, cons_cases, no_element}
 
 ------ what an answer does
@@ -476,6 +477,6 @@ expire_follows sent log now = at (find (is_overdue now) (rows log)) refl
         (λ r. Follows sent log (Written r))
     at None none = tt
     at (Some r) found =
-        let (c, overdue) = found_there (is_overdue now) (rows log) r found in
+        let (c, overdue) = find_tells (is_overdue now) (rows log) r found in
         prepares r Abort ByExpiry (rows_last log r c) (overdue_ongoing now r r.state overdue)
         by_expiry

@@ -29,7 +29,8 @@ use Rattle.kx_model.specs.World.{IsSchedule, client_at, commanded, data_partitio
 use Rattle.kx_model.specs.World.{does, is_new, node_takes, partition_at, plain_text, puts_at}
 use Rattle.kx_model.specs.World.{restarts_at, run, start, step, to_client, to_node, to_partition}
 use Rattle.kx_model.specs.World.{with_client, with_coordinator, with_partition}
-use Rattle.kx_headline.proofs.Lists.{All-slice_get, found_there}
+use Rattle.kx_headline.proofs.Lists.{All-slice_get}
+use Rattle.kx_headline.proofs.Membership.{find_tells}
 
 ------ turns
 
@@ -81,7 +82,7 @@ pub data Turn (w : World) : World → Type 0 where
 its_number : (w : World) (number : ℕ) (c : Client) → client_at w number ≡ Some c
     → client_at w c.number ≡ Some c
 its_number w number c e =
-    let (there, same) = found_there (λ c. c.number == number) w.clients c e in
+    let (there, same) = find_tells (λ c. c.number == number) w.clients c e in
     let n : c.number ≡ number = grind (arith, nat_tests) in
     ap (client_at w) n ∙ e
 
@@ -98,7 +99,7 @@ module _ (w : World) where
       → client_at w number ≡ o → Turn w (to_client w m o)
   to_client_is number m c r None e = nobodys
   to_client_is number m c r (Some client) e =
-      let (there, same) = found_there (λ c. c.number == number) w.clients client e in
+      let (there, same) = find_tells (λ c. c.number == number) w.clients client e in
       let n : client.number ≡ number = grind (arith, nat_tests) in
       clients client (take_reply client m) [] (its_number w number client e)
       (hears m c (r ∙ ap node.Client (sym n)))

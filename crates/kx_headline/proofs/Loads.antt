@@ -1,8 +1,9 @@
 -- What a request carries is what its batch reads as, so it carries one load.
-use Rattle.std.proofs.Common.{◌≡◌, ℕ, pos, Some, refl, sym, ap, ◌∙◌, arith}
+use Rattle.std.proofs.Common.{◌≡◌, pos, Some, refl, sym, ap, ◌∙◌, arith}
 use Rattle.kx_wire.specs.declared.message.Message.{Message}
 use Rattle.kx_batch.specs.Batch.{batch_of}
 use Rattle.kx_model.specs.Verification.{Request, partition_of, request_of}
+use Rattle.kx_headline.proofs.DroppedIds.{same_number}
 use Rattle.kx_headline.proofs.ClientRequests.{Carries, Load, with_batch, with_offsets}
 use Rattle.kx_headline.proofs.SentBatches.{reads_epoch, reads_id, reads_sequence}
 
@@ -39,10 +40,7 @@ carries_reads m l
       first = reads_sequence _ (record { sfits = omega (arith, low) });
     }
 
-same_number : (a b : ℕ) → pos a ≡ pos b → a ≡ b
-same_number a b e = cc
-
-same_request : (r s : Request) → Some r ≡ Some s → r ≡ s
+pub same_request : (r s : Request) → Some r ≡ Some s → r ≡ s
 same_request r s e = cc
 
 -- a request carries one load

@@ -35,7 +35,7 @@ use Rattle.kx_headline.proofs.CoordinatorRows.{Names, own, previous, next, above
 use Rattle.kx_headline.proofs.CoordinatorRows.{Ends, one_higher, replaced}
 use Rattle.kx_headline.proofs.EventDoes.{CoordinatorTurn, Turn, nobodys, coordinators, partitions}
 use Rattle.kx_headline.proofs.EventDoes.{clients, making, always}
-use Rattle.kx_headline.proofs.Lists.{found_there}
+use Rattle.kx_headline.proofs.Membership.{find_tells}
 use Rattle.kx_headline.proofs.Membership.{any_holds, no_element}
 use Rattle.kx_headline.proofs.Owners.{Pairs, has_now, promised, allotted_below}
 use Rattle.kx_headline.proofs.Owners.{new_allotment, one_owner, unnamed}
@@ -355,7 +355,7 @@ holders_next w later h (partitions number p s there turn) =
     (stands_next w (with_partition w number s) h.stands (partitions number p s there turn)) s.1
     (turn_sends w number p s turn) refl refl refl
 holders_next w later h (clients c after messages there turn) =
-    let at = (found_there (λ d. d.number == c.number) w.clients c there).0 in
+    let at = (find_tells (λ d. d.number == c.number) w.clients c there).0 in
     let mine = All-contains (HoldsOwn w.sent) w.clients c h.clients at in
     let waits = All-contains WaitsForOwn w.clients c h.stands.waiting at in
     let t = turn_holds w c after messages mine turn in

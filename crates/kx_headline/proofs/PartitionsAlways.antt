@@ -1,7 +1,8 @@
 -- Over every schedule: why each entry stands in each partition's log, and what partitions have
 -- promised of their logs.
 use Rattle.std.proofs.Common.{◌≡◌, ◌==◌, ℕ, zero, suc, Bool, true, false, cond, List}
-use Rattle.std.proofs.Common.{[], ◌∷◌, ◌++◌, Option, Some, None, Contains, All, replicate, refl, sym}
+use Rattle.std.proofs.Common.{[], ◌∷◌, ◌++◌, Option, Some, None, Contains, All}
+use Rattle.std.proofs.Common.{replicate, refl, sym}
 use Rattle.std.proofs.Common.{ap, ◌∙◌, subst}
 use Rattle.std.specs.Prelude.{IfSome, slice_get, slice_set}
 use Rattle.std.proofs.lemmas.Bool.{cond_both}
@@ -31,7 +32,7 @@ use Rattle.kx_headline.proofs.CoordinatorDoes
 use Rattle.kx_headline.proofs.CoordinatorDoes.{IsCoordinators, Out}
 use Rattle.kx_headline.proofs.EventDoes.{PartitionTurn, Turn, always, clients, coordinators, drops}
 use Rattle.kx_headline.proofs.EventDoes.{making, nobodys, partitions, puts_values, restarts, takes}
-use Rattle.kx_headline.proofs.Lists.{found_there}
+use Rattle.kx_headline.proofs.Membership.{find_tells}
 use Rattle.kx_headline.proofs.LogRules.{AtLeast}
 use Rattle.kx_headline.proofs.MarkersFit.{markers_fit}
 use Rattle.kx_headline.proofs.PartitionDoes.{IsPaired, State, changed_does, made_without_producer}
@@ -297,7 +298,7 @@ partitions_next w later h (partitions number p s there turn) =
     (stands_next w (with_partition w number s) h.coordinator (partitions number p s there turn))
     turn
 partitions_next w later h (clients c after messages there turn) =
-    let at = (found_there (λ d. d.number == c.number) w.clients c there).0 in
+    let at = (find_tells (λ d. d.number == c.number) w.clients c there).0 in
     let waits = All-contains WaitsForOwn w.clients c h.coordinator.waiting at in
     let world = with_client w after messages in
     still w h world messages

@@ -25,7 +25,8 @@ use Rattle.kx_headline.proofs.ClientAsks.{knows_later}
 use Rattle.kx_headline.proofs.ClientCommands.{Makes, Moved, command_moves}
 use Rattle.kx_headline.proofs.ClientHolds.{Handed, HoldsOwn, by_end, by_init, handed_later}
 use Rattle.kx_headline.proofs.ClientHolds.{turn_holds}
-use Rattle.kx_headline.proofs.ClientReplies.{IsBelow, Raises, earlier_epoch, earlier_id, reply_knows}
+use Rattle.kx_headline.proofs.ClientReplies.{IsBelow, Raises, earlier_epoch, earlier_id}
+use Rattle.kx_headline.proofs.ClientReplies.{reply_knows}
 use Rattle.kx_headline.proofs.ClientRequests.{AreMade, HeldFits, IsIts, Knows, RequestsStand}
 use Rattle.kx_headline.proofs.ClientRequests.{IsAwaited, sender}
 use Rattle.kx_headline.proofs.CoordinatorAlways.{CoordinatorStands, stands_sound, turn_does}
@@ -38,7 +39,8 @@ use Rattle.kx_headline.proofs.CoordinatorSound.{Shape}
 use Rattle.kx_headline.proofs.EventDoes.{ClientTurn, Turn, always}
 use Rattle.kx_headline.proofs.EventDoes.{clients, commands, coordinators, hears, making, nobodys}
 use Rattle.kx_headline.proofs.EventDoes.{partitions}
-use Rattle.kx_headline.proofs.Lists.{All-from_contains, found_there, list_all_tells}
+use Rattle.kx_headline.proofs.Lists.{All-from_contains, list_all_tells}
+use Rattle.kx_headline.proofs.Membership.{find_tells}
 use Rattle.kx_headline.proofs.Loads.{one_load}
 use Rattle.kx_headline.proofs.Membership.{map_holds, map_keeps, no_element}
 use Rattle.kx_headline.proofs.OneHolder.{HoldersStand, holders_first, holders_next}
@@ -386,7 +388,7 @@ requests_next w later h (partitions number p s there turn) =
     (holders_next w (with_partition w number s) h.holders (partitions number p s there turn)) s.1
     (All-weaker IsPartitions OfNobody partitions_send s.1 (turn_sends w number p s turn)) refl refl
 requests_next w later h (clients c after messages there turn) =
-    let at = (found_there (λ d. d.number == c.number) w.clients c there).0 in
+    let at = (find_tells (λ d. d.number == c.number) w.clients c there).0 in
     let mine = All-contains (HoldsOwn w.sent) w.clients c h.holders.clients at in
     let number = (turn_holds w c after messages mine turn).1 in
     let moved = turn_moves w h c after messages

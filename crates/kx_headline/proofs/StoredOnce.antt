@@ -76,7 +76,8 @@ module _ (w : World) (all : PartitionsHold w) (fit : MarkersFit w.sent) (clients
       let here : a.partition ≡ q =
       sym asked.here ∙ ap (λ (x : Request). partition_of x.target) {x = a.stored.request} one in
       let like = subst (λ n. StoredLike (entries (log_at w n)) d) here
-      (a.stored.stored d (ap (λ (x : Request). entry_in (batch_of x.text)) {x = a.stored.request} one
+      (a.stored.stored d
+      (ap (λ (x : Request). entry_in (batch_of x.text)) {x = a.stored.request} one
       ∙ reads)) in
       let p = place_of w q like.batch like.there in
       let same = itself p.offset p.stored p.there
