@@ -65,26 +65,30 @@ module _ (w : World) (all : PartitionsHold w) (fit : MarkersFit w.sent) (clients
       reads e.id e.epoch e.first in
       s.is ∙ ap (stored_at offset) text
 
-  committed : decision (notes w) d.id d.epoch ≡ Some Commit
+  promised : (partition : ℕ)
+      → IsStored w.sent partition (log_at w partition) r.client r.correlation
       → (offset : ℕ) × StandsAt w r offset (stored_at offset r.text)
-  committed e =
-      let a = clients.answered m r d handed is reads e in
-      let asked = a.stored.asked_for in
-      let one : a.stored.request ≡ r =
-      clients.one_request asked.message m a.stored.request r asked.handed handed asked.is is
-      a.stored.its_client a.stored.its_correlation in
-      let here : a.partition ≡ q =
-      sym asked.here ∙ ap (λ (x : Request). partition_of x.target) {x = a.stored.request} one in
+  promised partition stored =
+      let asked = stored.asked_for in
+      let one : stored.request ≡ r =
+      clients.one_request asked.message m stored.request r asked.handed handed asked.is is
+      stored.its_client stored.its_correlation in
+      let here : partition ≡ q =
+      sym asked.here ∙ ap (λ (x : Request). partition_of x.target) one in
       let like = subst (λ n. StoredLike (entries (log_at w n)) d) here
-      (a.stored.stored d
-      (ap (λ (x : Request). entry_in (batch_of x.text)) {x = a.stored.request} one
-      ∙ reads)) in
+      (stored.stored d (ap (λ (x : Request). entry_in (batch_of x.text)) one ∙ reads)) in
       let p = place_of w q like.batch like.there in
       let same = itself p.offset p.stored p.there
       (ap (is_stored_as d) p.is ∙ stored_as d like.batch like.id like.epoch like.first) in (
         p.offset,
         subst (StandsAt w r p.offset) {y = stored_at p.offset r.text} same p.there,
       )
+
+  committed : decision (notes w) d.id d.epoch ≡ Some Commit
+      → (offset : ℕ) × StandsAt w r offset (stored_at offset r.text)
+  committed e =
+      let a = clients.answered m r d handed is reads e in
+      promised a.partition a.stored
 
 -- each batch sent stands once in a world, where clients keep to that
 pub stored_once : (w : World) → PartitionsStand w → ClientsKeep w → (m : Message) (r : Request)
