@@ -1,8 +1,9 @@
 -- The newest of the batches that are remembered.
 use Rattle.std.proofs.Common.{◌≡◌, ◌+◌, ◌-◌, ◌<◌, ◌≤◌, ℕ, ℤ, pos, ◌+ℤ◌, List, [], ◌∷◌, ◌++◌, length}
-use Rattle.std.proofs.Common.{Option, Some, None, refl, sym, ap, ◌∙◌, slice_get, suc, zero, arith, drop, map}
-use Rattle.std.proofs.Common.{⊎_elim, ◌⊎◌}
-use Rattle.std.proofs.lemmas.List.{drop-append-le, drop-drop, length-append, length-drop, length-map}
+use Rattle.std.proofs.Common.{Option, Some, None, refl, sym, ap, ◌∙◌, slice_get, suc, zero, arith}
+use Rattle.std.proofs.Common.{drop, map, ⊎_elim, ◌⊎◌}
+use Rattle.std.proofs.lemmas.List.{drop-append-le, drop-drop, length-append, length-drop}
+use Rattle.std.proofs.lemmas.List.{length-map}
 use Rattle.std.proofs.lemmas.List.{map-append}
 use Rattle.circular_buffer.specs.Buffer.{last_item}
 use Rattle.kx_model.specs.Producers.{last_of}

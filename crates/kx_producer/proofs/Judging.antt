@@ -19,7 +19,8 @@ use Rattle.kx_producer.specs.Verdicts.{sequence_behind, verdict, verdict_behind,
 use Rattle.kx_producer.specs.declared.noted.RememberedBatch.{RememberedBatch}
 use Rattle.kx_producer.specs.declared.verdict.Verdict.{Verdict}
 use Rattle.kx_producer.specs.declared.verdict.Verdict.TheVariants.{Next, OldEpoch, OutOfOrder}
-use Rattle.kx_producer.proofs.Following.{IsAbove, above_none, above_some, equal, higher, less, lower}
+use Rattle.kx_producer.proofs.Following.{IsAbove, above_none, above_some, equal, higher, less}
+use Rattle.kx_producer.proofs.Following.{lower}
 use Rattle.kx_producer.proofs.Following.{no_batches, no_marker, order, other_epoch, same_id, Order}
 use Rattle.kx_producer.proofs.Batches.{last_of_few}
 
@@ -82,7 +83,8 @@ same_int a b = at (int_eq (pos a) (pos b)) (a == b) refl refl
         absurd (grind (arith, nat_tests))
     at false true e f =
         let equal : a ≡ b = grind (arith, nat_tests) in
-        let is : int_eq (pos a) (pos b) ≡ true = (Decides-int_eq (pos a) (pos b)).1 (ap pos equal) in
+        let is : int_eq (pos a) (pos b) ≡ true =
+        (Decides-int_eq (pos a) (pos b)).1 (ap pos equal) in
         absurd (cc)
 
 found_same : (first last : ℕ) (batches : List (Placed Sequenced))
@@ -191,7 +193,8 @@ verdict_same table log batch stands =
         (ap (λ b. cond b (map remembered_of (last_of 5 (batches_in (placed log) batch.id epoch)))
         []) (ap (λ n. n == batch.epoch) h ∙ same_id batch.epoch)
         ∙ ap (λ n. map remembered_of (last_of 5 (batches_in (placed log) batch.id n))) h
-        ∙ ap (λ l. map remembered_of (last_of 5 l)) (sym (batches_placed log batch.id batch.epoch))))
+        ∙ ap (λ l. map remembered_of (last_of 5 l))
+        (sym (batches_placed log batch.id batch.epoch))))
     by epoch e (lower h) =
         ap (λ v. cond (nat_lt batch.epoch epoch) OldEpoch v)
         (ap (λ b. verdict_behind (cond b

@@ -3,8 +3,8 @@ ghost use Rattle.std.specs.Prelude.{◌≡◌, [], IfSome, IfOk, IsOk, is_some, 
 ghost use Rattle.circular_buffer.specs.Buffer.{buffer};
 ghost use Rattle.kx_producer.specs.Known.{fresh, raised, with_batch, with_entry};
 ghost use Rattle.kx_producer.specs.Known.{with_marker};
-ghost use Rattle.kx_producer.specs.Verdicts.{has_sequences, in_turn, sequence_behind, verdict_behind};
-ghost use Rattle.kx_producer.specs.Verdicts.{verdict_of};
+ghost use Rattle.kx_producer.specs.Verdicts.{has_sequences, in_turn, sequence_behind};
+ghost use Rattle.kx_producer.specs.Verdicts.{verdict_behind, verdict_of};
 
 use crate::noted::{Noted, RememberedBatch};
 use crate::verdict::Verdict;

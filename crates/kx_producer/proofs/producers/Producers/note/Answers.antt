@@ -22,7 +22,8 @@ returns-in-Some c =
     let wrote = c.get_mut.follows.holds c.note.new.self in
     record {
       ok =
-          entry_changed c.self.inside.known.entries _ c.args.self.now.table c.id-id.result (epoch_in c.args.entry)
+          entry_changed c.self.inside.known.entries _ c.args.self.now.table c.id-id.result
+          (epoch_in c.args.entry)
           known c.note.new.self (with_entry c.args.entry)
           (ap (λ (kept : Kept). kept.table) c.self.view_is)
           (ap (λ o. unwrap_or o (fresh (epoch_in c.args.entry))) (sym c.in-Some.ensures.value))

@@ -1,7 +1,8 @@
 use Rattle.std.proofs.Common.{◌≡◌, not, arith, ap, sym, ◌∙◌, is_some, false}
 use Rattle.std.specs.HashMap.{spare}
 use Rattle.kx_producer.specs.Known.{Kept, known_of}
-use Rattle.kx_producer.proofs.Tables.{entries_reordered, no_buffer, no_spare, known_where, none_there}
+use Rattle.kx_producer.proofs.Tables.{entries_reordered, known_where, no_buffer, no_spare}
+use Rattle.kx_producer.proofs.Tables.{none_there}
 use Rattle.kx_producer.proofs.producers.Producers.reserve.Goals as goal
 use Rattle.kx_producer.proofs.producers.Producers.reserve.Goals.{in-Some-1, in-None-1}
 
