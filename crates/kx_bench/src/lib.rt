@@ -18,10 +18,10 @@ pub extern "C" fn kx_bench_crc32c(bytes: &[u8]) -> u32
     crc32c(bytes)
 }
 
-fn value_size(record: &RecordView<'_>) -> usize
-    ensures { result ≡ value_size record.now.value }
+fn value_size(shown: &RecordView<'_>) -> usize
+    ensures { result ≡ value_size shown.now.value }
 {
-    match record.value() {
+    match shown.value() {
         Some(value) => value.len(),
         None => 0,
     }
