@@ -10,7 +10,7 @@ use Rattle.kx_model.specs.Page.{Page, fetched}
 use Rattle.kx_main.specs.Words.{before, lines_of, words_of}
 use Rattle.kx_main.specs.Command.{command_of}
 use Rattle.kx_main.specs.World.{answer_text, is_committed, lost_text, newline, page_text, put}
-use Rattle.kx_main.specs.World.{refused_text}
+use Rattle.kx_main.specs.World.{refused_text, told}
 use Rattle.kx_main.specs.declared.command.Command.{Command}
 use Rattle.kx_main.specs.declared.command.Command.TheVariants.{World, Put, Fetch}
 use Rattle.kx_main.specs.declared.command.Mode.{Mode}
@@ -32,7 +32,7 @@ abbrev pub put_in : List (List Stored) → ℕ → List (List ℕ) → Option (L
     → Option (List ℕ × State)
 put_in logs partition words None = None
 put_in logs partition words (Some log) = Some (
-  answer_text (end (entries log)) (put log words).0,
+  answer_text (told (end (entries log)) (put log words).0),
   Some (slice_set logs partition (put log words).1),
 )
 

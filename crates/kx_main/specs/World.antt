@@ -12,7 +12,11 @@ use Rattle.kx_batch.specs.Build.{batch_text, made, pushed, records_text}
 use Rattle.kx_model.specs.Log.{Stored}
 use Rattle.kx_model.specs.Page.{Page}
 use Rattle.kx_model.specs.Produce.{Verdict, Next, Duplicate, Unverified, Refused, produced}
-use Rattle.kx_model.specs.Reading.{committed_records}
+use Rattle.kx_model.specs.Reading.{Shown, committed_records}
+use Rattle.kx_log.specs.LogState.{LogState}
+use Rattle.kx_log.specs.Store.{IsSteady}
+use Rattle.kx_partition.specs.declared.answer.Produced.{Produced}
+use Rattle.kx_partition.specs.declared.answer.Produced.TheVariants as answer
 use Rattle.kx_main.specs.declared.command.Mode.{Mode}
 use Rattle.kx_main.specs.declared.command.Mode.TheVariants.{All, Committed}
 
@@ -40,6 +44,18 @@ put log words =
     if is_over words then (Refused MessageTooLarge, log)
     else produced log true (batch_text (batch_of words))
 
+-- what a partition answers by a verdict, in a log that ends at this offset
+abbrev pub told : ℕ → Verdict → Produced
+told offset Next = answer.Appended (pos offset)
+told offset (Duplicate stored) = answer.Duplicate (pos stored)
+told offset Unverified = answer.Unverified
+told offset (Refused code) = answer.Refused code
+
+-- a partition whose store never fails but for want of memory
+pub record NeverFails (log : LogState) : Type 0 where
+  pub not_closed : log.closed ≡ false
+  pub steady : IsSteady log.store
+
 ------ what is printed
 
 abbrev pub newline : List ℕ
@@ -51,13 +67,12 @@ refused_text code = codes "refused " ++ decimal (number_of code) ++ newline
 abbrev pub offset_text : ℤ → List ℕ
 offset_text offset = codes "offset " ++ signed_decimal offset ++ newline
 
--- the answer to a put in a log that ends at this offset; of the words of a script no batch is a
--- duplicate, and none has to be verified
-abbrev pub answer_text : ℕ → Verdict → List ℕ
-answer_text offset Next = offset_text (pos offset)
-answer_text offset (Duplicate stored) = offset_text (pos stored)
-answer_text offset Unverified = refused_text InvalidTxnState
-answer_text offset (Refused code) = refused_text code
+-- the answer to a put; no batch of words is a duplicate, and none has to be verified
+abbrev pub answer_text : Produced → List ℕ
+answer_text (answer.Appended offset) = offset_text offset
+answer_text (answer.Duplicate offset) = offset_text offset
+answer_text answer.Unverified = refused_text InvalidTxnState
+answer_text (answer.Refused code) = refused_text code
 
 -- the answer to a put for which memory was refused
 abbrev pub lost_text : List ℕ
@@ -67,13 +82,13 @@ abbrev pub value_text : Option (List ℕ) → List ℕ
 value_text None = []
 value_text (Some value) = value
 
--- a record and its offset
-abbrev pub value_line : ℤ → Record → List ℕ
-value_line offset r = signed_decimal offset ++ codes " " ++ value_text r.value ++ newline
+-- the value of a record, and its offset
+abbrev pub value_line : ℤ → Option (List ℕ) → List ℕ
+value_line offset value = signed_decimal offset ++ codes " " ++ value_text value ++ newline
 
 -- a record at this offset, if that is at or above `from`
 abbrev pub record_text : ℤ → ℤ → Record → List ℕ
-record_text from offset r = if int_lt offset from then [] else value_line offset r
+record_text from offset r = if int_lt offset from then [] else value_line offset r.value
 
 -- the records of a batch; those of a control batch are shown to nobody
 abbrev pub batch_lines : ℤ → Batch → List ℕ
@@ -81,24 +96,24 @@ batch_lines from batch =
     if is_control batch then []
     else flat_map (λ r. record_text from (batch.base_offset +ℤ r.offset_delta) r) batch.records
 
--- where the page ends, and the log
-abbrev pub end_text : Page → List ℕ
-end_text page =
-    codes "next " ++ decimal page.next ++ codes " lso " ++ decimal page.stable
-    ++ codes " end " ++ decimal page.end ++ newline
+-- records with their offsets
+abbrev pub shown_lines : List Shown → List ℕ
+shown_lines records = flat_map (λ s. value_line (pos s.offset) s.shown.value) records
 
--- what a reader of committed records gets
-abbrev pub committed_lines : Page → List ℕ
-committed_lines page =
-    flat_map (λ s. value_line (pos s.offset) s.shown) (committed_records page)
-
--- the records of a page from an offset on
+-- the records of a page that a fetch shows: all from an offset on, or the committed ones
 abbrev pub page_lines : ℤ → Mode → Page → List ℕ
 page_lines from All page = flat_map (λ stored. batch_lines from stored.batch) page.batches
-page_lines from Committed page = committed_lines page
+page_lines from Committed page = shown_lines (committed_records page)
+
+-- where a page ends, the last stable offset, and the end of the log
+abbrev pub end_text : ℤ → ℤ → ℤ → List ℕ
+end_text next stable end =
+    codes "next " ++ signed_decimal next ++ codes " lso " ++ signed_decimal stable
+    ++ codes " end " ++ signed_decimal end ++ newline
 
 abbrev pub page_text : ℤ → Mode → Page → List ℕ
-page_text from mode page = page_lines from mode page ++ end_text page
+page_text from mode page =
+    page_lines from mode page ++ end_text (pos page.next) (pos page.stable) (pos page.end)
 
 abbrev pub is_committed : Mode → Bool
 is_committed All = false

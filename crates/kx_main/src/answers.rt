@@ -1,13 +1,12 @@
 //! The press: what is printed of a page, of a put and of a refusal.
-ghost use Rattle.std.specs.Prelude.{◌≡◌, ◌++◌, ◌+ℤ◌, int_lt, codes, option_map, OnOk};
-ghost use Rattle.std.specs.Fmt.{signed_decimal};
+ghost use Rattle.std.specs.Prelude.{◌≡◌, ◌+ℤ◌, int_lt, option_map, OnOk, flat_map};
 ghost use Rattle.std.specs.Io.KnownBytes.{Appends};
-ghost use Rattle.kx_wire.specs.Codes.{number_of};
-ghost use Rattle.kx_main.specs.World.{batch_lines, end_text, newline, page_text, record_text};
-ghost use Rattle.kx_main.specs.World.{refused_text, value_text};
+ghost use Rattle.kx_main.specs.World.{answer_text, batch_lines, end_text, offset_text};
+ghost use Rattle.kx_main.specs.World.{record_text, refused_text, shown_lines, value_line};
 
 use kx_batch::{BatchView, RecordView};
-use kx_partition::FetchPage;
+use kx_partition::{FetchPage, Produced};
+use kx_reader::Committed;
 use kx_wire::ErrorCode;
 use std::io;
 use std::io::Write;
@@ -20,19 +19,30 @@ pub fn write_refusal<W: Write>(writer: &mut W, code: ErrorCode) -> io::Result<()
     writeln!(writer, "refused {code}")
 }
 
-/// Writes what a batch is answered that begins at this offset.
-pub fn write_offset<W: Write>(writer: &mut W, offset: i64) -> io::Result<()>
+// Writes where a batch begins.
+fn write_offset<W: Write>(writer: &mut W, offset: i64) -> io::Result<()>
     ensures { OnOk result (Appends (W.contents writer.old) (W.contents writer.new)
-        (codes "offset " ++ signed_decimal offset ++ newline)) }
+        (offset_text offset)) }
 {
     writeln!(writer, "offset {offset}")
+}
+
+/// Writes what a batch is answered.
+pub fn write_answer<W: Write>(writer: &mut W, answer: Produced) -> io::Result<()>
+    ensures { OnOk result (Appends (W.contents writer.old) (W.contents writer.new)
+        (answer_text answer)) }
+{
+    match answer {
+        Produced::Appended(offset) | Produced::Duplicate(offset) => write_offset(writer, offset),
+        Produced::Unverified => write_refusal(writer, ErrorCode::InvalidTxnState),
+        Produced::Refused(code) => write_refusal(writer, code),
+    }
 }
 
 // Writes a record as a line.
 fn write_value<W: Write>(writer: &mut W, offset: i128, value: Option<&[u8]>) -> io::Result<()>
     ensures { OnOk result (Appends (W.contents writer.old) (W.contents writer.new)
-        (signed_decimal offset ++ codes " "
-        ++ value_text (option_map (λ s. s.now) value.entry) ++ newline)) }
+        (value_line offset (option_map (λ s. s.now) value.entry))) }
 {
     write!(writer, "{offset} ")?;
     writer.write_all(value.unwrap_or(&[]))?;
@@ -83,24 +93,33 @@ fn write_batch<W: Write>(writer: &mut W, from: i64, batch: &BatchView<'_>) -> io
     Ok(())
 }
 
-// Writes where the page ends, and the log.
-fn write_end<W: Write>(writer: &mut W, page: &FetchPage<'_>) -> io::Result<()>
+/// Writes the records of a page from an offset on, a line each.
+pub fn write_all<W: Write>(writer: &mut W, from: i64, page: &FetchPage<'_>) -> io::Result<()>
     ensures { OnOk result (Appends (W.contents writer.old) (W.contents writer.new)
-        (end_text page.now)) }
-{
-    let next = page.next();
-    let stable = page.last_stable_offset();
-    let end = page.end();
-    writeln!(writer, "next {next} lso {stable} end {end}")
-}
-
-/// Writes the records of a page from an offset on, a line each, and then where the page ends.
-pub fn write_page<W: Write>(writer: &mut W, from: i64, page: &FetchPage<'_>) -> io::Result<()>
-    ensures { OnOk result (Appends (W.contents writer.old) (W.contents writer.new)
-        (page_text from page.now)) }
+        (flat_map (λ stored. batch_lines from stored.batch) page.now.batches)) }
 {
     for batch in page.batches() {
         write_batch(writer, from, &batch)?;
     }
-    write_end(writer, page)
+    Ok(())
+}
+
+/// Writes the records that a reader of committed records gets, a line each.
+pub fn write_committed<W: Write>(writer: &mut W, records: Committed<'_>) -> io::Result<()>
+    ensures { OnOk result (Appends (W.contents writer.old) (W.contents writer.new)
+        (shown_lines records.entry)) }
+{
+    for (offset, shown) in records {
+        write_value(writer, i128::from(offset), shown.value())?;
+    }
+    Ok(())
+}
+
+/// Writes where a page ends, and the log: the offset to fetch from next, the last stable offset,
+/// and the end.
+pub fn write_end<W: Write>(writer: &mut W, next: i64, stable: i64, end: i64) -> io::Result<()>
+    ensures { OnOk result (Appends (W.contents writer.old) (W.contents writer.new)
+        (end_text next stable end)) }
+{
+    writeln!(writer, "next {next} lso {stable} end {end}")
 }

@@ -2,14 +2,19 @@
 ghost use Rattle.std.specs.Prelude.{◌≡◌, ◌++◌, Some, IfSome, IsOk, MatchResult, codes};
 ghost use Rattle.kx_main.specs.declared.command.Command.TheVariants as command;
 ghost use Rattle.kx_main.specs.declared.fault.ScriptFault.TheVariants as fault;
-ghost use Rattle.kx_main.specs.Script.{Answered, Ends, Performed, ReadsLine};
+ghost use Rattle.std.specs.Io.KnownBytes.{Appends};
+ghost use Rattle.kx_model.specs.Page.{Page};
+ghost use Rattle.kx_partition.specs.Page.{fetched_of};
+ghost use Rattle.kx_main.specs.Script.{Answered, Ends, LeavesWriter, Performed, ReadsLine};
+ghost use Rattle.kx_main.specs.World.{page_text};
 
-use crate::answers::{write_offset, write_page, write_refusal};
-use crate::command::{Command, command_of};
+use crate::answers::{write_all, write_answer, write_committed, write_end, write_refusal};
+use crate::command::{Command, Mode, command_of};
 use crate::fault::ScriptFault;
 use crate::words::{SomeWords, without_newline, words_of};
 use crate::world::World;
-use kx_partition::{FetchFault, Produced};
+use kx_partition::{FetchFault, FetchPage};
+use kx_reader::Committed;
 use std::alloc::Global;
 use std::io;
 use std::io::{BufRead, ErrorKind, Write};
@@ -74,33 +79,58 @@ fn put<W: Write>(
         return Ok(false);
     }
     let done = match world.put(alloc, partition, words) {
-        Ok(Produced::Appended(offset)) => write_offset(writer, offset),
-        Ok(Produced::Refused(code)) => write_refusal(writer, code),
+        Ok(answer) => write_answer(writer, answer),
         Err(_) => writer.write_all(b"lost\n"),
     };
     written(done)?;
     Ok(true)
 }
 
+// Writes a page: its records from an offset on, or the committed ones, and where it ends.
+fn show<W: Write>(
+    alloc: Global,
+    page: FetchPage<'_>,
+    from: i64,
+    mode: Mode,
+    writer: &mut W,
+) -> Result<(), ScriptFault>
+    ensures { MatchResult result (λ done. (shown : Page) → page ≡ fetched_of shown
+        → Appends (W.contents writer.old) (W.contents writer.new) (page_text from mode shown))
+        (LeavesWriter (W.contents writer.old) (W.contents writer.new)) }
+{
+    let (next, stable, end) = (page.next(), page.last_stable_offset(), page.end());
+    match mode {
+        Mode::All => written(write_all(writer, from, &page))?,
+        Mode::Committed => {
+            let Ok(records) = Committed::new(alloc, page) else {
+                return Err(ScriptFault::Memory);
+            };
+            written(write_committed(writer, records))?;
+        }
+    }
+    written(write_end(writer, next, stable, end))
+}
+
 fn fetch<W: Write>(
+    alloc: Global,
     world: &World,
     partition: usize,
     from: i64,
+    mode: Mode,
     max: u32,
     writer: &mut W,
 ) -> Result<bool, ScriptFault>
-    ensures { Performed (Some world.now) (command.Fetch partition from max) (Some world.now)
+    ensures { Performed (Some world.now) (command.Fetch partition from mode max) (Some world.now)
         (W.contents writer.old) (W.contents writer.new) result }
 {
     if world.count() <= partition {
         return Ok(false);
     }
-    let done = match world.fetch(partition, from, max) {
-        Ok(page) => write_page(writer, from, &page),
-        Err(FetchFault::Refused(code)) => write_refusal(writer, code),
+    match world.fetch(partition, from, mode, max) {
+        Ok(page) => show(alloc, page, from, mode, writer)?,
+        Err(FetchFault::Refused(code)) => written(write_refusal(writer, code))?,
         Err(FetchFault::Memory) => return Err(ScriptFault::Memory),
-    };
-    written(done)?;
+    }
     Ok(true)
 }
 
@@ -120,8 +150,8 @@ fn perform<W: Write>(
             Some(world) => put(alloc, world, partition, words, writer),
             None => Ok(false),
         },
-        Command::Fetch(partition, from, max) => match world {
-            Some(world) => fetch(world, partition, from, max, writer),
+        Command::Fetch(partition, from, mode, max) => match world {
+            Some(world) => fetch(alloc, world, partition, from, mode, max, writer),
             None => Ok(false),
         },
     }

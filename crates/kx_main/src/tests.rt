@@ -41,6 +41,10 @@ fn runs_scripts(rt: HostRuntime) -> Result<(), Fail> {
     let page = "world 1\nput 0 a b\nput 0 c\nfetch 0 1 all 0\n";
     let shown = "-\noffset 0\noffset 2\n1 b\nnext 2 lso 3 end 3\n";
     assert!(rt; writes(alloc, page, shown));
+    // Without transactions the committed records are all.
+    let committed = "world 1\nput 0 a b\nput 0 c\nfetch 0 1 committed\nfetch 0 4 committed\n";
+    let shown = "-\noffset 0\noffset 2\n1 b\n2 c\nnext 3 lso 3 end 3\nrefused 1\n";
+    assert!(rt; writes(alloc, committed, shown));
     assert!(rt; writes(alloc, "world 1\nfetch 0 0 all\n", "-\nnext 0 lso 0 end 0\n"));
     assert!(rt; writes(alloc, "world 1\nfetch 0 1 all\n", "-\nrefused 1\n"));
     assert!(rt;
@@ -88,7 +92,8 @@ fn stops_at_the_first_bad_line(rt: HostRuntime) -> Result<(), Fail> {
         "put x a",
         "Put 0 a",
         "fetch 0 0",
-        "fetch 0 0 committed",
+        "fetch 0 0 Committed",
+        "fetch 0 0 committed 1 1",
         "fetch 0 0 all 1 1",
         "fetch 1 0 all",
         "fetch 0 9223372036854775808 all",

@@ -5,10 +5,13 @@ ghost use Rattle.kx_batch.specs.Build.{batch_text};
 ghost use Rattle.kx_model.specs.Log.{end, entries};
 ghost use Rattle.kx_model.specs.Page.{fetched};
 ghost use Rattle.kx_partition.specs.Answer.{Refuses, answer_of};
-ghost use Rattle.kx_main.specs.World.{BuildsBatch, batch_of, is_over, put};
+ghost use Rattle.kx_main.specs.World.{BuildsBatch, NeverFails, batch_of, is_committed, is_over};
+ghost use Rattle.kx_main.specs.World.{put, told};
 
+use crate::command::Mode;
 use crate::words::SomeWords;
 use kx_batch::{BatchBuilder, BuildFault};
+use kx_log::MemStore;
 use kx_partition::{FetchFault, FetchPage, Partition, Produced};
 use kx_wire::ErrorCode;
 use std::alloc::{AllocError, Global};
@@ -32,19 +35,29 @@ fn batch_of(alloc: Global, words: SomeWords<'_>) -> Result<Option<Vec<u8>>, Allo
     }
 }
 
-/// The data partitions of a script, numbered from 0.
+/// The data partitions of a script, numbered from 0, each on a store in memory.
 #[derive(Drop)]
 pub struct World {
-    partitions: Vec<Partition>,
+    partitions: Vec<Partition<MemStore>>,
 }
 
 impl Model for World {
-    ghost use Rattle.std.specs.Prelude.{List};
+    ghost use Rattle.std.specs.Prelude.{All, List, map};
     ghost use Rattle.kx_model.specs.Log.{Stored};
+    ghost use Rattle.kx_main.specs.World.{NeverFails};
 
     ghost Value = { List (List Stored) };
 
-    ghost view = { λ w. w.partitions.items };
+    ghost view = { λ w. map (λ p. p.batches) w.partitions.items };
+
+    ghost invariant = { λ w. All NeverFails w.partitions.items };
+}
+
+// A partition with an empty log.
+fn empty_partition(alloc: Global) -> Result<Partition<MemStore>, AllocError>
+    ensures { IfOk result (λ partition. (partition.batches ≡ []) × NeverFails partition) }
+{
+    Partition::rebuild(alloc, MemStore::new(Vec::new(alloc))).map_err(|_| AllocError)
 }
 
 impl World {
@@ -58,7 +71,7 @@ impl World {
     {
         let mut partitions = Vec::with_capacity(alloc, count)?;
         for _ in 0..count {
-            partitions.push(Partition::new(alloc))?;
+            partitions.push(empty_partition(alloc)?)?;
         }
         Ok(World { partitions })
     }
@@ -84,13 +97,13 @@ impl World {
     ) -> Result<Produced, AllocError>
         requires { partition < length self.old }
         ensures answer { IfOk result (λ answer. let log = slice_index_or self.old partition [] in
-            answer ≡ answer_of (end (entries log)) (put log words.entry).0) }
+            answer ≡ told (end (entries log)) (put log words.entry).0) }
         ensures log { OnOk result (self.new ≡ slice_set self.old partition
             (put (slice_index_or self.old partition []) words.entry).1) }
         ensures err { OnErr result (self.new ≡ self.old) }
     {
         match batch_of(alloc, words)? {
-            Some(text) => self.partitions[partition].produce(text.as_slice()),
+            Some(text) => self.partitions[partition].produce(text.as_slice(), true),
             None => Ok(Produced::Refused(ErrorCode::MessageTooLarge)),
         }
     }
@@ -100,11 +113,18 @@ impl World {
     /// # Errors
     ///
     /// Those of [`Partition::fetch`].
-    pub fn fetch(&self, partition: usize, from: i64, max: u32) -> Result<FetchPage<'_>, FetchFault>
+    pub fn fetch(
+        &self,
+        partition: usize,
+        from: i64,
+        mode: Mode,
+        max: u32,
+    ) -> Result<FetchPage<'_>, FetchFault>
         requires { partition < length self.now }
-        ensures { let answer = fetched (slice_index_or self.now partition []) from max false in
-            MatchResult result (λ page. answer ≡ Ok page) (Refuses answer) }
+        ensures { let answer = fetched (slice_index_or self.now partition []) from max
+            (is_committed mode) in
+            MatchResult result (Gives answer) (Refuses answer) }
     {
-        self.partitions[partition].fetch(from, max)
+        self.partitions[partition].fetch(from, max, mode == Mode::Committed)
     }
 }
