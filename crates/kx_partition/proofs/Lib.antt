@@ -1,4 +1,0 @@
-pub mod Judging
-pub mod Pages
-pub mod Places
-pub mod Storing
