@@ -1,4 +1,2 @@
-pub mod Judging
 pub mod Pages
-pub mod Places
-pub mod Storing
+pub mod Readers

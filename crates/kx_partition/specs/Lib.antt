@@ -1,3 +1,2 @@
-pub mod Answer
-pub mod Plain
-pub mod Stored
+pub mod Page
+pub mod Reply

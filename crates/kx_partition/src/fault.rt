@@ -1,6 +1,11 @@
-//! Why a partition gives no page.
+//! Why there is no page.
+ghost use Rattle.std.specs.Prelude.{◌≡◌};
+ghost use Rattle.kx_partition.specs.declared.fault.ReplyFault.{ReplyFault};
+ghost use Rattle.kx_partition.specs.declared.fault.ReplyFault.TheVariants.{Bytes, Memory};
 
+use kx_batch::BatchFault;
 use kx_wire::ErrorCode;
+use std::alloc::AllocError;
 use thiserror::Error;
 
 /// Why a fetch has no page. The partition is as before.
@@ -9,7 +14,37 @@ pub enum FetchFault {
     /// The fetch is refused, with the code that goes to the client.
     #[error("the fetch is refused with error code {0}")]
     Refused(ErrorCode),
-    /// Memory ran out. No fetch of plain batches asks for memory, so none answers it.
+    /// Memory ran out. Only a page that names aborted transactions asks for memory.
     #[error("out of memory")]
     Memory,
+}
+
+/// Why a message has no page.
+#[derive(Clone, Copy, Debug, PartialEq, Eq, Error)]
+pub enum ReplyFault {
+    /// It is no reply to a fetch, or one with an error code.
+    #[error("the message has no page")]
+    NoPage,
+    /// Its bytes aren't batches one after the other: the fault of the first that isn't right.
+    #[error("the page is damaged: {0}")]
+    Bytes(BatchFault),
+    /// Memory ran out. Only a page that names aborted transactions asks for memory.
+    #[error("out of memory")]
+    Memory,
+}
+
+impl From<BatchFault> for ReplyFault {
+    ghost from_gives = { λ damage fault. fault ≡ Bytes damage };
+
+    fn from(damage: BatchFault) -> ReplyFault {
+        ReplyFault::Bytes(damage)
+    }
+}
+
+impl From<AllocError> for ReplyFault {
+    ghost from_gives = { λ refused fault. fault ≡ Memory };
+
+    fn from(_refused: AllocError) -> ReplyFault {
+        ReplyFault::Memory
+    }
 }
