@@ -1,3 +1,4 @@
+pub mod Sent
+pub mod Kept
 pub mod Answer
-pub mod Plain
-pub mod Stored
+pub mod Opening

@@ -1,16 +1,21 @@
-//! A partition: the log of one topic's partition, to which batches are appended, and from which
-//! pages of them are fetched. What it answers is what `kx_model` says of the list of its batches,
-//! but that it takes plain batches only: every other is refused.
+//! A partition: the log of one topic's partition on its store, to which batches of records and
+//! transaction markers are appended as its tables judge them. What it answers, and its log after
+//! it, is what `kx_model` says of the list of its batches; what it keeps beside the log follows it,
+//! so that no answer scans it.
 #![tactic(auto)]
 
-mod fault;
-mod page;
+mod answer;
+mod batch;
+mod content;
+mod law;
+mod marker;
 mod partition;
-mod stored;
+mod summary;
 
-pub use fault::FetchFault;
-pub use page::{Batches, FetchPage};
-pub use partition::{Partition, Produced};
+pub use answer::Produced;
+pub use content::PartitionContent;
+pub use law::rebuilt_partitions_are_as_before;
+pub use partition::Partition;
 
 #[cfg(test)]
 mod tests;
