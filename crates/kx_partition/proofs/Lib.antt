@@ -1,4 +1,3 @@
+pub mod OpenTxns
+pub mod Following
 pub mod Judging
-pub mod Pages
-pub mod Places
-pub mod Storing
