@@ -1,3 +1,5 @@
 pub mod OpenTxns
-pub mod Following
 pub mod Judging
+pub mod Following
+pub mod Few
+pub mod Answering
