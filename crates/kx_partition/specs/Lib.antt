@@ -1,2 +1,6 @@
 pub mod Page
 pub mod Reply
+pub mod Sent
+pub mod Kept
+pub mod Answer
+pub mod Opening
