@@ -10,7 +10,7 @@ const TRANSACTIONAL: i16 = 0x10;
 
 // What a client sends.
 #[derive(Clone, Copy)]
-struct Batch {
+pub(crate) struct Batch {
     attributes: i16,
     id: i64,
     epoch: i16,
@@ -40,7 +40,7 @@ fn idempotent(epoch: i16, sequence: i32) -> Batch {
     }
 }
 
-fn plain() -> Batch {
+pub(crate) fn plain() -> Batch {
     Batch {
         attributes: 0,
         id: -1,
@@ -51,7 +51,7 @@ fn plain() -> Batch {
 }
 
 // Its text; a record has an empty value, so that one of them makes 68 bytes.
-fn text_of(alloc: Global, batch: Batch) -> Result<Vec<u8>, BuildFault> {
+pub(crate) fn text_of(alloc: Global, batch: Batch) -> Result<Vec<u8>, BuildFault> {
     let mut builder = BatchBuilder::new(
         alloc,
         batch.attributes,
@@ -66,7 +66,7 @@ fn text_of(alloc: Global, batch: Batch) -> Result<Vec<u8>, BuildFault> {
 }
 
 // A partition of an empty store.
-fn empty(rt: &impl Abort, alloc: Global) -> Partition<MemStore> {
+pub(crate) fn empty(rt: &impl Abort, alloc: Global) -> Partition<MemStore> {
     of_bytes(alloc, Vec::new(alloc)).expect(rt, "a partition")
 }
 
@@ -75,7 +75,7 @@ fn of_bytes(alloc: Global, bytes: Vec<u8>) -> Result<Partition<MemStore>, OpenFa
 }
 
 // What the partition answers to the batch, whose transaction is verified.
-fn send<S: Store>(
+pub(crate) fn send<S: Store>(
     rt: &impl Abort,
     alloc: Global,
     partition: &mut Partition<S>,
@@ -87,7 +87,7 @@ fn send<S: Store>(
 }
 
 // What it answers to a marker of this producer.
-fn end_txn<S: Store>(
+pub(crate) fn end_txn<S: Store>(
     rt: &impl Abort,
     partition: &mut Partition<S>,
     id: i64,
@@ -143,7 +143,7 @@ fn markers(rt: HostRuntime) {
 }
 
 // Three producers at once: 7 is aborted, 8 commits, and 9 stays open.
-fn three(rt: &impl Abort, alloc: Global) -> Partition<MemStore> {
+pub(crate) fn three(rt: &impl Abort, alloc: Global) -> Partition<MemStore> {
     let mut log = empty(rt, alloc);
     let two = Batch {
         records: 2,
