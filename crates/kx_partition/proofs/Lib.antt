@@ -5,3 +5,4 @@ pub mod Judging
 pub mod Following
 pub mod Few
 pub mod Answering
+pub mod Fetching
