@@ -1,6 +1,6 @@
 use Rattle.std.proofs.Common.{◌≡◌, ap, arith}
 use Rattle.kx_bench.specs.Reads.{values_size}
-use Rattle.kx_bench.proofs.values_size.Goals as goal
+use Rattle.kx_bench.proofs.reads.values_size.Goals as goal
 
 pub returns : goal.returns
 returns c =
