@@ -3,3 +3,5 @@ pub mod Judging
 pub mod Following
 pub mod Few
 pub mod Answering
+pub mod Noting
+pub mod Reading
