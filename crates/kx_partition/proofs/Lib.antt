@@ -6,3 +6,5 @@ pub mod Following
 pub mod Few
 pub mod Answering
 pub mod Fetching
+pub mod Noting
+pub mod Reading
