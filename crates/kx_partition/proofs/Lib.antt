@@ -8,3 +8,4 @@ pub mod Answering
 pub mod Fetching
 pub mod Noting
 pub mod Reading
+pub mod Rebuilding
