@@ -5,3 +5,5 @@ pub mod Few
 pub mod Answering
 pub mod Noting
 pub mod Reading
+pub mod Sending
+pub mod Producing
