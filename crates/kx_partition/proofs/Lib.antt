@@ -9,3 +9,5 @@ pub mod Fetching
 pub mod Noting
 pub mod Reading
 pub mod Rebuilding
+pub mod Sending
+pub mod Producing
