@@ -1,2 +1,10 @@
+pub mod Fetching
 pub mod Pages
 pub mod Readers
+pub mod OpenTxns
+pub mod Judging
+pub mod Following
+pub mod Few
+pub mod Answering
+pub mod Noting
+pub mod Reading
