@@ -24,6 +24,8 @@ pub use page::FetchPage;
 pub use partition::Partition;
 
 #[cfg(test)]
+mod fetch_tests;
+#[cfg(test)]
 mod page_tests;
 #[cfg(test)]
 mod tests;
