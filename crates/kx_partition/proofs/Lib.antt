@@ -1,3 +1,4 @@
+pub mod Fetching
 pub mod Pages
 pub mod Readers
 pub mod OpenTxns
@@ -5,7 +6,6 @@ pub mod Judging
 pub mod Following
 pub mod Few
 pub mod Answering
-pub mod Fetching
 pub mod Noting
 pub mod Reading
 pub mod Rebuilding

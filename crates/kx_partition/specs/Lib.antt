@@ -1,3 +1,4 @@
+pub mod Fetch
 pub mod Page
 pub mod Reply
 pub mod Sent

@@ -1,5 +1,6 @@
 //! Why there is no page.
 ghost use Rattle.std.specs.Prelude.{◌≡◌};
+ghost use Rattle.kx_partition.specs.declared.fault.FetchFault.TheVariants as fetch;
 ghost use Rattle.kx_partition.specs.declared.fault.ReplyFault.{ReplyFault};
 ghost use Rattle.kx_partition.specs.declared.fault.ReplyFault.TheVariants.{Bytes, Memory};
 
@@ -31,6 +32,14 @@ pub enum ReplyFault {
     /// Memory ran out. Only a page that names aborted transactions asks for memory.
     #[error("out of memory")]
     Memory,
+}
+
+impl From<AllocError> for FetchFault {
+    ghost from_gives = { λ refused fault. fault ≡ fetch.Memory };
+
+    fn from(_refused: AllocError) -> FetchFault {
+        FetchFault::Memory
+    }
 }
 
 impl From<BatchFault> for ReplyFault {
