@@ -7,3 +7,6 @@ pub mod Noting
 pub mod Reading
 pub mod Sending
 pub mod Producing
+pub mod Marking
+pub mod MarkerHere
+pub mod Rebuilding
