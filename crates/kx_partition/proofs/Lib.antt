@@ -9,4 +9,5 @@ pub mod Sending
 pub mod Producing
 pub mod Marking
 pub mod MarkerHere
+pub mod Taking
 pub mod Rebuilding
