@@ -11,3 +11,6 @@ pub mod Reading
 pub mod Rebuilding
 pub mod Sending
 pub mod Producing
+pub mod Marking
+pub mod MarkerHere
+pub mod Taking
