@@ -7,3 +7,4 @@ pub mod Performing
 pub mod Reading
 pub mod Running
 pub mod Writes
+pub mod Putting

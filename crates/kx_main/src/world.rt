@@ -3,8 +3,7 @@ ghost use Rattle.std.specs.Prelude.{◌≡◌, ◌<◌, [], true, false, length,
 ghost use Rattle.std.specs.Prelude.{OnErr, MatchResult, Ok, slice_index_or, slice_set};
 ghost use Rattle.kx_batch.specs.Build.{batch_text};
 ghost use Rattle.kx_model.specs.Log.{end, entries};
-ghost use Rattle.kx_model.specs.Page.{fetched};
-ghost use Rattle.kx_partition.specs.Answer.{Refuses, answer_of};
+ghost use Rattle.kx_partition.specs.Fetch.{FetchRefuses, answer_to};
 ghost use Rattle.kx_main.specs.World.{BuildsBatch, NeverFails, batch_of, is_committed, is_over};
 ghost use Rattle.kx_main.specs.World.{put, told};
 
@@ -121,9 +120,9 @@ impl World {
         max: u32,
     ) -> Result<FetchPage<'_>, FetchFault>
         requires { partition < length self.now }
-        ensures { let answer = fetched (slice_index_or self.now partition []) from max
+        ensures { let answer = answer_to (slice_index_or self.now partition []) from max
             (is_committed mode) in
-            MatchResult result (Gives answer) (Refuses answer) }
+            MatchResult result (λ page. answer ≡ Ok page) (FetchRefuses answer) }
     {
         self.partitions[partition].fetch(from, max, mode == Mode::Committed)
     }
