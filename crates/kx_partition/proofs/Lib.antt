@@ -11,4 +11,5 @@ pub mod Marking
 pub mod MarkerHere
 pub mod Taking
 pub mod Standing
+pub mod MarkersRead
 pub mod Rebuilding
