@@ -14,3 +14,5 @@ pub mod Producing
 pub mod Marking
 pub mod MarkerHere
 pub mod Taking
+pub mod Standing
+pub mod MarkersRead
