@@ -13,6 +13,6 @@ pub mod Sending
 pub mod Producing
 pub mod Marking
 pub mod MarkerHere
+pub mod MarkersRead
 pub mod Taking
 pub mod Standing
-pub mod MarkersRead
