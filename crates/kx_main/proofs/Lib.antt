@@ -8,3 +8,5 @@ pub mod Reading
 pub mod Running
 pub mod Writes
 pub mod Putting
+pub mod Pairs
+pub mod Worlds

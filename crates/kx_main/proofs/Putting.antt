@@ -1,6 +1,7 @@
 -- What a partition answers to a put, and what it keeps, whose store never fails.
 use Rattle.std.proofs.Common.{◌≡◌, ℕ, ℤ, pos, Bool, true, false, cond, List, [], ◌∷◌, ◌++◌, Some, None}
-use Rattle.std.proofs.Common.{refl, sym, ap, ◌∙◌, subst, Option}
+use Rattle.std.proofs.Common.{refl, sym, ap, ◌∙◌, subst, Option, Result, Ok, Err, IfOk}
+use Rattle.std.specs.Prelude.{OnErr}
 use Rattle.kx_wire.specs.declared.code.ErrorCode.TheVariants.{KafkaStorageError}
 use Rattle.kx_model.specs.Log.{Stored, end, entries}
 use Rattle.kx_model.specs.Produce.{Verdict, Next, Duplicate, Unverified, Refused, judge_text}
@@ -77,3 +78,10 @@ puts text old new given h (IsAnswered given' told' same) =
     }
 puts text old new given h (Breaks next broken) =
     absurd (no_failure old.store.appends _ broken.store.kept h.steady.appends broken.store.may)
+
+-- whatever it answers, its store goes on
+pub steady_after : {E : Type 0} (text : List ℕ) (old new : LogState) (r : Result Produced E)
+    → IfOk r (IsProduced text true old new) → OnErr r (new ≡ old) → NeverFails old
+    → NeverFails new
+steady_after text old new (Ok given) made same h = (puts text old new given h made).steady
+steady_after text old new (Err refused) made same h = subst NeverFails (sym same) h

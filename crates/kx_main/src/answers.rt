@@ -33,7 +33,8 @@ pub fn write_answer<W: Write>(writer: &mut W, answer: Produced) -> io::Result<()
         (answer_text answer)) }
 {
     match answer {
-        Produced::Appended(offset) | Produced::Duplicate(offset) => write_offset(writer, offset),
+        Produced::Appended(offset) => write_offset(writer, offset),
+        Produced::Duplicate(offset) => write_offset(writer, offset),
         Produced::Unverified => write_refusal(writer, ErrorCode::InvalidTxnState),
         Produced::Refused(code) => write_refusal(writer, code),
     }

@@ -2,6 +2,7 @@
 ghost use Rattle.std.specs.Prelude.{◌≡◌};
 ghost use Rattle.kx_main.specs.Command.{command_of, fetch_of, max_of, mode_of, named};
 ghost use Rattle.kx_main.specs.Command.{partition_of, put_of, world_of};
+ghost use Rattle.kx_main.specs.World.{is_committed};
 
 use crate::words::{SomeWords, Words, number_below};
 
@@ -27,6 +28,18 @@ pub enum Mode {
     All,
     /// `committed`: those that a reader of committed records gets.
     Committed,
+}
+
+impl Mode {
+    /// Whether only committed records are shown.
+    pub fn is_committed(self) -> bool
+        ensures { result ≡ is_committed self }
+    {
+        match self {
+            Mode::All => false,
+            Mode::Committed => true,
+        }
+    }
 }
 
 fn partition_of(word: &[u8]) -> Option<usize>

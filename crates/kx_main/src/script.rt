@@ -6,7 +6,7 @@ ghost use Rattle.std.specs.Io.KnownBytes.{Appends};
 ghost use Rattle.kx_model.specs.Page.{Page};
 ghost use Rattle.kx_partition.specs.Page.{fetched_of};
 ghost use Rattle.kx_main.specs.Script.{Answered, Ends, LeavesWriter, Performed, ReadsLine};
-ghost use Rattle.kx_main.specs.World.{page_text};
+ghost use Rattle.kx_main.specs.World.{page_lines, page_text};
 
 use crate::answers::{write_all, write_answer, write_committed, write_end, write_refusal};
 use crate::command::{Command, Mode, command_of};
@@ -86,7 +86,30 @@ fn put<W: Write>(
     Ok(true)
 }
 
-// Writes a page: its records from an offset on, or the committed ones, and where it ends.
+// Writes the records of a page from an offset on, or the committed ones.
+fn show_records<W: Write>(
+    alloc: Global,
+    page: FetchPage<'_>,
+    from: i64,
+    mode: Mode,
+    writer: &mut W,
+) -> Result<(), ScriptFault>
+    ensures { MatchResult result (λ done. (shown : Page) → page.entry ≡ fetched_of shown
+        → Appends (W.contents writer.old) (W.contents writer.new) (page_lines from mode shown))
+        (LeavesWriter (W.contents writer.old) (W.contents writer.new)) }
+{
+    match mode {
+        Mode::All => written(write_all(writer, from, &page)),
+        Mode::Committed => {
+            let Ok(records) = Committed::new(alloc, page) else {
+                return Err(ScriptFault::Memory);
+            };
+            written(write_committed(writer, records))
+        }
+    }
+}
+
+// Writes a page: its records, and where it ends.
 fn show<W: Write>(
     alloc: Global,
     page: FetchPage<'_>,
@@ -94,20 +117,12 @@ fn show<W: Write>(
     mode: Mode,
     writer: &mut W,
 ) -> Result<(), ScriptFault>
-    ensures { MatchResult result (λ done. (shown : Page) → page ≡ fetched_of shown
+    ensures { MatchResult result (λ done. (shown : Page) → page.entry ≡ fetched_of shown
         → Appends (W.contents writer.old) (W.contents writer.new) (page_text from mode shown))
         (LeavesWriter (W.contents writer.old) (W.contents writer.new)) }
 {
     let (next, stable, end) = (page.next(), page.last_stable_offset(), page.end());
-    match mode {
-        Mode::All => written(write_all(writer, from, &page))?,
-        Mode::Committed => {
-            let Ok(records) = Committed::new(alloc, page) else {
-                return Err(ScriptFault::Memory);
-            };
-            written(write_committed(writer, records))?;
-        }
-    }
+    show_records(alloc, page, from, mode, writer)?;
     written(write_end(writer, next, stable, end))
 }
 

@@ -56,7 +56,10 @@ impl Model for World {
 fn empty_partition(alloc: Global) -> Result<Partition<MemStore>, AllocError>
     ensures { IfOk result (λ partition. (partition.batches ≡ []) × NeverFails partition) }
 {
-    Partition::rebuild(alloc, MemStore::new(Vec::new(alloc))).map_err(|_| AllocError)
+    match Partition::rebuild(alloc, MemStore::new(Vec::new(alloc))) {
+        Ok(partition) => Ok(partition),
+        Err(_) => Err(AllocError),
+    }
 }
 
 impl World {
@@ -124,6 +127,6 @@ impl World {
             (is_committed mode) in
             MatchResult result (λ page. answer ≡ Ok page) (FetchRefuses answer) }
     {
-        self.partitions[partition].fetch(from, max, mode == Mode::Committed)
+        self.partitions[partition].fetch(from, max, mode.is_committed())
     }
 }

@@ -1,5 +1,5 @@
-use Rattle.std.proofs.Common.{◌≡◌, [], replicate}
+use Rattle.kx_main.proofs.Worlds.{AreEmpty}
 use Rattle.kx_main.proofs.world.World.new.Given as goal
 
 abbrev pub invariant-loop : goal.invariant-loop
-invariant-loop l = l.partitions.items ≡ replicate l.counter []
+invariant-loop l = AreEmpty l.counter l.partitions.items
