@@ -4,7 +4,8 @@ ghost use Rattle.kx_headline.specs.Grown.{IsGrown};
 ghost use Rattle.kx_log.specs.LogState.{IsAppendedTo, LogState};
 ghost use Rattle.kx_log.specs.Log.{IsLog, texts};
 ghost use Rattle.kx_model.specs.Log.{Marker, MarkerFits, Stored, end, entries};
-ghost use Rattle.kx_model.specs.Produce.{Appends, Next, judge_marker, judge_text, stored_at, text_of};
+ghost use Rattle.kx_model.specs.Produce.{Appends, Next, judge_marker, judge_text, stored_at};
+ghost use Rattle.kx_model.specs.Produce.{text_of};
 ghost use Rattle.kx_partition.specs.Opening.{IsUntaken};
 
 /// A log as the tables grew it has no batch that they don't append, so no rebuild refuses it; and a

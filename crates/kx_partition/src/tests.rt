@@ -6,12 +6,18 @@ use kx_wire::{Epoch, ErrorCode, Held, Outcome, ProducerId, Raised};
 use std::alloc::Global;
 use std::process::Abort;
 
-const TRANSACTIONAL: i16 = 0x10;
+// Whether a batch belongs to a transaction, or is a control batch.
+#[derive(Clone, Copy)]
+enum Kind {
+    Outside,
+    Transactional,
+    Control,
+}
 
 // What a client sends.
 #[derive(Clone, Copy)]
 pub(crate) struct Batch {
-    attributes: i16,
+    kind: Kind,
     id: i64,
     epoch: i16,
     sequence: i32,
@@ -21,7 +27,7 @@ pub(crate) struct Batch {
 // One record of a producer, in its transaction.
 fn txn(id: i64, epoch: i16, sequence: i32) -> Batch {
     Batch {
-        attributes: TRANSACTIONAL,
+        kind: Kind::Transactional,
         id,
         epoch,
         sequence,
@@ -32,7 +38,7 @@ fn txn(id: i64, epoch: i16, sequence: i32) -> Batch {
 // One record of producer 7 outside transactions, at an epoch.
 fn idempotent(epoch: i16, sequence: i32) -> Batch {
     Batch {
-        attributes: 0,
+        kind: Kind::Outside,
         id: 7,
         epoch,
         sequence,
@@ -42,7 +48,7 @@ fn idempotent(epoch: i16, sequence: i32) -> Batch {
 
 pub(crate) fn plain() -> Batch {
     Batch {
-        attributes: 0,
+        kind: Kind::Outside,
         id: -1,
         epoch: -1,
         sequence: -1,
@@ -52,13 +58,17 @@ pub(crate) fn plain() -> Batch {
 
 // Its text; a record has an empty value, so that one of them makes 68 bytes.
 pub(crate) fn text_of(alloc: Global, batch: Batch) -> Result<Vec<u8>, BuildFault> {
-    let mut builder = BatchBuilder::new(
-        alloc,
-        batch.attributes,
-        batch.id,
-        batch.epoch,
-        batch.sequence,
-    );
+    let Batch {
+        id,
+        epoch,
+        sequence,
+        ..
+    } = batch;
+    let mut builder = match batch.kind {
+        Kind::Outside => BatchBuilder::new(alloc, 0, id, epoch, sequence),
+        Kind::Transactional => BatchBuilder::new(alloc, 0x10, id, epoch, sequence),
+        Kind::Control => BatchBuilder::new(alloc, 0x20, id, epoch, sequence),
+    };
     for _ in 0..batch.records {
         builder.push(None, Some(&[]), &[])?;
     }
@@ -207,20 +217,29 @@ fn failed_appends(rt: HostRuntime) {
     assert!(&rt; log.end() == 2);
     assert!(&rt; send(&rt, alloc, &mut log, idempotent(0, 2)) == Produced::Appended(2));
     assert!(&rt; send(&rt, alloc, &mut log, idempotent(0, 2)) == Produced::Duplicate(2));
+}
 
-    let mut whole = after_failure(&rt, alloc, 68);
-    assert!(&rt; whole.end() == 3);
-    assert!(&rt; send(&rt, alloc, &mut whole, idempotent(0, 2)) == Produced::Duplicate(2));
-    assert!(&rt; send(&rt, alloc, &mut whole, idempotent(0, 3)) == Produced::Appended(3));
+#[test]
+fn appends_that_failed_whole(rt: HostRuntime) {
+    let alloc = rt.alloc();
+    let mut log = after_failure(&rt, alloc, 68);
+    assert!(&rt; log.end() == 3);
+    assert!(&rt; send(&rt, alloc, &mut log, idempotent(0, 2)) == Produced::Duplicate(2));
+    assert!(&rt; send(&rt, alloc, &mut log, idempotent(0, 3)) == Produced::Appended(3));
+}
 
-    whole.arm_load(true);
-    assert!(&rt; whole.reload().err() == Some(OpenFault::Device));
-    assert!(&rt; !whole.can_take(1) && whole.end() == 4);
-    whole.arm(Some(0));
-    whole.arm(None);
-    let content = whole.reload().expect(&rt, "a log");
-    whole.install(content);
-    assert!(&rt; send(&rt, alloc, &mut whole, idempotent(0, 4)) == Produced::Appended(4));
+#[test]
+fn failed_loads(rt: HostRuntime) {
+    let alloc = rt.alloc();
+    let mut log = after_failure(&rt, alloc, 68);
+    log.arm_load(true);
+    assert!(&rt; log.reload().err() == Some(OpenFault::Device));
+    assert!(&rt; !log.can_take(1) && log.end() == 3);
+    log.arm(Some(0));
+    log.arm(None);
+    let content = log.reload().expect(&rt, "a log");
+    log.install(content);
+    assert!(&rt; send(&rt, alloc, &mut log, idempotent(0, 3)) == Produced::Appended(3));
 }
 
 // One plain record, in the bytes of the message format.
@@ -238,17 +257,20 @@ fn by_hand(attributes: u8) -> [u8; 68] {
 }
 
 #[test]
-fn bytes_that_are_refused(rt: HostRuntime) {
+fn attributes_that_are_refused(rt: HostRuntime) {
     let alloc = rt.alloc();
-    let corrupt = Produced::Refused(ErrorCode::CorruptMessage);
     let invalid = Produced::Refused(ErrorCode::InvalidRecord);
     let compressed = Produced::Refused(ErrorCode::UnsupportedCompressionType);
-    let too_large = Produced::Refused(ErrorCode::MessageTooLarge);
     assert!(&rt; answer(&rt, alloc, &by_hand(0)) == Produced::Appended(0));
     assert!(&rt; answer(&rt, alloc, &by_hand(1)) == compressed);
     assert!(&rt; answer(&rt, alloc, &by_hand(0x20)) == invalid);
     assert!(&rt; answer(&rt, alloc, &by_hand(0x10)) == invalid);
+}
 
+#[test]
+fn damaged_bytes(rt: HostRuntime) {
+    let alloc = rt.alloc();
+    let corrupt = Produced::Refused(ErrorCode::CorruptMessage);
     let whole = by_hand(0);
     for len in 0..68 {
         assert!(&rt; answer(&rt, alloc, &whole[..len]) == corrupt);
@@ -256,7 +278,14 @@ fn bytes_that_are_refused(rt: HostRuntime) {
     let mut flipped = by_hand(0);
     flipped[67] = 1;
     assert!(&rt; answer(&rt, alloc, &flipped) == corrupt);
-    let mut longer = Vec::from_slice(alloc, &whole).expect(&rt, "memory");
+}
+
+#[test]
+fn too_many_bytes(rt: HostRuntime) {
+    let alloc = rt.alloc();
+    let invalid = Produced::Refused(ErrorCode::InvalidRecord);
+    let too_large = Produced::Refused(ErrorCode::MessageTooLarge);
+    let mut longer = Vec::from_slice(alloc, &by_hand(0)).expect(&rt, "memory");
     longer.push(0).expect(&rt, "memory");
     assert!(&rt; answer(&rt, alloc, longer.as_slice()) == invalid);
     let zeros = vec![in alloc; 0u8; 1_048_589].expect(&rt, "memory");
@@ -264,7 +293,7 @@ fn bytes_that_are_refused(rt: HostRuntime) {
 }
 
 #[test]
-fn batches_that_are_refused(rt: HostRuntime) {
+fn fields_that_are_refused(rt: HostRuntime) {
     let alloc = rt.alloc();
     let invalid = Produced::Refused(ErrorCode::InvalidRecord);
     let mut log = empty(&rt, alloc);
@@ -275,11 +304,17 @@ fn batches_that_are_refused(rt: HostRuntime) {
     assert!(&rt; send(&rt, alloc, &mut log, no_epoch) == invalid);
     assert!(&rt; send(&rt, alloc, &mut log, idempotent(0, -1)) == invalid);
     let control = Batch {
-        attributes: 0x20,
+        kind: Kind::Control,
         ..idempotent(0, 0)
     };
     assert!(&rt; send(&rt, alloc, &mut log, control) == invalid);
+    assert!(&rt; log.end() == 0);
+}
 
+#[test]
+fn batches_that_are_refused(rt: HostRuntime) {
+    let alloc = rt.alloc();
+    let mut log = empty(&rt, alloc);
     assert!(&rt; send(&rt, alloc, &mut log, plain()) == Produced::Appended(0));
     assert!(&rt; send(&rt, alloc, &mut log, plain()) == Produced::Appended(1));
     assert!(&rt; send(&rt, alloc, &mut log, txn(7, 0, 0)) == Produced::Appended(2));
