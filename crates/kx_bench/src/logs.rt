@@ -90,10 +90,14 @@ fn transactions(alloc: Global, count: u64) -> Option<Partition<MemStore>> {
 }
 
 // How many committed records a page of 64 KiB from an offset on has.
-fn records_from(alloc: Global, partition: &Partition<MemStore>, from: i64) -> Option<usize> {
+fn records_from(alloc: Global, partition: &Partition<MemStore>, from: i64) -> Option<i64> {
     let page = partition.fetch(from, 65_536, true).ok()?;
     let committed = Committed::new(alloc, page).ok()?;
-    Some(committed.count())
+    let mut count = 0i64;
+    for _ in committed {
+        count = count.saturating_add(1);
+    }
+    Some(count)
 }
 
 // The offset of the next page: they go through the log in steps that share no factor with most
@@ -112,7 +116,7 @@ fn page_records(alloc: Global, partition: &Partition<MemStore>, pages: u64) -> O
     let mut total = 0i64;
     for _ in 0..pages {
         let count = records_from(alloc, partition, offset)?;
-        total = total.saturating_add(i64::try_from(count).ok()?);
+        total = total.saturating_add(count);
         offset = next_offset(offset, end);
     }
     Some(total)
