@@ -1,5 +1,6 @@
 //! Logs in memory: appending, and pages.
-ghost use Rattle.std.specs.Prelude.{◌≤ℤ◌, negsuc};
+ghost use Rattle.std.specs.Prelude.{◌≡◌, ◌≤ℤ◌, [], length, negsuc, IfSome};
+ghost use Rattle.kx_bench.specs.Logs.{IsEndOf};
 
 use kx_batch::{BatchBuilder, BuildFault};
 use kx_log::MemStore;
@@ -15,12 +16,16 @@ const PRODUCERS: u64 = 1000;
 const VALUE: [u8; 200] = [b'x'; 200];
 
 // A partition with an empty log.
-fn empty(alloc: Global) -> Option<Partition<MemStore>> {
+fn empty(alloc: Global) -> Option<Partition<MemStore>>
+    ensures { IfSome result (λ partition. partition.batches ≡ []) }
+{
     Partition::rebuild(alloc, MemStore::new(Vec::new(alloc))).ok()
 }
 
 // A log to which this plain batch was appended so often.
-fn repeated(alloc: Global, text: &[u8], count: u64) -> Option<Partition<MemStore>> {
+fn repeated(alloc: Global, text: &[u8], count: u64) -> Option<Partition<MemStore>>
+    ensures { IfSome result (λ partition. length partition.batches ≡ count) }
+{
     let mut partition = empty(alloc)?;
     for _ in 0..count {
         match partition.produce(text, true) {
@@ -35,7 +40,7 @@ fn repeated(alloc: Global, text: &[u8], count: u64) -> Option<Partition<MemStore
 /// -1 where the batch isn't appended.
 #[unsafe(no_mangle)]
 pub extern "C" fn kx_bench_produce(alloc: Global, text: &[u8], count: u64) -> i64
-    ensures { negsuc 0 ≤ℤ result }
+    ensures { IsEndOf count result }
 {
     match repeated(alloc, text, count) {
         Some(partition) => partition.end(),
