@@ -7,22 +7,22 @@
 #include <string.h>
 #include <time.h>
 
-enum { MIB = 1 << 20, TURNS = 9 };
+enum { MIB = 1 << 20 };
 
-static double now(void)
+double now(void)
 {
     struct timespec t;
     clock_gettime(CLOCK_MONOTONIC, &t);
     return t.tv_sec * 1e9 + t.tv_nsec;
 }
 
-static void fail(const char *what)
+void fail(const char *what)
 {
     fprintf(stderr, "bench: %s\n", what);
     exit(1);
 }
 
-static void *room(size_t len)
+void *get_room(size_t len)
 {
     void *bytes = malloc(len);
     if (!bytes)
@@ -51,7 +51,7 @@ static double time_crc(crc_of *crc, const uint8_t *bytes, size_t len, uint32_t w
 static void bench_crc(void)
 {
     size_t len = 16 * MIB;
-    uint8_t *bytes = room(len);
+    uint8_t *bytes = get_room(len);
     for (size_t i = 0; i < len; i++)
         bytes[i] = (uint8_t)(i * 2654435761u >> 24);
     uint32_t sum = crc_slicing(bytes, len);
@@ -84,7 +84,7 @@ static double read_with_kafka_python(const char *path, size_t wanted)
 
 static void bench_read(const char *path)
 {
-    uint8_t *bytes = room((size_t)BATCHES * 20000);
+    uint8_t *bytes = get_room((size_t)BATCHES * 20000);
     size_t len = 0;
     for (int i = 0; i < BATCHES; i++)
         len += put_batch(bytes + len, RECORDS, VALUE, &no_producer);
@@ -119,5 +119,8 @@ int main(int argc, char **argv)
     crc_tables();
     bench_crc();
     bench_read(argv[1]);
+    bench_produce();
+    bench_growth();
+    bench_pages();
     return 0;
 }

@@ -5,6 +5,19 @@
 #include <stddef.h>
 #include <stdint.h>
 
+/* How often each is measured; the least time counts. */
+enum { TURNS = 9 };
+
+/* bench.c: the time in nanoseconds, the end of a run that can't go on, and memory. */
+double now(void);
+_Noreturn void fail(const char *what);
+void *get_room(size_t len);
+
+/* logs.c: appending, and reading pages. */
+void bench_produce(void);
+void bench_growth(void);
+void bench_pages(void);
+
 /* crc.c: CRC-32C by tables of eight bytes a step, and by the processor's instruction. */
 void crc_tables(void);
 uint32_t crc_slicing(const uint8_t *bytes, size_t len);
@@ -23,5 +36,7 @@ size_t put_batch(uint8_t *out, int records, size_t value_len, const struct produ
 /* the library: crates/kx_bench */
 uint32_t kx_bench_crc32c(const uint8_t *bytes, size_t len);
 size_t kx_bench_read(const uint8_t *bytes, size_t len);
+int64_t kx_bench_produce(const uint8_t *text, size_t len, uint64_t count);
+int64_t kx_bench_pages(uint64_t transactions, uint64_t pages);
 
 #endif

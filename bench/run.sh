@@ -6,5 +6,6 @@ cd "$(dirname "$0")"
 (cd ../crates/kx_bench && rt lib > /dev/null)
 work=$(mktemp -d)
 trap 'rm -rf "$work"' EXIT
-gcc -O2 -Wall -Wextra -o "$work/bench" bench.c batch.c crc.c ../crates/kx_bench/out/libkx_bench.a
+gcc -O2 -Wall -Wextra -o "$work/bench" bench.c batch.c crc.c \
+    heap.c logs.c ../crates/kx_bench/out/libkx_bench.a
 "$work/bench" "$work/batches"

@@ -1,5 +1,6 @@
 //! Logs in memory: appending, and pages.
-ghost use Rattle.std.specs.Prelude.{◌≤ℤ◌, negsuc};
+ghost use Rattle.std.specs.Prelude.{◌≡◌, ◌≤ℤ◌, [], length, negsuc, IfSome};
+ghost use Rattle.kx_bench.specs.Logs.{IsEndOf};
 
 use kx_batch::{BatchBuilder, BuildFault};
 use kx_log::MemStore;
@@ -15,12 +16,16 @@ const PRODUCERS: u64 = 1000;
 const VALUE: [u8; 200] = [b'x'; 200];
 
 // A partition with an empty log.
-fn empty(alloc: Global) -> Option<Partition<MemStore>> {
+fn empty(alloc: Global) -> Option<Partition<MemStore>>
+    ensures { IfSome result (λ partition. partition.batches ≡ []) }
+{
     Partition::rebuild(alloc, MemStore::new(Vec::new(alloc))).ok()
 }
 
 // A log to which this plain batch was appended so often.
-fn repeated(alloc: Global, text: &[u8], count: u64) -> Option<Partition<MemStore>> {
+fn repeated(alloc: Global, text: &[u8], count: u64) -> Option<Partition<MemStore>>
+    ensures { IfSome result (λ partition. length partition.batches ≡ count) }
+{
     let mut partition = empty(alloc)?;
     for _ in 0..count {
         match partition.produce(text, true) {
@@ -35,7 +40,7 @@ fn repeated(alloc: Global, text: &[u8], count: u64) -> Option<Partition<MemStore
 /// -1 where the batch isn't appended.
 #[unsafe(no_mangle)]
 pub extern "C" fn kx_bench_produce(alloc: Global, text: &[u8], count: u64) -> i64
-    ensures { negsuc 0 ≤ℤ result }
+    ensures { IsEndOf count result }
 {
     match repeated(alloc, text, count) {
         Some(partition) => partition.end(),
@@ -90,10 +95,14 @@ fn transactions(alloc: Global, count: u64) -> Option<Partition<MemStore>> {
 }
 
 // How many committed records a page of 64 KiB from an offset on has.
-fn records_from(alloc: Global, partition: &Partition<MemStore>, from: i64) -> Option<usize> {
+fn records_from(alloc: Global, partition: &Partition<MemStore>, from: i64) -> Option<i64> {
     let page = partition.fetch(from, 65_536, true).ok()?;
     let committed = Committed::new(alloc, page).ok()?;
-    Some(committed.count())
+    let mut count = 0i64;
+    for _ in committed {
+        count = count.saturating_add(1);
+    }
+    Some(count)
 }
 
 // The offset of the next page: they go through the log in steps that share no factor with most
@@ -112,7 +121,7 @@ fn page_records(alloc: Global, partition: &Partition<MemStore>, pages: u64) -> O
     let mut total = 0i64;
     for _ in 0..pages {
         let count = records_from(alloc, partition, offset)?;
-        total = total.saturating_add(i64::try_from(count).ok()?);
+        total = total.saturating_add(count);
         offset = next_offset(offset, end);
     }
     Some(total)
