@@ -1,0 +1,82 @@
+//! A client ends its transaction (KIP-98, "EndTxnRequest"; KIP-890).
+ghost use Rattle.std.specs.Prelude.{◌≡◌, IfOk, List, Some};
+ghost use Rattle.kx_model.specs.Coordinator as coordinator;
+ghost use Rattle.kx_model.specs.Coordinator.{Note, Ongoing};
+ghost use Rattle.kx_model.specs.Requests as model;
+ghost use Rattle.kx_txnlog.specs.Entry.{row_of};
+ghost use Rattle.kx_txnlog.specs.State.{state_of};
+ghost use Rattle.kx_coord.specs.Answers.{IsAnswer, IsNextId, is_settled};
+
+use crate::add::{is, is_old, refused_first};
+use crate::answer::{Answer, held_after, refuses, repeats, writes};
+use crate::rows::{Fresh, LAST_EPOCH};
+use kx_txnlog::{Cause, Row, State};
+use kx_wire::{ErrorCode, Held, Outcome};
+use std::alloc::AllocError;
+
+// Whether a state is one with this outcome decided.
+fn has_outcome(outcome: Outcome, state: State) -> bool
+    ensures { result ≡ model.has_outcome outcome (state_of state) }
+{
+    match state {
+        State::Empty | State::Ongoing => false,
+        State::Prepare(decided) | State::Complete(decided) => decided == outcome,
+    }
+}
+
+// Whether the row ends the transaction of this id and epoch: it stands one epoch higher, or, after
+// the last epoch, at the id that took the place of this one.
+fn ends(row: &Row, held: Held) -> bool
+    ensures { result ≡ coordinator.ends held.id held.epoch (row_of row.now) }
+{
+    let epoch = row.epoch.get();
+    let is_decided = matches!(row.state, State::Prepare(_) | State::Complete(_));
+    let is_complete = matches!(row.state, State::Complete(_));
+    let is_next = row.id.get() == held.id.get() && i32::from(epoch) == i32::from(held.epoch.get()) + 1;
+    let is_replaced = held.epoch.get() == LAST_EPOCH && is(row.previous, held.id) && epoch == 0;
+    (is_next && is_decided) || (is_replaced && is_complete)
+}
+
+impl Fresh {
+    // No partition was added: only an abort ends it.
+    fn nothing_sent(self, row: &Row, outcome: Outcome) -> Answer
+        ensures { (log : List Note) → IsNextId log self.next
+            → IsAnswer result (model.nothing_sent log (row_of row.now) outcome) }
+    {
+        match outcome {
+            Outcome::Abort => {
+                writes(self.raised(row, State::Complete(Outcome::Abort), Cause::End))
+            }
+            Outcome::Commit => refuses(ErrorCode::InvalidTxnState),
+        }
+    }
+
+    /// What a client is answered where the transactional id has a row.
+    pub(crate) fn end_row(
+        self,
+        row: &Row,
+        held: Held,
+        outcome: Outcome,
+    ) -> Result<Answer, AllocError>
+        ensures { IfOk result (λ answer. (log : List Note) → IsNextId log self.next
+            → IsAnswer answer (model.end_at log (Some (row_of row.now)) held outcome)) }
+    {
+        if let Some(code) = refused_first(row, held) {
+            return Ok(refuses(code));
+        }
+        if ends(row, held) {
+            if has_outcome(outcome, row.state) {
+                return Ok(repeats(held_after(row)));
+            }
+            return Ok(refuses(ErrorCode::InvalidTxnState));
+        }
+        if is_old(row, held) {
+            return Ok(refuses(ErrorCode::ProducerFenced));
+        }
+        match row.state {
+            State::Empty | State::Complete(_) => Ok(self.nothing_sent(row, outcome)),
+            State::Ongoing => Ok(writes(self.prepared(row, outcome, Cause::End)?)),
+            State::Prepare(_) => Ok(refuses(ErrorCode::ConcurrentTransactions)),
+        }
+    }
+}
