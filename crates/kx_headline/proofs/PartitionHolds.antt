@@ -22,7 +22,8 @@ use Rattle.kx_model.specs.Produce.{Appends, Next, Refused, Verdict, judge_marker
 use Rattle.kx_model.specs.Produce.{text_of}
 use Rattle.kx_model.specs.Verification.{Parked, Request, judge_request, pair_of, partition_of}
 use Rattle.kx_model.specs.Verification.{Target, ToGroup, ToPartition, judge_target, request_of}
-use Rattle.kx_headline.specs.Grown.{IsGrown, Unwritten, WithBatch, WithMarker}
+use Rattle.kx_headline.specs.Grown.{IsGrown, Unwritten}
+use Rattle.kx_headline.proofs.GrownLogs.{grown_by_batch, grown_by_marker}
 use Rattle.kx_headline.proofs.PartitionDoes.{HasNoProducer, IsPaired, behind}
 use Rattle.kx_headline.proofs.PartitionDoes as does
 use Rattle.kx_headline.proofs.StoredTexts.{Accepts}
@@ -238,10 +239,10 @@ pub built_grown : (sent : List Message) (number : ℕ) (log : List Stored) → M
     → Built sent number log → IsGrown log
 built_grown sent number log fit start = Unwritten
 built_grown sent number log fit (next earlier text b (asked r verified w l j)) =
-    WithBatch earlier verified r.text (built_grown sent number earlier fit b)
+    grown_by_batch earlier verified r.text (built_grown sent number earlier fit b)
     (text_next (entries earlier) verified r.text r.target j)
 built_grown sent number log fit (next earlier text b (ended txn held coordinator outcome c j)) =
-    WithMarker earlier (marker_of held coordinator outcome)
+    grown_by_marker earlier (marker_of held coordinator outcome)
     (built_grown sent number earlier fit b) (fit number txn held coordinator outcome c) j
 built_grown sent number log fit (next earlier text b (unowned text' n j)) =
-    WithBatch earlier true text' (built_grown sent number earlier fit b) j
+    grown_by_batch earlier true text' (built_grown sent number earlier fit b) j

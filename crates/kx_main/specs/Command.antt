@@ -5,6 +5,8 @@ use Rattle.kx_varint.specs.Text.{◌>>=◌}
 use Rattle.kx_main.specs.Words.{number_below}
 use Rattle.kx_main.specs.declared.command.Command.{Command}
 use Rattle.kx_main.specs.declared.command.Command.TheVariants.{World, Put, Fetch}
+use Rattle.kx_main.specs.declared.command.Mode.{Mode}
+use Rattle.kx_main.specs.declared.command.Mode.TheVariants.{All, Committed}
 
 -- how many bytes a fetch shows where it doesn't say
 abbrev pub default_max : ℕ
@@ -33,16 +35,20 @@ max_of [] = Some default_max
 max_of (max ∷ []) = number_below (2 ^ 32) max
 max_of (max ∷ word ∷ words) = None
 
--- `fetch P FROM all [MAX]`
+abbrev pub mode_of : List ℕ → Option Mode
+mode_of word =
+    if bytes_eq word (codes "all") then Some All
+    else if bytes_eq word (codes "committed") then Some Committed
+    else None
+
+-- `fetch P FROM MODE [MAX]`
 abbrev pub fetch_of : List (List ℕ) → Option Command
 fetch_of [] = None
 fetch_of (partition ∷ []) = None
 fetch_of (partition ∷ from ∷ []) = None
 fetch_of (partition ∷ from ∷ word ∷ words) =
-    if bytes_eq word (codes "all") then
-    (partition_of partition >>= λ p. number_below (2 ^ 63) from >>= λ f.
-    max_of words >>= λ m. Some (Fetch p (pos f) m))
-    else None
+    mode_of word >>= λ mode. partition_of partition >>= λ p.
+    number_below (2 ^ 63) from >>= λ f. max_of words >>= λ m. Some (Fetch p (pos f) mode m)
 
 abbrev pub named : List ℕ → List (List ℕ) → Option Command
 named name words =

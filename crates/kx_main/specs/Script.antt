@@ -9,10 +9,11 @@ use Rattle.kx_model.specs.Log.{Stored, end, entries}
 use Rattle.kx_model.specs.Page.{Page, fetched}
 use Rattle.kx_main.specs.Words.{before, lines_of, words_of}
 use Rattle.kx_main.specs.Command.{command_of}
-use Rattle.kx_partition.specs.Answer.{answer_of}
-use Rattle.kx_main.specs.World.{answer_text, lost_text, newline, page_text, put, refused_text}
+use Rattle.kx_main.specs.World.{answer_text, is_committed, lost_text, newline, page_text, put}
+use Rattle.kx_main.specs.World.{refused_text}
 use Rattle.kx_main.specs.declared.command.Command.{Command}
 use Rattle.kx_main.specs.declared.command.Command.TheVariants.{World, Put, Fetch}
+use Rattle.kx_main.specs.declared.command.Mode.{Mode}
 use Rattle.kx_main.specs.declared.fault.ScriptFault.{ScriptFault}
 use Rattle.kx_main.specs.declared.fault.ScriptFault.TheVariants.{Read, Write, BadLine, Memory}
 
@@ -22,16 +23,16 @@ State = Option (List (List Stored))
 
 ------ a line
 
-abbrev pub fetched_text : ℤ → Result Page ErrorCode → List ℕ
-fetched_text from (Ok page) = page_text from page
-fetched_text from (Err code) = refused_text code
+abbrev pub fetched_text : ℤ → Mode → Result Page ErrorCode → List ℕ
+fetched_text from mode (Ok page) = page_text from mode page
+fetched_text from mode (Err code) = refused_text code
 
 -- what a put prints and leaves, where there is the partition
 abbrev pub put_in : List (List Stored) → ℕ → List (List ℕ) → Option (List Stored)
     → Option (List ℕ × State)
 put_in logs partition words None = None
 put_in logs partition words (Some log) = Some (
-  answer_text (answer_of (end (entries log)) (put log words).0),
+  answer_text (end (entries log)) (put log words).0,
   Some (slice_set logs partition (put log words).1),
 )
 
@@ -39,12 +40,12 @@ put_in logs partition words (Some log) = Some (
 abbrev pub performed : State → Command → Option (List ℕ × State)
 performed None (World count) = Some (codes "-" ++ newline, Some (replicate count []))
 performed None (Put partition words) = None
-performed None (Fetch partition from max) = None
+performed None (Fetch partition from mode max) = None
 performed (Some logs) (World count) = None
 performed (Some logs) (Put partition words) =
     put_in logs partition words (slice_get logs partition)
-performed (Some logs) (Fetch partition from max) =
-    option_map (λ log. (fetched_text from (fetched log from max false), Some logs))
+performed (Some logs) (Fetch partition from mode max) = option_map
+    (λ log. (fetched_text from mode (fetched log from max (is_committed mode)), Some logs))
     (slice_get logs partition)
 
 -- the command that a line is
@@ -60,7 +61,7 @@ answer state (byte ∷ line) = command_in (byte ∷ line) >>= performed state
 abbrev pub MayBeLost : State → Command → Type 0
 MayBeLost state (Put partition words) = IsSome (performed state (Put partition words))
 MayBeLost state (World count) = ⊥
-MayBeLost state (Fetch partition from max) = ⊥
+MayBeLost state (Fetch partition from mode max) = ⊥
 
 abbrev pub Performs : State → Command → List ℕ → State → Type 0
 Performs state command text new =

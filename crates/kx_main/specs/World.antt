@@ -4,17 +4,17 @@ use Rattle.std.specs.Prelude.{List, [], ◌∷◌, ◌++◌, Option, None}
 use Rattle.std.specs.Prelude.{Some, length, flat_map, codes, decimal, nat_lt, int_lt, if◌then◌else◌}
 use Rattle.std.specs.Fmt.{signed_decimal}
 use Rattle.kx_wire.specs.declared.code.ErrorCode.{ErrorCode}
-use Rattle.kx_wire.specs.declared.code.ErrorCode.TheVariants.{MessageTooLarge}
+use Rattle.kx_wire.specs.declared.code.ErrorCode.TheVariants.{MessageTooLarge, InvalidTxnState}
 use Rattle.kx_wire.specs.Codes.{number_of}
 use Rattle.kx_batch.specs.Record.{Record}
 use Rattle.kx_batch.specs.Batch.{Batch, batch_limit, is_control}
 use Rattle.kx_batch.specs.Build.{batch_text, made, pushed, records_text}
 use Rattle.kx_model.specs.Log.{Stored}
 use Rattle.kx_model.specs.Page.{Page}
-use Rattle.kx_model.specs.Produce.{Verdict, Refused}
-use Rattle.kx_partition.specs.Plain.{produced_plain}
-use Rattle.kx_partition.specs.declared.partition.Produced.{Produced}
-use Rattle.kx_partition.specs.declared.partition.Produced.TheVariants as answer
+use Rattle.kx_model.specs.Produce.{Verdict, Next, Duplicate, Unverified, Refused, produced}
+use Rattle.kx_model.specs.Reading.{committed_records}
+use Rattle.kx_main.specs.declared.command.Mode.{Mode}
+use Rattle.kx_main.specs.declared.command.Mode.TheVariants.{All, Committed}
 
 ------ put
 
@@ -34,11 +34,11 @@ batch_of words = made (pos 0) (negsuc 0) (negsuc 0) (negsuc 0) (records_of words
 abbrev pub is_over : List (List ℕ) → Bool
 is_over words = nat_lt batch_limit (61 + length (records_text (records_of words)))
 
--- the verdict on the batch of the words, and the log after it
+-- the verdict on the batch of the words, and the log after it; no coordinator is asked for it
 unfoldable pub put : List Stored → List (List ℕ) → Verdict × List Stored
 put log words =
     if is_over words then (Refused MessageTooLarge, log)
-    else produced_plain log (batch_text (batch_of words))
+    else produced log true (batch_text (batch_of words))
 
 ------ what is printed
 
@@ -48,10 +48,16 @@ newline = 10 ∷ []
 abbrev pub refused_text : ErrorCode → List ℕ
 refused_text code = codes "refused " ++ decimal (number_of code) ++ newline
 
--- the answer to a put
-abbrev pub answer_text : Produced → List ℕ
-answer_text (answer.Appended offset) = codes "offset " ++ signed_decimal offset ++ newline
-answer_text (answer.Refused code) = refused_text code
+abbrev pub offset_text : ℤ → List ℕ
+offset_text offset = codes "offset " ++ signed_decimal offset ++ newline
+
+-- the answer to a put in a log that ends at this offset; of the words of a script no batch is a
+-- duplicate, and none has to be verified
+abbrev pub answer_text : ℕ → Verdict → List ℕ
+answer_text offset Next = offset_text (pos offset)
+answer_text offset (Duplicate stored) = offset_text (pos stored)
+answer_text offset Unverified = refused_text InvalidTxnState
+answer_text offset (Refused code) = refused_text code
 
 -- the answer to a put for which memory was refused
 abbrev pub lost_text : List ℕ
@@ -61,11 +67,13 @@ abbrev pub value_text : Option (List ℕ) → List ℕ
 value_text None = []
 value_text (Some value) = value
 
+-- a record and its offset
+abbrev pub value_line : ℤ → Record → List ℕ
+value_line offset r = signed_decimal offset ++ codes " " ++ value_text r.value ++ newline
+
 -- a record at this offset, if that is at or above `from`
 abbrev pub record_text : ℤ → ℤ → Record → List ℕ
-record_text from offset r =
-    if int_lt offset from then []
-    else signed_decimal offset ++ codes " " ++ value_text r.value ++ newline
+record_text from offset r = if int_lt offset from then [] else value_line offset r
 
 -- the records of a batch; those of a control batch are shown to nobody
 abbrev pub batch_lines : ℤ → Batch → List ℕ
@@ -79,9 +87,22 @@ end_text page =
     codes "next " ++ decimal page.next ++ codes " lso " ++ decimal page.stable
     ++ codes " end " ++ decimal page.end ++ newline
 
-abbrev pub page_text : ℤ → Page → List ℕ
-page_text from page =
-    flat_map (λ stored. batch_lines from stored.batch) page.batches ++ end_text page
+-- what a reader of committed records gets
+abbrev pub committed_lines : Page → List ℕ
+committed_lines page =
+    flat_map (λ s. value_line (pos s.offset) s.shown) (committed_records page)
+
+-- the records of a page from an offset on
+abbrev pub page_lines : ℤ → Mode → Page → List ℕ
+page_lines from All page = flat_map (λ stored. batch_lines from stored.batch) page.batches
+page_lines from Committed page = committed_lines page
+
+abbrev pub page_text : ℤ → Mode → Page → List ℕ
+page_text from mode page = page_lines from mode page ++ end_text page
+
+abbrev pub is_committed : Mode → Bool
+is_committed All = false
+is_committed Committed = true
 
 ------ what a builder makes
 

@@ -1,7 +1,7 @@
 //! The interpreter's ear: which command a line's words are.
 ghost use Rattle.std.specs.Prelude.{◌≡◌};
-ghost use Rattle.kx_main.specs.Command.{command_of, fetch_of, max_of, named, partition_of, put_of};
-ghost use Rattle.kx_main.specs.Command.{world_of};
+ghost use Rattle.kx_main.specs.Command.{command_of, fetch_of, max_of, mode_of, named};
+ghost use Rattle.kx_main.specs.Command.{partition_of, put_of, world_of};
 
 use crate::words::{SomeWords, Words, number_below};
 
@@ -15,9 +15,18 @@ pub enum Command<'a> {
     World(usize),
     /// `put P W..`: a batch of the words goes to the partition.
     Put(usize, SomeWords<'a>),
-    /// `fetch P FROM all [MAX]`: the records of the partition from an offset on, in whole batches
-    /// of at most so many bytes.
-    Fetch(usize, i64, u32),
+    /// `fetch P FROM MODE [MAX]`: the records of the partition from an offset on, in whole batches
+    /// of at most so many bytes; all of them, or the committed ones.
+    Fetch(usize, i64, Mode, u32),
+}
+
+/// Which records a fetch shows.
+#[derive(Clone, Copy, Debug, PartialEq, Eq)]
+pub enum Mode {
+    /// `all`: those of every batch but control batches.
+    All,
+    /// `committed`: those that a reader of committed records gets.
+    Committed,
 }
 
 fn partition_of(word: &[u8]) -> Option<usize>
@@ -61,19 +70,29 @@ fn max_of(words: Words<'_>) -> Option<u32>
     Some(max as u32)
 }
 
+fn mode_of(word: &[u8]) -> Option<Mode>
+    ensures { result ≡ mode_of word.now }
+{
+    if word == b"all".as_slice() {
+        Some(Mode::All)
+    } else if word == b"committed".as_slice() {
+        Some(Mode::Committed)
+    } else {
+        None
+    }
+}
+
 fn fetch_of<'a>(words: Words<'a>) -> Option<Command<'a>>
     ensures { result ≡ fetch_of words.entry }
 {
     let mut words = words;
     let partition = words.next()?;
     let from = words.next()?;
-    if words.next()? != b"all".as_slice() {
-        return None;
-    }
+    let mode = mode_of(words.next()?)?;
     let partition = partition_of(partition)?;
     let from = number_below(from, 1 << 63)?;
     let max = max_of(words)?;
-    Some(Command::Fetch(partition, from as i64, max))
+    Some(Command::Fetch(partition, from as i64, mode, max))
 }
 
 fn named<'a>(name: &[u8], words: Words<'a>) -> Option<Command<'a>>

@@ -1,0 +1,27 @@
+/* What the parts of the benchmark share. */
+#ifndef BENCH_H
+#define BENCH_H
+
+#include <stddef.h>
+#include <stdint.h>
+
+/* crc.c: CRC-32C by tables of eight bytes a step, and by the processor's instruction. */
+void crc_tables(void);
+uint32_t crc_slicing(const uint8_t *bytes, size_t len);
+uint32_t crc_instruction(const uint8_t *bytes, size_t len);
+
+/* batch.c: the text of a record batch of Kafka's message format, magic 2. */
+struct producer {
+    int64_t id;
+    int16_t epoch;
+    int32_t sequence;
+    int16_t attributes;
+};
+extern const struct producer no_producer;
+size_t put_batch(uint8_t *out, int records, size_t value_len, const struct producer *producer);
+
+/* the library: crates/kx_bench */
+uint32_t kx_bench_crc32c(const uint8_t *bytes, size_t len);
+size_t kx_bench_read(const uint8_t *bytes, size_t len);
+
+#endif
