@@ -85,9 +85,15 @@ pub(crate) fn writes(made: Option<Row>) -> Answer
 #[derive(Clone, Copy)]
 pub(crate) enum ReplyTo {
     /// A client that asked for an id.
-    Init { client: ClientId, correlation: u32 },
+    Init {
+        client: ClientId,
+        correlation: u32,
+    },
     /// A client that ended its transaction.
-    End { client: ClientId, correlation: u32 },
+    End {
+        client: ClientId,
+        correlation: u32,
+    },
     /// A partition that asked to be added to a transaction.
     Add {
         partition: PartitionId,

@@ -32,7 +32,8 @@ fn ends(row: &Row, held: Held) -> bool
     let epoch = row.epoch.get();
     let is_decided = matches!(row.state, State::Prepare(_) | State::Complete(_));
     let is_complete = matches!(row.state, State::Complete(_));
-    let is_next = row.id.get() == held.id.get() && i32::from(epoch) == i32::from(held.epoch.get()) + 1;
+    let is_next = row.id.get() == held.id.get()
+        && i32::from(epoch) == i32::from(held.epoch.get()) + 1;
     let is_replaced = held.epoch.get() == LAST_EPOCH && is(row.previous, held.id) && epoch == 0;
     (is_next && is_decided) || (is_replaced && is_complete)
 }

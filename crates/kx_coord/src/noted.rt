@@ -54,9 +54,8 @@ impl NotedMarkers {
     {
         match self.by_txn.get(&txn) {
             None => false,
-            Some(markers) => markers
-                .iter()
-                .any(|marker| marker.held == held && marker.partition == partition),
+            Some(markers) => markers.iter().any(|marker| marker.held == held
+                && marker.partition == partition),
         }
     }
 
