@@ -106,7 +106,7 @@ pub record Reads (store : StoreState) (read : LogState) (note : Note) : Type 0 w
   pub next : reopen read.notes ≡ Some note
 
 -- the coordinator is as its log was read, with the entry of this opening
-pub record IsOpen (store : StoreState) (now : ℕ) (co : CoordinatorState) (handed : List Message)
+pub record IsOpen (store : StoreState) (now : ℕ) (co : CoordinatorState) (sent : List Message)
     : Type 0 where
   pub read : LogState
   pub note : Note
@@ -114,7 +114,7 @@ pub record IsOpen (store : StoreState) (now : ℕ) (co : CoordinatorState) (hand
   pub log : IsAppendedTo note read co.log
   pub clock : co.clock ≡ now
   pub answered : co.answered ≡ []
-  pub handed : handed ≡ all_markers co.log.notes
+  pub handed : sent ≡ all_markers co.log.notes
 
 -- what a store held was read, and what was torn at its end is cut off
 pub record IsCutTo (old new : StoreState) : Type 0 where

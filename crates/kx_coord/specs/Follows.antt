@@ -1,5 +1,6 @@
 -- What the coordinator keeps of its log, so that no request reads the log.
-use Rattle.std.specs.Prelude.{◌≡◌, ◌≤◌, ◌×◌, ℕ, ℤ, pos, List, map, option_map, bytes_eq}
+use Rattle.std.specs.Prelude.{◌≡◌, ◌≤◌, ℕ, ℤ, pos, List, map, option_map, bytes_eq}
+use Rattle.std.specs.List.{AllByRecursion}
 use Rattle.std.specs.Map.{lookup}
 use Rattle.kx_model.specs.Coordinator as model
 use Rattle.kx_model.specs.Coordinator.{Note, next_id, rows, coordinator_epoch}
@@ -13,6 +14,7 @@ pub record Follows (log : List Note) (entries : List (List ℕ × Row)) (next : 
     : Type 0 where
   pub row_is : (txn : List ℕ)
       → model.row_of log txn ≡ option_map row_of (lookup (bytes_eq txn) entries)
+  pub keyed : AllByRecursion (λ e. e.0 ≡ e.1.txn) entries
   pub rows_are : map (λ e. row_of e.1) entries ≡ rows log
   pub next_is : next ≡ next_id log
   pub next_fits : next ≤ id_limit

@@ -8,7 +8,7 @@ ghost use Rattle.kx_coord.specs.Answers.{IsAnswer, IsFree};
 use crate::answer::{Answer, refuses, repeats, writes};
 use crate::rows::{SPENT_EPOCH, added};
 use kx_txnlog::{Row, State};
-use kx_wire::{ErrorCode, Held, PartitionId, ProducerId};
+use kx_wire::{Epoch, ErrorCode, Held, PartitionId, ProducerId};
 use std::alloc::AllocError;
 
 /// Whether there is an id, and it is this one.
@@ -21,59 +21,57 @@ pub(crate) fn is(id: Option<ProducerId>, other: ProducerId) -> bool
     }
 }
 
-// Whether the row has this id.
-fn is_own(row: &Row, held: Held) -> bool
-    ensures { result ≡ model.is_own (row_of row.now) held }
-{
-    row.id.get() == held.id.get()
-}
-
 /// What a request by this id and epoch is refused for first.
-pub(crate) fn refused_first(row: &Row, held: Held) -> Option<ErrorCode>
-    ensures { result ≡ model.refused_first (row_of row.now) held }
+pub(crate) fn refused_first(row: &Row, id: ProducerId, epoch: Epoch) -> Option<ErrorCode>
+    ensures { result ≡ model.refused_first (row_of row.now) (record { id = id; epoch = epoch }) }
 {
-    if matches!(row.state, State::Prepare(_)) && is(row.next, held.id) {
+    let is_prepared = matches!(row.state, State::Prepare(_));
+    let is_next = is(row.next, id);
+    if is_prepared && is_next {
         return Some(ErrorCode::ConcurrentTransactions);
     }
-    let is_own = is_own(row, held);
-    if !is_own && !is(row.previous, held.id) {
+    let is_own = row.id.get() == id.get();
+    let is_previous = is(row.previous, id);
+    if !is_own && !is_previous {
         return Some(ErrorCode::InvalidProducerIdMapping);
     }
-    let epoch = held.epoch.get();
-    if epoch == SPENT_EPOCH || (is_own && row.epoch.get() < epoch) {
+    let number = epoch.get();
+    if number == SPENT_EPOCH || (is_own && row.epoch.get() < number) {
         return Some(ErrorCode::InvalidProducerEpoch);
     }
     None
 }
 
 /// Whether the epoch is one before the row's, or the id the one before.
-pub(crate) fn is_old(row: &Row, held: Held) -> bool
-    ensures { result ≡ model.is_old (row_of row.now) held }
+pub(crate) fn is_old(row: &Row, id: ProducerId, epoch: Epoch) -> bool
+    ensures { result ≡ model.is_old (row_of row.now) (record { id = id; epoch = epoch }) }
 {
-    !is_own(row, held) || held.epoch.get() < row.epoch.get()
+    row.id.get() != id.get() || epoch.get() < row.epoch.get()
 }
 
 /// What a partition is answered where the transactional id has a row.
 pub(crate) fn add_row(
     clock: u64,
     row: &Row,
-    held: Held,
+    id: ProducerId,
+    epoch: Epoch,
     partition: PartitionId,
 ) -> Result<Answer, AllocError>
     ensures { IfOk result (λ answer. IsFree partition (Some (row_of row.now))
-        → IsAnswer answer (model.add_at clock (Some (row_of row.now)) held partition)) }
+        → IsAnswer answer (model.add_at clock (Some (row_of row.now))
+        (record { id = id; epoch = epoch }) partition)) }
 {
-    if let Some(code) = refused_first(row, held) {
+    if let Some(code) = refused_first(row, id, epoch) {
         return Ok(refuses(code));
     }
-    if is_old(row, held) {
+    if is_old(row, id, epoch) {
         return Ok(refuses(ErrorCode::ProducerFenced));
     }
     let start = match row.state {
         State::Prepare(_) => return Ok(refuses(ErrorCode::ConcurrentTransactions)),
         State::Ongoing => {
             if row.partitions.contains(partition) {
-                return Ok(repeats(held));
+                return Ok(repeats(Held { id, epoch }));
             }
             row.start
         }

@@ -1,6 +1,6 @@
 //! What the coordinator answers a request, and the entry that it appends first.
 ghost use Rattle.std.specs.Prelude.{◌≡◌};
-ghost use Rattle.kx_model.specs.Coordinator.{Row};
+ghost use Rattle.kx_model.specs.Coordinator as coordinator;
 ghost use Rattle.kx_model.specs.Requests as model;
 ghost use Rattle.kx_txnlog.specs.Entry.{row_of};
 ghost use Rattle.kx_coord.specs.Answers.{IsAnswer, IsMade, reply_by};
@@ -68,7 +68,7 @@ pub(crate) fn held_after(row: &Row) -> Held
 
 /// The row is appended, if there was an id for it, and the request is served.
 pub(crate) fn writes(made: Option<Row>) -> Answer
-    ensures { (r : Row) → IsMade r made → IsAnswer result (model.writes r) }
+    ensures { (r : coordinator.Row) → IsMade r made → IsAnswer result (model.writes r) }
 {
     let Some(row) = made else {
         return Answer::UsedUp;

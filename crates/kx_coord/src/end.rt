@@ -11,7 +11,7 @@ use crate::add::{is, is_old, refused_first};
 use crate::answer::{Answer, held_after, refuses, repeats, writes};
 use crate::rows::{Fresh, LAST_EPOCH};
 use kx_txnlog::{Cause, Row, State};
-use kx_wire::{ErrorCode, Held, Outcome};
+use kx_wire::{Epoch, ErrorCode, Outcome, ProducerId};
 use std::alloc::AllocError;
 
 // Whether a state is one with this outcome decided.
@@ -26,16 +26,21 @@ fn has_outcome(outcome: Outcome, state: State) -> bool
 
 // Whether the row ends the transaction of this id and epoch: it stands one epoch higher, or, after
 // the last epoch, at the id that took the place of this one.
-fn ends(row: &Row, held: Held) -> bool
-    ensures { result ≡ coordinator.ends held.id held.epoch (row_of row.now) }
+fn ends(row: &Row, id: ProducerId, epoch: Epoch) -> bool
+    ensures { result ≡ coordinator.ends id epoch (row_of row.now) }
 {
-    let epoch = row.epoch.get();
-    let is_decided = matches!(row.state, State::Prepare(_) | State::Complete(_));
-    let is_complete = matches!(row.state, State::Complete(_));
-    let is_next = row.id.get() == held.id.get()
-        && i32::from(epoch) == i32::from(held.epoch.get()) + 1;
-    let is_replaced = held.epoch.get() == LAST_EPOCH && is(row.previous, held.id) && epoch == 0;
-    (is_next && is_decided) || (is_replaced && is_complete)
+    let own = row.epoch.get();
+    let number = epoch.get();
+    let is_own = row.id.get() == id.get();
+    let is_previous = is(row.previous, id);
+    match row.state {
+        State::Empty | State::Ongoing => false,
+        State::Prepare(_) => is_own && own > 0 && own - 1 == number,
+        State::Complete(_) => {
+            (is_own && own > 0 && own - 1 == number)
+                || (number == LAST_EPOCH && is_previous && own == 0)
+        }
+    }
 }
 
 impl Fresh {
@@ -56,22 +61,24 @@ impl Fresh {
     pub(crate) fn end_row(
         self,
         row: &Row,
-        held: Held,
+        id: ProducerId,
+        epoch: Epoch,
         outcome: Outcome,
     ) -> Result<Answer, AllocError>
         ensures { IfOk result (λ answer. (log : List Note) → IsNextId log self.next
-            → IsAnswer answer (model.end_at log (Some (row_of row.now)) held outcome)) }
+            → IsAnswer answer (model.end_at log (Some (row_of row.now))
+            (record { id = id; epoch = epoch }) outcome)) }
     {
-        if let Some(code) = refused_first(row, held) {
+        if let Some(code) = refused_first(row, id, epoch) {
             return Ok(refuses(code));
         }
-        if ends(row, held) {
+        if ends(row, id, epoch) {
             if has_outcome(outcome, row.state) {
                 return Ok(repeats(held_after(row)));
             }
             return Ok(refuses(ErrorCode::InvalidTxnState));
         }
-        if is_old(row, held) {
+        if is_old(row, id, epoch) {
             return Ok(refuses(ErrorCode::ProducerFenced));
         }
         match row.state {

@@ -63,15 +63,15 @@ pub(crate) fn push_missing(
         id: row.id,
         epoch: row.epoch,
     };
-    let raised = Raised::try_from(held).unwrap();
+    let held = Raised::try_from(held).unwrap();
     for partition in row.partitions.as_slice() {
-        if noted.contains(row.txn, held, *partition) {
+        if noted.contains(row.txn, row.id, row.epoch, *partition) {
             continue;
         }
         messages.push(Message::WriteMarker {
             partition: *partition,
             txn: row.txn,
-            held: raised,
+            held,
             coordinator_epoch: epoch,
             outcome,
         })?;

@@ -2,17 +2,18 @@
 ghost use Rattle.std.specs.Prelude.{◌≡◌, OnErr, OnOk, filter, not, bytes_eq, []};
 ghost use Rattle.std.specs.List.{list_any};
 ghost use Rattle.kx_model.specs.Markers.{noting, same_answered};
-ghost use Rattle.kx_coord.specs.Noted.{SameAnswered};
+ghost use Rattle.kx_coord.specs.Noted.{SameAnswered, answered, is_marker};
 
 use indexmap::IndexMap;
-use kx_wire::{Held, PartitionId, TxnId};
+use kx_wire::{Epoch, PartitionId, ProducerId, TxnId};
 use std::alloc::{AllocError, Global};
 use std::marker::Model;
 
 // An answered marker of a transactional id.
 #[derive(Clone, Copy)]
 struct AnsweredMarker {
-    held: Held,
+    id: ProducerId,
+    epoch: Epoch,
     partition: PartitionId,
 }
 
@@ -31,9 +32,22 @@ impl Model for NotedMarkers {
 
     ghost Value = { List Answered };
 
+    ghost use Rattle.std.specs.Prelude.{bytes_eq};
+    ghost use Rattle.indexmap.specs.IndexMap.{IsUnique};
     ghost use Rattle.kx_coord.specs.Noted.{answered_by};
 
     ghost view = { λ n. flat_map (λ e. map (answered_by e.0) e.1.items) n.by_txn.entries };
+
+    ghost invariant = { λ n. IsUnique bytes_eq n.by_txn };
+}
+
+// Whether it is the answer to the marker of this id and epoch to the partition.
+fn is_same(marker: &AnsweredMarker, id: ProducerId, epoch: Epoch, partition: PartitionId) -> bool
+    ensures { result ≡ is_marker id epoch partition marker.now }
+{
+    id.get() == marker.id.get()
+        && epoch.get() == marker.epoch.get()
+        && partition.get() == marker.partition.get()
 }
 
 impl NotedMarkers {
@@ -48,14 +62,20 @@ impl NotedMarkers {
     }
 
     /// Whether the marker of a transaction to a partition was answered.
-    pub(crate) fn contains(&self, txn: TxnId, held: Held, partition: PartitionId) -> bool
-        ensures { result ≡ list_any
-            (same_answered (record { txn = txn; held = held; partition = partition })) self.now }
+    pub(crate) fn contains(
+        &self,
+        txn: TxnId,
+        id: ProducerId,
+        epoch: Epoch,
+        partition: PartitionId,
+    ) -> bool
+        ensures { result ≡ list_any (same_answered (answered txn id epoch partition)) self.now }
     {
         match self.by_txn.get(&txn) {
             None => false,
-            Some(markers) => markers.iter().any(|marker| marker.held == held
-                && marker.partition == partition),
+            Some(markers) => markers
+                .iter()
+                .any(|marker| is_same(marker, id, epoch, partition)),
         }
     }
 
@@ -67,17 +87,22 @@ impl NotedMarkers {
     pub(crate) fn note(
         &mut self,
         txn: TxnId,
-        held: Held,
+        id: ProducerId,
+        epoch: Epoch,
         partition: PartitionId,
     ) -> Result<(), AllocError>
         ensures ok { OnOk result (SameAnswered self.new
-            (noting self.old (record { txn = txn; held = held; partition = partition }))) }
+            (noting self.old (answered txn id epoch partition))) }
         ensures err { OnErr result (self.new ≡ self.old) }
     {
-        if self.contains(txn, held, partition) {
+        if self.contains(txn, id, epoch, partition) {
             return Ok(());
         }
-        let marker = AnsweredMarker { held, partition };
+        let marker = AnsweredMarker {
+            id,
+            epoch,
+            partition,
+        };
         if let Some(markers) = self.by_txn.get_mut(&txn) {
             markers.push(marker)?;
             return Ok(());

@@ -3,7 +3,7 @@ ghost use Rattle.std.specs.Prelude.{◌≡◌, ◌<◌, ◌≤◌, ◌++◌, [],
 ghost use Rattle.std.specs.Prelude.{MatchOption, Some, None};
 ghost use Rattle.indexmap.specs.IndexMap.{spare};
 ghost use Rattle.kx_model.specs.Coordinator as model;
-ghost use Rattle.kx_model.specs.Coordinator.{Note, CoordinatorEpoch};
+ghost use Rattle.kx_model.specs.Coordinator.{Note};
 ghost use Rattle.kx_model.specs.CoordinatorNode.{id_limit};
 ghost use Rattle.kx_model.specs.Markers.{reopen};
 ghost use Rattle.kx_txnlog.specs.Entry.{note_of, row_of};
@@ -138,7 +138,7 @@ impl Table {
         ensures { (log : List Note)
             → Follows log self.now.rows.entries self.now.next_id self.now.epoch
             → MatchOption result (reopen log ≡ None)
-            (λ epoch. reopen log ≡ Some (CoordinatorEpoch epoch)) }
+            (λ epoch. reopen log ≡ Some (model.CoordinatorEpoch epoch)) }
     {
         CoordinatorEpoch::new(self.epoch.checked_add(1)?)
     }
