@@ -1,6 +1,7 @@
 //! A partition asks to be added to a transaction (KIP-890, "AddPartitionsToTxn").
 ghost use Rattle.std.specs.Prelude.{◌≡◌, ◌<◌, IfOk, not, false, Some, ◌&&◌, ◌||◌};
-ghost use Rattle.kx_model.specs.Coordinator.{is, lists, spent_epoch};
+ghost use Rattle.kx_model.specs.Coordinator.{is, spent_epoch};
+ghost use Rattle.kx_model.specs.Coordinator.{lists as listed};
 ghost use Rattle.kx_model.specs.Requests as model;
 ghost use Rattle.kx_txnlog.specs.Entry.{row_of};
 ghost use Rattle.kx_coord.specs.Answers.{IsAnswer, IsFree};
@@ -49,6 +50,16 @@ pub(crate) fn is_old(row: &Row, id: ProducerId, epoch: Epoch) -> bool
     row.id.get() != id.get() || epoch.get() < row.epoch.get()
 }
 
+// The partition is listed last.
+fn lists(row: &Row, partition: PartitionId, start: u64) -> Result<Answer, AllocError>
+    requires { row.now.epoch < spent_epoch }
+    ensures { IfOk result (λ answer. listed partition (row_of row.now) ≡ false
+        → IsAnswer answer (model.added (row_of row.now) partition start)) }
+{
+    let row = added(row, partition, start)?;
+    Ok(writes(Some(row)))
+}
+
 /// What a partition is answered where the transactional id has a row.
 pub(crate) fn add_row(
     clock: u64,
@@ -67,16 +78,14 @@ pub(crate) fn add_row(
     if is_old(row, id, epoch) {
         return Ok(refuses(ErrorCode::ProducerFenced));
     }
-    let start = match row.state {
-        State::Prepare(_) => return Ok(refuses(ErrorCode::ConcurrentTransactions)),
+    match row.state {
+        State::Prepare(_) => Ok(refuses(ErrorCode::ConcurrentTransactions)),
         State::Ongoing => {
             if row.partitions.contains(partition) {
                 return Ok(repeats(Held { id, epoch }));
             }
-            row.start
+            lists(row, partition, row.start)
         }
-        State::Empty | State::Complete(_) => clock,
-    };
-    let row = added(row, partition, start)?;
-    Ok(writes(Some(row)))
+        State::Empty | State::Complete(_) => lists(row, partition, clock),
+    }
 }

@@ -1,7 +1,7 @@
 //! A client ends its transaction (KIP-98, "EndTxnRequest"; KIP-890).
 ghost use Rattle.std.specs.Prelude.{◌≡◌, IfOk, List, Some};
 ghost use Rattle.kx_model.specs.Coordinator as coordinator;
-ghost use Rattle.kx_model.specs.Coordinator.{Note, Ongoing};
+ghost use Rattle.kx_model.specs.Coordinator.{ByEnd, Note, Ongoing};
 ghost use Rattle.kx_model.specs.Requests as model;
 ghost use Rattle.kx_txnlog.specs.Entry.{row_of};
 ghost use Rattle.kx_txnlog.specs.State.{state_of};
@@ -57,6 +57,17 @@ impl Fresh {
         }
     }
 
+    // The transaction ends, and waits for its markers.
+    fn decides(self, row: &Row, outcome: Outcome) -> Result<Answer, AllocError>
+        requires { (row_of row.now).state ≡ Ongoing }
+        ensures { IfOk result (λ answer. (log : List Note) → IsNextId log self.next
+            → IsAnswer answer
+            (model.writes (model.prepared log (row_of row.now) outcome ByEnd))) }
+    {
+        let prepared = self.prepared(row, outcome, Cause::End)?;
+        Ok(writes(prepared))
+    }
+
     /// What a client is answered where the transactional id has a row.
     pub(crate) fn end_row(
         self,
@@ -83,7 +94,7 @@ impl Fresh {
         }
         match row.state {
             State::Empty | State::Complete(_) => Ok(self.nothing_sent(row, outcome)),
-            State::Ongoing => Ok(writes(self.prepared(row, outcome, Cause::End)?)),
+            State::Ongoing => self.decides(row, outcome),
             State::Prepare(_) => Ok(refuses(ErrorCode::ConcurrentTransactions)),
         }
     }

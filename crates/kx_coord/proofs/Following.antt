@@ -18,7 +18,7 @@ use Rattle.kx_model.proofs.Notes.{coordinator_epoch-push, last_row-push, next_id
 use Rattle.kx_txnlog.specs.Entry.{row_of}
 use Rattle.kx_txnlog.specs.declared.entry.Row.{Row}
 use Rattle.kx_coord.specs.Follows.{Follows}
-use Rattle.kx_coord.proofs.Rows.{put_row, rows-push, rows_stay}
+use Rattle.kx_coord.proofs.LastRows.{put_row, rows-push, rows_stay}
 
 -- an i32 that is a natural number
 pub same_i32 : (z : ℤ) (n : ℕ) → z ≡ pos n → n < 2 ^ 31 → to_z w32 (of_z w32 z) ≡ pos n
