@@ -7,7 +7,8 @@ use Rattle.std.specs.Int.{w32, w64}
 use Rattle.std.specs.List.{AllByRecursion}
 use Rattle.std.specs.Map.{lookup}
 use Rattle.std.specs.Option.{option_or}
-use mir.Val.{of_z, to_z, to_z-of_z}
+use Rattle.std.proofs.lemmas.Int.{to_z-of_z}
+use mir.Val.{of_z, to_z}
 use Rattle.std.proofs.lemmas.Slice.Eq.{bytes_eq-Decides}
 use Rattle.indexmap.specs.IndexMap.{insert_entry}
 use Rattle.kx_model.specs.Coordinator as model

@@ -33,9 +33,9 @@ pub record Breaks (old new : CoordinatorState) (note : Note) : Type 0 where
 
 -- the entry was appended, or the log was closed before, or closed now
 abbrev pub IsWritten : CoordinatorState → CoordinatorState → Note → Bool → Type 0
-IsWritten old new note true = Appends old new note
-IsWritten old new note false =
-    ((old.log.closed ≡ true) × (new ≡ old)) ⊎ Breaks old new note
+IsWritten old new note true = (has_no_id note ≡ false) × Appends old new note
+IsWritten old new note false = ((old.log.closed ≡ true) × (new ≡ old))
+    ⊎ ((has_no_id note ≡ false) × Breaks old new note)
 
 -- these messages go out and the markers that the entry owes, where it was appended; else those
 abbrev pub handed_out : Bool → ℕ → Note → List Message → List Message → List Message
@@ -47,7 +47,7 @@ pub data Hands (old new : CoordinatorState) (note : Note) (done failed handed : 
     : Type 0 where
   HasNoId : has_no_id note ≡ true → new ≡ old → handed ≡ failed
       → Hands old new note done failed handed
-  HasId : (appended : Bool) → has_no_id note ≡ false → IsWritten old new note appended
+  HasId : (appended : Bool) → IsWritten old new note appended
       → handed ≡ handed_out appended (coordinator_epoch old.log.notes) note done failed
       → Hands old new note done failed handed
 
@@ -72,8 +72,7 @@ pub data CompletesRow (old new : CoordinatorState) (row : Row) : Type 0 where
   IsComplete : has_no_id (Written row) ≡ false → IsAppendedTo (Written row) old.log new.log
       → SameAnswered new.answered (without_row old.answered row)
       → new ≡ record old { log = new.log; answered = new.answered } → CompletesRow old new row
-  StaysOpen : has_no_id (Written row) ≡ false → IsWritten old new (Written row) false
-      → CompletesRow old new row
+  StaysOpen : IsWritten old new (Written row) false → CompletesRow old new row
 
 abbrev pub SettlesBy : CoordinatorState → CoordinatorState → Answered → Settled → Type 0
 SettlesBy old new a Ignored = new ≡ old

@@ -72,7 +72,7 @@ impl Table {
         for entry in entries {
             table.reserve()?;
             let copy = entry.clone()?;
-            table.note(copy);
+            table.note(copy, above_ids(entry));
         }
         Ok(table)
     }
@@ -92,15 +92,17 @@ impl Table {
         Ok(())
     }
 
-    /// Notes an entry that was appended.
-    pub(crate) fn note(&mut self, entry: Entry)
-        requires { 0 < spare self.old.rows }
+    /// Notes an entry that was appended, where this is one above all ids that it names.
+    pub(crate) fn note(&mut self, entry: Entry, above: u64)
+        requires room { 0 < spare self.old.rows }
+        requires above { above ≡ model.above_ids (note_of entry) }
+        requires most { above ≤ id_limit }
         ensures { (log : List Note)
             → Follows log self.old.rows.entries self.old.next_id self.old.epoch
             → Follows (log ++ note_of entry ∷ [])
             self.new.rows.entries self.new.next_id self.new.epoch }
     {
-        self.next_id = self.next_id.max(above_ids(&entry));
+        self.next_id = self.next_id.max(above);
         match entry {
             Entry::CoordinatorEpoch(epoch) => {
                 self.epoch = epoch.get();
@@ -108,7 +110,7 @@ impl Table {
             Entry::Allot(_) => {}
             Entry::Row(row) => {
                 let txn = row.txn;
-                let _ = self.rows.insert(txn, row);
+                let _ = self.rows.insert(txn, row).unwrap();
             }
         }
     }
