@@ -135,3 +135,9 @@ follows_row log entries new next above now epoch row h e f le is found = record 
   next_fits = omega (arith, h.next_fits, f, le);
   epoch_is = h.epoch_is ∙ ap pos (sym (coordinator_epoch-push log (Written (row_of row))));
 }
+
+-- the rows of a table
+pub rows_of : (es : List (List ℕ × Row))
+    → map row_of (map (λ e. e.1) es) ≡ map (λ e. row_of e.1) es
+rows_of [] = refl
+rows_of (e ∷ es) = ap (λ l. row_of e.1 ∷ l) (rows_of es)

@@ -3,4 +3,4 @@ pub mod Noted
 pub mod Follows
 pub mod CoordinatorState
 pub mod Calls
-pub mod Settling
+pub mod Deciding

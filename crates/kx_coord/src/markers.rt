@@ -1,12 +1,12 @@
 //! The markers that end a transaction at its partitions (KIP-98, "WriteTxnMarkerRequest").
-ghost use Rattle.std.specs.Prelude.{◌≡◌, ◌++◌, ℕ, pos, OnOk};
+ghost use Rattle.std.specs.Prelude.{◌≡◌, ◌++◌, ℕ, pos, flat_map, map, IfOk, OnOk};
 ghost use Rattle.kx_model.specs.Markers.{markers_of, missing_of};
 ghost use Rattle.kx_txnlog.specs.Entry.{row_of};
 
 use crate::noted::NotedMarkers;
 use kx_txnlog::{Row, State};
 use kx_wire::{Held, Message, Raised};
-use std::alloc::AllocError;
+use std::alloc::{AllocError, Global};
 
 /// Puts the markers that a row owes behind other messages, in the order in which its partitions
 /// were added, with this epoch of the coordinator.
@@ -77,4 +77,45 @@ pub(crate) fn push_missing(
         })?;
     }
     Ok(())
+}
+
+/// The markers that some rows owe, row by row.
+///
+/// # Errors
+///
+/// Only for want of memory.
+pub(crate) fn all_markers(
+    alloc: Global,
+    epoch: i32,
+    rows: &[Row],
+) -> Result<Vec<Message>, AllocError>
+    ensures { IfOk result (λ messages. (n : ℕ) → epoch ≡ pos n
+        → messages.items ≡ flat_map (markers_of n) (map row_of rows.now)) }
+{
+    let mut messages = Vec::new(alloc);
+    for row in rows {
+        push_markers(&mut messages, epoch, row)?;
+    }
+    Ok(messages)
+}
+
+/// Those of them that were not yet answered.
+///
+/// # Errors
+///
+/// Only for want of memory.
+pub(crate) fn all_missing(
+    alloc: Global,
+    epoch: i32,
+    noted: &NotedMarkers,
+    rows: &[Row],
+) -> Result<Vec<Message>, AllocError>
+    ensures { IfOk result (λ messages. (n : ℕ) → epoch ≡ pos n
+        → messages.items ≡ flat_map (missing_of n noted.now) (map row_of rows.now)) }
+{
+    let mut messages = Vec::new(alloc);
+    for row in rows {
+        push_missing(&mut messages, epoch, noted, row)?;
+    }
+    Ok(messages)
 }

@@ -125,6 +125,15 @@ impl Table {
         self.rows.get(&txn)
     }
 
+    /// The row of each transactional id, in order of first use.
+    pub(crate) fn rows(&self) -> &[Row]
+        ensures { (log : List Note)
+            → Follows log self.now.rows.entries self.now.next_id self.now.epoch
+            → map row_of result.now ≡ model.rows log }
+    {
+        self.rows.values().as_slice()
+    }
+
     /// The next id, where one is left.
     pub(crate) fn next_id(&self) -> Option<ProducerId>
         ensures { (log : List Note)

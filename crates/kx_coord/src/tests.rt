@@ -141,7 +141,7 @@ impl Node {
 
     fn rows(&self) -> Result<String, Fail> {
         let mut text = String::new(self.alloc);
-        for row in self.coordinator.rows()?.as_slice() {
+        for row in self.coordinator.rows() {
             let line = row_line(self.alloc, row)?;
             text.push_str(line.as_str())?;
         }
