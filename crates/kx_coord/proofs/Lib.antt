@@ -1,3 +1,4 @@
 pub mod LastRows
 pub mod Following
 pub mod HandedOut
+pub mod Opening
