@@ -2,3 +2,4 @@ pub mod LastRows
 pub mod Following
 pub mod HandedOut
 pub mod Opening
+pub mod NotedTables

@@ -50,6 +50,20 @@ fn is_same(marker: &AnsweredMarker, id: ProducerId, epoch: Epoch, partition: Par
         && partition.get() == marker.partition.get()
 }
 
+// Whether the answer to that marker is among them.
+fn has_marker(
+    markers: &[AnsweredMarker],
+    id: ProducerId,
+    epoch: Epoch,
+    partition: PartitionId,
+) -> bool
+    ensures { result ≡ list_any (is_marker id epoch partition) markers.now }
+{
+    markers
+        .iter()
+        .any(|marker| is_same(marker, id, epoch, partition))
+}
+
 impl NotedMarkers {
     /// None. Takes no memory.
     pub(crate) fn new(alloc: Global) -> NotedMarkers
@@ -73,9 +87,7 @@ impl NotedMarkers {
     {
         match self.by_txn.get(&txn) {
             None => false,
-            Some(markers) => markers
-                .iter()
-                .any(|marker| is_same(marker, id, epoch, partition)),
+            Some(markers) => has_marker(markers.as_slice(), id, epoch, partition),
         }
     }
 
