@@ -3,3 +3,4 @@ pub mod Following
 pub mod HandedOut
 pub mod Opening
 pub mod NotedTables
+pub mod Settling
