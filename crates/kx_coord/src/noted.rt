@@ -1,4 +1,5 @@
 //! The markers that were answered.
+ghost use Rattle.std.specs.Prelude.{◌∷◌, ◌++◌, IfOk};
 ghost use Rattle.std.specs.Prelude.{◌≡◌, OnErr, OnOk, filter, not, bytes_eq, []};
 ghost use Rattle.std.specs.List.{list_any};
 ghost use Rattle.kx_model.specs.Markers.{noting, same_answered};
@@ -64,6 +65,19 @@ fn has_marker(
         .any(|marker| is_same(marker, id, epoch, partition))
 }
 
+// These, of which there are no more than partitions of a row, and one more.
+fn with_marker(
+    alloc: Global,
+    before: &[AnsweredMarker],
+    marker: AnsweredMarker,
+) -> Result<Vec<AnsweredMarker>, AllocError>
+    ensures { IfOk result (λ markers. markers.items ≡ before.now ++ marker ∷ []) }
+{
+    let mut markers = Vec::from_slice(alloc, before)?;
+    markers.push(marker)?;
+    Ok(markers)
+}
+
 impl NotedMarkers {
     /// None. Takes no memory.
     pub(crate) fn new(alloc: Global) -> NotedMarkers
@@ -115,12 +129,10 @@ impl NotedMarkers {
             epoch,
             partition,
         };
-        if let Some(markers) = self.by_txn.get_mut(&txn) {
-            markers.push(marker)?;
-            return Ok(());
-        }
-        let mut markers = Vec::new(self.alloc);
-        markers.push(marker)?;
+        let markers = match self.by_txn.get(&txn) {
+            Some(markers) => with_marker(self.alloc, markers.as_slice(), marker)?,
+            None => with_marker(self.alloc, &[], marker)?,
+        };
         self.by_txn.insert(txn, markers)?;
         Ok(())
     }
