@@ -1,9 +1,9 @@
 -- What the coordinator keeps of its log follows it.
-use Rattle.std.proofs.Common.{◌≡◌, ◌∙◌, ◌≤◌, ◌<◌, ◌+◌, ◌^◌, ◌++◌, ℕ, ℤ, pos, List, [], ◌∷◌, Bool}
+use Rattle.std.proofs.Common.{◌≡◌, ◌∙◌, ◌≤◌, ◌<◌, ◌^◌, ◌++◌, ℕ, ℤ, pos, List, [], ◌∷◌, Bool}
 use Rattle.std.proofs.Common.{true, false, Option, Some, None, refl, sym, ap, subst, cond, map, max}
 use Rattle.std.proofs.Common.{arith}
 use Rattle.std.specs.Prelude.{bytes_eq, if◌then◌else◌, option_map}
-use Rattle.std.specs.Int.{w32, w64}
+use Rattle.std.specs.Int.{w32}
 use Rattle.std.specs.List.{AllByRecursion}
 use Rattle.std.specs.Map.{lookup}
 use Rattle.std.specs.Option.{option_or}
@@ -11,8 +11,7 @@ use Rattle.std.proofs.lemmas.Int.{to_z-of_z}
 use mir.Val.{of_z, to_z}
 use Rattle.std.proofs.lemmas.Slice.Eq.{bytes_eq-Decides}
 use Rattle.indexmap.specs.IndexMap.{insert_entry}
-use Rattle.kx_model.specs.Coordinator as model
-use Rattle.kx_model.specs.Coordinator.{Note, CoordinatorEpoch, Allot, Written, above_ids, rows}
+use Rattle.kx_model.specs.Coordinator.{Note, CoordinatorEpoch, Allot, Written, above_ids}
 use Rattle.kx_model.specs.Coordinator.{coordinator_epoch, next_id, last_row}
 use Rattle.kx_model.specs.CoordinatorNode.{id_limit}
 use Rattle.kx_model.proofs.Notes.{coordinator_epoch-push, last_row-push, next_id-push}

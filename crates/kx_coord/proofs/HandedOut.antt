@@ -1,13 +1,12 @@
 -- The messages that are handed out.
-use Rattle.std.proofs.Common.{◌≡◌, ◌∙◌, ℕ, ℤ, pos, List, [], ◌∷◌, ◌++◌, Bool, map, filter, refl, sym}
-use Rattle.std.proofs.Common.{ap, subst, take}
+use Rattle.std.proofs.Common.{◌≡◌, ◌∙◌, ℕ, ℤ, pos, List, map, filter, sym}
+use Rattle.std.proofs.Common.{ap}
 use Rattle.std.specs.Prelude.{not}
-use Rattle.std.specs.List.{list_any}
 use Rattle.kx_wire.specs.declared.message.Held.{Held}
 use Rattle.kx_wire.specs.declared.message.Message.{Message}
 use Rattle.kx_wire.specs.declared.message.Message.TheVariants as msg
 use Rattle.kx_wire.specs.declared.outcome.Outcome.{Outcome}
-use Rattle.kx_model.specs.Coordinator.{Row, State, Prepare}
+use Rattle.kx_model.specs.Coordinator.{Row, Prepare}
 use Rattle.kx_model.specs.Markers.{Answered, is_answered, markers_in, markers_of, missing_of}
 use Rattle.kx_model.specs.Requests.{own_pair}
 

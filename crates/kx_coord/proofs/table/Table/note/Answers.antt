@@ -1,11 +1,9 @@
-use Rattle.std.proofs.Common.{◌≡◌, ◌∙◌, ◌++◌, ◌∷◌, [], ap, subst, sym, Ok, Err, Result, is_ok}
+use Rattle.std.proofs.Common.{◌≡◌, ◌∙◌, ap, Ok, Err, Result, is_ok}
 use Rattle.std.proofs.Common.{true}
-use Rattle.std.specs.Prelude.{bytes_eq, OnOk}
-use Rattle.indexmap.specs.IndexMap.{insert_entry}
+use Rattle.std.specs.Prelude.{OnOk}
 use Rattle.kx_model.specs.Coordinator.{above_ids}
 use Rattle.kx_txnlog.specs.Entry.{note_of}
 use Rattle.kx_txnlog.specs.declared.entry.Entry.{Entry}
-use Rattle.kx_coord.specs.Follows.{Follows}
 use Rattle.kx_coord.proofs.Following.{follows_allot, follows_epoch, follows_row, same_i32}
 use Rattle.kx_coord.proofs.table.Table.note.Goals as goal
 
