@@ -12,6 +12,11 @@ use std::test::Fail;
 // The coordinator epoch 1.
 const EPOCH: [u8; 10] = [0, 0, 0, 6, 1, 1, 0, 0, 0, 1];
 
+// The id 2^63 - 1, handed out.
+const LAST_ID: [u8; 14] = [
+    0, 0, 0, 10, 1, 2, 0x7F, 0xFF, 0xFF, 0xFF, 0xFF, 0xFF, 0xFF, 0xFF,
+];
+
 // Partition 0 was added to the last transaction of the id 0 (epoch 32766) for `a`, by client 1, as
 // version 1 has it.
 const LAST_ONGOING: [u8; 39] = [
@@ -390,24 +395,68 @@ fn failed_restarts(rt: HostRuntime) -> Result<(), Fail> {
     Ok(())
 }
 
-#[test]
-fn epochs_are_used_up(rt: HostRuntime) {
-    let alloc = rt.alloc();
-    let mut last = EPOCH;
-    [last[6], last[7], last[8], last[9]] = [0x7F, 0xFF, 0xFF, 0xFF];
-    let store = MemStore::new(Vec::from_slice(alloc, &last).expect(&rt, "bytes"));
+// Why bytes aren't opened, and what is left of them.
+fn refusal(alloc: Global, bytes: &[u8]) -> Result<Option<(OpenFault, Vec<u8>)>, Fail> {
+    let store = MemStore::new(Vec::from_slice(alloc, bytes)?);
     match Coordinator::open(alloc, store, 0) {
-        Ok(_) => assert!(&rt; false, "opened"),
-        Err((fault, mut store)) => {
-            assert!(&rt; fault == OpenFault::UsedUp);
-            assert!(&rt; store.load().expect(&rt, "bytes").as_slice() == &last[..]);
+        Ok(_) => Ok(None),
+        Err((fault, store)) => {
+            let mut store = store;
+            let left = store.load()?;
+            Ok(Some((fault, left)))
         }
     }
-    let store = MemStore::new(Vec::from_slice(alloc, &[0, 0, 0, 1]).expect(&rt, "bytes"));
-    assert!(&rt;
-        matches!(
-            Coordinator::open(alloc, store, 0),
-            Err((OpenFault::Damaged(0), _))
-        )
+}
+
+#[test]
+fn epochs_are_used_up(rt: HostRuntime) -> Result<(), Fail> {
+    let mut last = EPOCH;
+    [last[6], last[7], last[8], last[9]] = [0x7F, 0xFF, 0xFF, 0xFF];
+    match refusal(rt.alloc(), &last)? {
+        None => assert!(&rt; false, "opened"),
+        Some((fault, left)) => {
+            assert!(&rt; fault == OpenFault::UsedUp);
+            assert!(&rt; left.as_slice() == &last[..]);
+        }
+    }
+    let damaged = refusal(rt.alloc(), &[0, 0, 0, 1])?;
+    assert!(&rt; matches!(damaged, Some((OpenFault::Damaged(0), _))));
+    Ok(())
+}
+
+// The id 2^63 - 1 was handed out: none is left.
+#[test]
+fn ids_are_used_up(rt: HostRuntime) -> Result<(), Fail> {
+    let (mut node, _) = Node::open(rt.alloc(), &LAST_ID)?;
+    assert_eq!(&rt; node.init(1, "a")?.as_str(), "c1 InitReply 56 -1 -1\n");
+    assert_eq!(&rt; node.init(1, "-")?.as_str(), "c1 InitReply 56 -1 -1\n");
+    assert_eq!(&rt; node.rows()?.as_str(), "");
+    Ok(())
+}
+
+// What is refused while the markers are on their way, and behind them.
+#[test]
+fn refusals(rt: HostRuntime) -> Result<(), Fail> {
+    let mut node = under_way(rt.alloc())?;
+    let fenced = "c1 EndReply 47 -1 -1\n";
+    assert_eq!(&rt; node.end(1, 0, 32767, Outcome::Abort)?.as_str(), fenced);
+    assert_eq!(&rt; node.end(1, 0, 0, Outcome::Commit)?.as_str(), COMMIT);
+    let preparing = "c1 EndReply 51 -1 -1\n";
+    assert_eq!(&rt; node.end(1, 0, 1, Outcome::Commit)?.as_str(), preparing);
+    assert_eq!(&rt; node.add("a", 0, 1, 2)?.as_str(), "p2 AddReply 51 0 1\n");
+    // The markers' replies come twice, the later partition's first.
+    assert_eq!(&rt; node.reply(1, 0, 1)?.as_str(), "");
+    assert_eq!(&rt; node.reply(1, 0, 1)?.as_str(), "");
+    assert_eq!(&rt; node.rows()?.as_str(), "a 0 1 2 0 1\n");
+    assert_eq!(&rt; node.reply(0, 0, 1)?.as_str(), "");
+    assert_eq!(&rt; node.reply(0, 0, 1)?.as_str(), "");
+    assert_eq!(&rt; node.rows()?.as_str(), "a 0 1 4\n");
+    // An abort of nothing raises the epoch, and then 0 is an old one.
+    assert_eq!(&rt;
+        node.end(1, 0, 1, Outcome::Abort)?.as_str(),
+        "c1 EndReply 0 0 2\n"
     );
+    let old = "c1 EndReply 90 -1 -1\n";
+    assert_eq!(&rt; node.end(1, 0, 0, Outcome::Commit)?.as_str(), old);
+    Ok(())
 }
