@@ -1,0 +1,5 @@
+use Rattle.kx_coord.proofs.rows.Fresh.nothing_sent.Goals as goal
+
+pub returns-in-Abort : goal.returns-in-Abort
+returns-in-Abort c = λ log next.
+    rw c.in-Abort.is (c.writes.ensures _ (c.raised.ensures log next))

@@ -1,0 +1,68 @@
+-- What the code decides about a request, in the words of the definitions.
+use Rattle.std.specs.Prelude.{◌≡◌, ◌≤◌, ℕ, Bool, true, false, List, [], ◌∷◌, ◌++◌, Option}
+use Rattle.std.specs.Prelude.{Some, None, MatchOption}
+use Rattle.kx_wire.specs.declared.message.Message.TheVariants as msg
+use Rattle.kx_model.specs.Coordinator as model
+use Rattle.kx_model.specs.Coordinator.{Note, State, Empty, Ongoing, Prepare, Complete, ByAdd}
+use Rattle.kx_model.specs.Coordinator.{Written, next_id, lists}
+use Rattle.kx_model.specs.CoordinatorNode.{Reply, has_no_id, id_limit}
+use Rattle.kx_model.specs.Requests as requests
+use Rattle.kx_txnlog.specs.Entry.{note_of, row_of}
+use Rattle.kx_txnlog.specs.declared.entry.Row.{Row}
+use Rattle.kx_coord.specs.declared.answer.Answer.{Answer}
+use Rattle.kx_coord.specs.declared.answer.Answer.TheVariants as answer
+use Rattle.kx_coord.specs.declared.answer.ReplyTo.{ReplyTo}
+use Rattle.kx_coord.specs.declared.answer.ReplyTo.TheVariants as to
+
+-- the next id of a log, or none where ids are used up
+abbrev pub IsNextId : List Note → Option ℕ → Type 0
+IsNextId log next = MatchOption next (id_limit ≤ next_id log) (λ id. id ≡ next_id log)
+
+-- a row was made, or an id is missing for it
+abbrev pub IsMade : model.Row → Option Row → Type 0
+IsMade r made = MatchOption made (has_no_id (Written r) ≡ true) (λ row. row_of row ≡ r)
+
+-- the answer, where an entry needs an id and none is left
+pub record NeedsId (a : requests.Answer) : Type 0 where
+  pub note : Note
+  pub is : a.note ≡ Some note
+  pub none : has_no_id note ≡ true
+
+abbrev pub IsAnswer : Answer → requests.Answer → Type 0
+IsAnswer (answer.Replies code held) a = a ≡ record { note = None; code = code; held = held }
+IsAnswer answer.UsedUp a = NeedsId a
+IsAnswer (answer.Writes entry code held) a =
+    a ≡ record { note = Some (note_of entry); code = code; held = held }
+
+-- whom a request is answered
+abbrev pub reply_by : ReplyTo → Reply
+reply_by (to.Init client correlation) = msg.InitReply client correlation
+reply_by (to.End client correlation) = msg.EndReply client correlation
+reply_by (to.Add partition txn held) = λ code after. msg.AddReply partition txn held code
+
+-- nothing is under way, and no markers are on their way
+abbrev pub is_settled : State → Bool
+is_settled Empty = true
+is_settled Ongoing = false
+is_settled (Prepare outcome) = false
+is_settled (Complete outcome) = true
+
+-- the row with a partition listed last
+abbrev pub added_row : model.Row → ℕ → ℕ → model.Row
+added_row r partition start = record r {
+  state = Ongoing;
+  cause = ByAdd;
+  start = start;
+  partitions = r.partitions ++ partition ∷ [];
+}
+
+abbrev pub IsFreeIn : ℕ → model.Row → State → Type 0
+IsFreeIn partition r Empty = lists partition r ≡ false
+IsFreeIn partition r Ongoing = Unit {0}
+IsFreeIn partition r (Prepare outcome) = Unit {0}
+IsFreeIn partition r (Complete outcome) = lists partition r ≡ false
+
+-- a row with nothing under way doesn't list the partition: each that is written lists none
+abbrev pub IsFree : ℕ → Option model.Row → Type 0
+IsFree partition None = Unit {0}
+IsFree partition (Some r) = IsFreeIn partition r r.state

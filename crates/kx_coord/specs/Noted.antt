@@ -1,0 +1,21 @@
+-- Markers that were answered, kept by transactional id.
+use Rattle.std.specs.Prelude.{◌≡◌, ◌==◌, ◌&&◌, List, ℕ, Bool}
+use Rattle.std.specs.List.{list_any}
+use Rattle.kx_model.specs.Markers.{Answered, same_answered}
+use Rattle.kx_coord.specs.declared.noted.AnsweredMarker.{AnsweredMarker}
+
+abbrev pub answered : List ℕ → ℕ → ℕ → ℕ → Answered
+answered txn id epoch partition =
+    record { txn = txn; held = record { id = id; epoch = epoch }; partition = partition }
+
+-- as it is kept for its transactional id
+abbrev pub answered_by : List ℕ → AnsweredMarker → Answered
+answered_by txn marker = answered txn marker.id marker.epoch marker.partition
+
+abbrev pub is_marker : ℕ → ℕ → ℕ → AnsweredMarker → Bool
+is_marker id epoch partition marker =
+    id == marker.id && epoch == marker.epoch && partition == marker.partition
+
+-- the same markers were answered, whatever their order
+pub record SameAnswered (xs ys : List Answered) : Type 0 where
+  pub same : (a : Answered) → list_any (same_answered a) xs ≡ list_any (same_answered a) ys

@@ -1,0 +1,141 @@
+//! What the coordinator answers a request, and the entry that it appends first.
+ghost use Rattle.std.specs.Prelude.{◌≡◌};
+ghost use Rattle.kx_model.specs.Coordinator as coordinator;
+ghost use Rattle.kx_model.specs.Requests as model;
+ghost use Rattle.kx_txnlog.specs.Entry.{row_of};
+ghost use Rattle.kx_coord.specs.Answers.{IsAnswer, IsMade, reply_by};
+
+use kx_txnlog::{Entry, Row};
+use kx_wire::{ClientId, Epoch, ErrorCode, Held, Message, PartitionId, TxnId};
+
+/// What is done about a request.
+#[derive(Drop)]
+pub(crate) enum Answer {
+    /// Nothing is appended.
+    Replies {
+        code: ErrorCode,
+        held: Option<Held>,
+    },
+    /// The entry needs an id, and none is left.
+    UsedUp,
+    /// The entry is appended first.
+    Writes {
+        entry: Entry,
+        code: ErrorCode,
+        held: Option<Held>,
+    },
+}
+
+/// The request is refused.
+pub(crate) fn refuses(code: ErrorCode) -> Answer
+    ensures { IsAnswer result (model.refuses code) }
+{
+    Answer::Replies { code, held: None }
+}
+
+/// The request was served before.
+pub(crate) fn repeats(held: Held) -> Answer
+    ensures { IsAnswer result (model.repeats held) }
+{
+    Answer::Replies {
+        code: ErrorCode::NoError,
+        held: Some(held),
+    }
+}
+
+/// The id and epoch of a row.
+pub(crate) fn own_pair(row: &Row) -> Held
+    ensures { result ≡ model.own_pair (row_of row.now) }
+{
+    Held {
+        id: row.id,
+        epoch: row.epoch,
+    }
+}
+
+/// The id and epoch of the transaction after a row: those of the next id where it names one.
+pub(crate) fn held_after(row: &Row) -> Held
+    ensures { result ≡ model.held_after (row_of row.now) }
+{
+    match row.next {
+        Some(id) => Held {
+            id,
+            epoch: Epoch::try_from(0).unwrap(),
+        },
+        None => own_pair(row),
+    }
+}
+
+/// The row is appended, if there was an id for it, and the request is served.
+pub(crate) fn writes(made: Option<Row>) -> Answer
+    ensures { (r : coordinator.Row) → IsMade r made → IsAnswer result (model.writes r) }
+{
+    let Some(row) = made else {
+        return Answer::UsedUp;
+    };
+    let held = held_after(&row);
+    Answer::Writes {
+        entry: Entry::Row(row),
+        code: ErrorCode::NoError,
+        held: Some(held),
+    }
+}
+
+/// Whom a request is answered.
+#[derive(Clone, Copy)]
+pub(crate) enum ReplyTo {
+    /// A client that asked for an id.
+    Init {
+        client: ClientId,
+        correlation: u32,
+    },
+    /// A client that ended its transaction.
+    End {
+        client: ClientId,
+        correlation: u32,
+    },
+    /// A partition that asked to be added to a transaction.
+    Add {
+        partition: PartitionId,
+        txn: TxnId,
+        held: Held,
+    },
+}
+
+impl ReplyTo {
+    /// The reply with this code and, where that is 0, this id and epoch.
+    pub(crate) fn message(self, code: ErrorCode, held: Option<Held>) -> Message
+        ensures { result ≡ reply_by self code held }
+    {
+        match self {
+            ReplyTo::Init {
+                client,
+                correlation,
+            } => Message::InitReply {
+                client,
+                correlation,
+                code,
+                held,
+            },
+            ReplyTo::End {
+                client,
+                correlation,
+            } => Message::EndReply {
+                client,
+                correlation,
+                code,
+                held,
+            },
+            ReplyTo::Add {
+                partition,
+                txn,
+                held,
+            } => Message::AddReply {
+                partition,
+                txn,
+                held,
+                code,
+            },
+        }
+    }
+}

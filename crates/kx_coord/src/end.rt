@@ -1,0 +1,101 @@
+//! A client ends its transaction (KIP-98, "EndTxnRequest"; KIP-890).
+ghost use Rattle.std.specs.Prelude.{◌≡◌, IfOk, List, Some};
+ghost use Rattle.kx_model.specs.Coordinator as coordinator;
+ghost use Rattle.kx_model.specs.Coordinator.{ByEnd, Note, Ongoing};
+ghost use Rattle.kx_model.specs.Requests as model;
+ghost use Rattle.kx_txnlog.specs.Entry.{row_of};
+ghost use Rattle.kx_txnlog.specs.State.{state_of};
+ghost use Rattle.kx_coord.specs.Answers.{IsAnswer, IsNextId, is_settled};
+
+use crate::add::{is, is_old, refused_first};
+use crate::answer::{Answer, held_after, refuses, repeats, writes};
+use crate::rows::{Fresh, LAST_EPOCH};
+use kx_txnlog::{Cause, Row, State};
+use kx_wire::{Epoch, ErrorCode, Outcome, ProducerId};
+use std::alloc::AllocError;
+
+// Whether a state is one with this outcome decided.
+fn has_outcome(outcome: Outcome, state: State) -> bool
+    ensures { result ≡ model.has_outcome outcome (state_of state) }
+{
+    match state {
+        State::Empty | State::Ongoing => false,
+        State::Prepare(decided) | State::Complete(decided) => decided == outcome,
+    }
+}
+
+// Whether the row ends the transaction of this id and epoch: it stands one epoch higher, or, after
+// the last epoch, at the id that took the place of this one.
+fn ends(row: &Row, id: ProducerId, epoch: Epoch) -> bool
+    ensures { result ≡ coordinator.ends id epoch (row_of row.now) }
+{
+    let own = row.epoch.get();
+    let number = epoch.get();
+    let is_own = row.id.get() == id.get();
+    let is_previous = is(row.previous, id);
+    match row.state {
+        State::Empty | State::Ongoing => false,
+        State::Prepare(_) => is_own && own > 0 && own - 1 == number,
+        State::Complete(_) => {
+            (is_own && own > 0 && own - 1 == number)
+                || (number == LAST_EPOCH && is_previous && own == 0)
+        }
+    }
+}
+
+impl Fresh {
+    // No partition was added: only an abort ends it.
+    fn nothing_sent(self, row: &Row, outcome: Outcome) -> Answer
+        ensures { (log : List Note) → IsNextId log self.next
+            → IsAnswer result (model.nothing_sent log (row_of row.now) outcome) }
+    {
+        match outcome {
+            Outcome::Abort => {
+                writes(self.raised(row, State::Complete(Outcome::Abort), Cause::End))
+            }
+            Outcome::Commit => refuses(ErrorCode::InvalidTxnState),
+        }
+    }
+
+    // The transaction ends, and waits for its markers.
+    fn decides(self, row: &Row, outcome: Outcome) -> Result<Answer, AllocError>
+        requires { (row_of row.now).state ≡ Ongoing }
+        ensures { IfOk result (λ answer. (log : List Note) → IsNextId log self.next
+            → IsAnswer answer
+            (model.writes (model.prepared log (row_of row.now) outcome ByEnd))) }
+    {
+        let prepared = self.prepared(row, outcome, Cause::End)?;
+        Ok(writes(prepared))
+    }
+
+    /// What a client is answered where the transactional id has a row.
+    pub(crate) fn end_row(
+        self,
+        row: &Row,
+        id: ProducerId,
+        epoch: Epoch,
+        outcome: Outcome,
+    ) -> Result<Answer, AllocError>
+        ensures { IfOk result (λ answer. (log : List Note) → IsNextId log self.next
+            → IsAnswer answer (model.end_at log (Some (row_of row.now))
+            (record { id = id; epoch = epoch }) outcome)) }
+    {
+        if let Some(code) = refused_first(row, id, epoch) {
+            return Ok(refuses(code));
+        }
+        if ends(row, id, epoch) {
+            if has_outcome(outcome, row.state) {
+                return Ok(repeats(held_after(row)));
+            }
+            return Ok(refuses(ErrorCode::InvalidTxnState));
+        }
+        if is_old(row, id, epoch) {
+            return Ok(refuses(ErrorCode::ProducerFenced));
+        }
+        match row.state {
+            State::Empty | State::Complete(_) => Ok(self.nothing_sent(row, outcome)),
+            State::Ongoing => self.decides(row, outcome),
+            State::Prepare(_) => Ok(refuses(ErrorCode::ConcurrentTransactions)),
+        }
+    }
+}

@@ -1,0 +1,20 @@
+//! The transaction coordinator (KIP-98, "Transaction Coordinator"; KIP-890): what it answers to the
+//! requests that come, what it appends to its log first, and the markers that it hands out. What it
+//! holds of a transactional id is the last row that its log has of it; a table finds that row
+//! without reading the log.
+#![tactic(auto)]
+
+mod add;
+mod answer;
+mod coordinator;
+mod end;
+mod init;
+mod markers;
+mod noted;
+mod rows;
+mod table;
+
+pub use coordinator::Coordinator;
+
+#[cfg(test)]
+mod tests;

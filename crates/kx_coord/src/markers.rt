@@ -1,0 +1,121 @@
+//! The markers that end a transaction at its partitions (KIP-98, "WriteTxnMarkerRequest").
+ghost use Rattle.std.specs.Prelude.{◌≡◌, ◌++◌, ℕ, pos, flat_map, map, IfOk, OnOk};
+ghost use Rattle.kx_model.specs.Markers.{markers_of, missing_of};
+ghost use Rattle.kx_txnlog.specs.Entry.{row_of};
+
+use crate::noted::NotedMarkers;
+use kx_txnlog::{Row, State};
+use kx_wire::{Held, Message, Raised};
+use std::alloc::{AllocError, Global};
+
+/// Puts the markers that a row owes behind other messages, in the order in which its partitions
+/// were added, with this epoch of the coordinator.
+///
+/// # Errors
+///
+/// Only for want of memory.
+pub(crate) fn push_markers(
+    messages: &mut Vec<Message>,
+    epoch: i32,
+    row: &Row,
+) -> Result<(), AllocError>
+    ensures { (n : ℕ) → epoch ≡ pos n → OnOk result
+        (messages.new.items ≡ messages.old.items ++ markers_of n (row_of row.now)) }
+{
+    let State::Prepare(outcome) = row.state else {
+        return Ok(());
+    };
+    let held = Held {
+        id: row.id,
+        epoch: row.epoch,
+    };
+    let held = Raised::try_from(held).unwrap();
+    for partition in row.partitions.as_slice() {
+        messages.push(Message::WriteMarker {
+            partition: *partition,
+            txn: row.txn,
+            held,
+            coordinator_epoch: epoch,
+            outcome,
+        })?;
+    }
+    Ok(())
+}
+
+/// Puts those of them that were not yet answered behind other messages.
+///
+/// # Errors
+///
+/// Only for want of memory.
+pub(crate) fn push_missing(
+    messages: &mut Vec<Message>,
+    epoch: i32,
+    noted: &NotedMarkers,
+    row: &Row,
+) -> Result<(), AllocError>
+    ensures { (n : ℕ) → epoch ≡ pos n → OnOk result
+        (messages.new.items ≡ messages.old.items ++ missing_of n noted.now (row_of row.now)) }
+{
+    let State::Prepare(outcome) = row.state else {
+        return Ok(());
+    };
+    let held = Held {
+        id: row.id,
+        epoch: row.epoch,
+    };
+    let held = Raised::try_from(held).unwrap();
+    for partition in row.partitions.as_slice() {
+        if noted.contains(row.txn, row.id, row.epoch, *partition) {
+            continue;
+        }
+        messages.push(Message::WriteMarker {
+            partition: *partition,
+            txn: row.txn,
+            held,
+            coordinator_epoch: epoch,
+            outcome,
+        })?;
+    }
+    Ok(())
+}
+
+/// The markers that some rows owe, row by row.
+///
+/// # Errors
+///
+/// Only for want of memory.
+pub(crate) fn all_markers(
+    alloc: Global,
+    epoch: i32,
+    rows: &[Row],
+) -> Result<Vec<Message>, AllocError>
+    ensures { IfOk result (λ messages. (n : ℕ) → epoch ≡ pos n
+        → messages.items ≡ flat_map (markers_of n) (map row_of rows.now)) }
+{
+    let mut messages = Vec::new(alloc);
+    for row in rows {
+        push_markers(&mut messages, epoch, row)?;
+    }
+    Ok(messages)
+}
+
+/// Those of them that were not yet answered.
+///
+/// # Errors
+///
+/// Only for want of memory.
+pub(crate) fn all_missing(
+    alloc: Global,
+    epoch: i32,
+    noted: &NotedMarkers,
+    rows: &[Row],
+) -> Result<Vec<Message>, AllocError>
+    ensures { IfOk result (λ messages. (n : ℕ) → epoch ≡ pos n
+        → messages.items ≡ flat_map (missing_of n noted.now) (map row_of rows.now)) }
+{
+    let mut messages = Vec::new(alloc);
+    for row in rows {
+        push_missing(&mut messages, epoch, noted, row)?;
+    }
+    Ok(messages)
+}

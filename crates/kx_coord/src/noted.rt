@@ -1,0 +1,146 @@
+//! The markers that were answered.
+ghost use Rattle.std.specs.Prelude.{◌∷◌, ◌++◌, IfOk};
+ghost use Rattle.std.specs.Prelude.{◌≡◌, OnErr, OnOk, filter, not, bytes_eq, []};
+ghost use Rattle.std.specs.List.{list_any};
+ghost use Rattle.kx_model.specs.Markers.{noting, same_answered};
+ghost use Rattle.kx_coord.specs.Noted.{SameAnswered, answered, is_marker};
+
+use indexmap::IndexMap;
+use kx_wire::{Epoch, PartitionId, ProducerId, TxnId};
+use std::alloc::{AllocError, Global};
+use std::marker::Model;
+
+// An answered marker of a transactional id.
+#[derive(Clone, Copy)]
+struct AnsweredMarker {
+    id: ProducerId,
+    epoch: Epoch,
+    partition: PartitionId,
+}
+
+/// The markers that were answered, until their rows are complete. They are found by their
+/// transactional id, whose row lists no more partitions than there are.
+#[derive(Drop)]
+pub(crate) struct NotedMarkers {
+    alloc: Global,
+    by_txn: IndexMap<TxnId, Vec<AnsweredMarker>>,
+}
+
+impl Model for NotedMarkers {
+    ghost use Rattle.std.specs.Prelude.{List, map};
+    ghost use Rattle.std.specs.List.{flat_map};
+    ghost use Rattle.kx_model.specs.Markers.{Answered};
+
+    ghost Value = { List Answered };
+
+    ghost use Rattle.std.specs.Prelude.{bytes_eq};
+    ghost use Rattle.indexmap.specs.IndexMap.{IsUnique};
+    ghost use Rattle.kx_coord.specs.Noted.{answered_by};
+
+    ghost view = { λ n. flat_map (λ e. map (answered_by e.0) e.1.items) n.by_txn.entries };
+
+    ghost invariant = { λ n. IsUnique bytes_eq n.by_txn };
+}
+
+// Whether it is the answer to the marker of this id and epoch to the partition.
+fn is_same(marker: &AnsweredMarker, id: ProducerId, epoch: Epoch, partition: PartitionId) -> bool
+    ensures { result ≡ is_marker id epoch partition marker.now }
+{
+    id.get() == marker.id.get()
+        && epoch.get() == marker.epoch.get()
+        && partition.get() == marker.partition.get()
+}
+
+// Whether the answer to that marker is among them.
+fn has_marker(
+    markers: &[AnsweredMarker],
+    id: ProducerId,
+    epoch: Epoch,
+    partition: PartitionId,
+) -> bool
+    ensures { result ≡ list_any (is_marker id epoch partition) markers.now }
+{
+    markers
+        .iter()
+        .any(|marker| is_same(marker, id, epoch, partition))
+}
+
+// These, of which there are no more than partitions of a row, and one more.
+fn with_marker(
+    alloc: Global,
+    before: &[AnsweredMarker],
+    marker: AnsweredMarker,
+) -> Result<Vec<AnsweredMarker>, AllocError>
+    ensures { IfOk result (λ markers. markers.items ≡ before.now ++ marker ∷ []) }
+{
+    let mut markers = Vec::from_slice(alloc, before)?;
+    markers.push(marker)?;
+    Ok(markers)
+}
+
+impl NotedMarkers {
+    /// None. Takes no memory.
+    pub(crate) fn new(alloc: Global) -> NotedMarkers
+        ensures { result ≡ [] }
+    {
+        NotedMarkers {
+            alloc,
+            by_txn: IndexMap::new(alloc),
+        }
+    }
+
+    /// Whether the marker of a transaction to a partition was answered.
+    pub(crate) fn contains(
+        &self,
+        txn: TxnId,
+        id: ProducerId,
+        epoch: Epoch,
+        partition: PartitionId,
+    ) -> bool
+        ensures { result ≡ list_any (same_answered (answered txn id epoch partition)) self.now }
+    {
+        match self.by_txn.get(&txn) {
+            None => false,
+            Some(markers) => has_marker(markers.as_slice(), id, epoch, partition),
+        }
+    }
+
+    /// Notes that the marker of a transaction to a partition was answered.
+    ///
+    /// # Errors
+    ///
+    /// Only for want of memory; then they are as before.
+    pub(crate) fn note(
+        &mut self,
+        txn: TxnId,
+        id: ProducerId,
+        epoch: Epoch,
+        partition: PartitionId,
+    ) -> Result<(), AllocError>
+        ensures ok { OnOk result (SameAnswered self.new
+            (noting self.old (answered txn id epoch partition))) }
+        ensures err { OnErr result (self.new ≡ self.old) }
+    {
+        if self.contains(txn, id, epoch, partition) {
+            return Ok(());
+        }
+        let marker = AnsweredMarker {
+            id,
+            epoch,
+            partition,
+        };
+        let markers = match self.by_txn.get(&txn) {
+            Some(markers) => with_marker(self.alloc, markers.as_slice(), marker)?,
+            None => with_marker(self.alloc, &[], marker)?,
+        };
+        self.by_txn.insert(txn, markers)?;
+        Ok(())
+    }
+
+    /// Forgets those of a transactional id.
+    pub(crate) fn forget(&mut self, txn: TxnId)
+        ensures { SameAnswered self.new (filter (λ a. not (bytes_eq a.txn txn)) self.old) }
+    {
+        let _ = self.by_txn.swap_remove(&txn);
+    }
+}
