@@ -20,7 +20,8 @@ returns g c =
     let next = to_z-of_z w64 c.next-next.result (record { sfits = c.next-next.type_inv })
     ∙ c.next-next.ensures in
     let stable = to_z-of_z w64 c.last_stable_offset-stable.result
-    (record { sfits = c.last_stable_offset-stable.type_inv }) ∙ c.last_stable_offset-stable.ensures in
+    (record { sfits = c.last_stable_offset-stable.type_inv })
+    ∙ c.last_stable_offset-stable.ensures in
     let last = to_z-of_z w64 c.end-end.result (record { sfits = c.end-end.type_inv })
     ∙ c.end-end.ensures in
     says ((shown : Page) → c.args.page ≡ fetched_of shown

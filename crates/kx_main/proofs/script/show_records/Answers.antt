@@ -23,8 +23,8 @@ returns-in-All g c =
     let new = g.W.Write.contents c.write_all.new.writer in
     let from = c.args.from in
     says ((shown : Page) → c.args.page ≡ fetched_of shown
-    → Appends old new (page_lines from c.args.mode shown)) c.write_all.result c.written.result old new
-    c.written.ensures
+    → Appends old new (page_lines from c.args.mode shown)) c.write_all.result c.written.result
+    old new c.written.ensures
     (on_ok_weaker c.write_all.result
     (λ a shown e. subst (λ (mode : Mode). Appends old new (page_lines from mode shown))
     (sym c.in-All.is)

@@ -5,6 +5,7 @@ use Rattle.kx_main.proofs.world.World.new.Goals as goal
 
 pub loop-preserved : goal.loop-preserved
 loop-preserved c =
-    subst (λ (logs : List LogState). AreEmpty (c.loop.counter + 1) logs) (sym c.in_ok-push.ensures.items)
+    subst (λ (logs : List LogState). AreEmpty (c.loop.counter + 1) logs)
+    (sym c.in_ok-push.ensures.items)
     (one_more c.loop.counter c.loop.partitions.items c.in_ok-empty_partition.field-0
     c.loop.invariant c.in_ok-empty_partition.ensures)
