@@ -15,6 +15,3 @@ mod rows;
 mod table;
 
 pub use coordinator::Coordinator;
-
-#[cfg(test)]
-mod tests;
