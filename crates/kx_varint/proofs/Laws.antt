@@ -142,7 +142,8 @@ done x = Ok x
 ok_fst : (x y : ℕ × ℕ) → done x ≡ done y → x ≡ y
 ok_fst x y e = cc
 
-chosen : {A : Type 0} (b : Bool) (x y z : A) → cond b x y ≡ z
+-- which branch gave this
+pub chosen : {A : Type 0} (b : Bool) (x y z : A) → cond b x y ≡ z
     → ((b ≡ true) × (x ≡ z)) ⊎ ((b ≡ false) × (y ≡ z))
 chosen true x y z e = inl (refl, e)
 chosen false x y z e = inr (refl, e)

@@ -9,12 +9,13 @@ use Rattle.kx_wire.specs.Sizes.{longest_frame}
 use Rattle.kx_wire.specs.Reader.{unsigned, whole}
 use Rattle.kx_wire.specs.Reading.{is_kind, fields_at}
 use Rattle.std.specs.Int.{w32}
+use Rattle.kx_varint.proofs.Laws.{chosen}
 use Rattle.kx_wire.specs.Frames.{Whole, Bad, More, of_fields, of_length, of_number, frame_at}
 use Rattle.kx_wire.specs.Frames.{Splits, Fed, Reads, Over}
 use Rattle.kx_wire.specs.declared.message.Message.{Message}
 use Rattle.kx_wire.specs.declared.fault.FrameFault.{FrameFault}
 use Rattle.kx_wire.specs.declared.fault.FrameFault.TheVariants as fault
-use Rattle.kx_wire.proofs.FrameLaws.{front_if, splits_more}
+use Rattle.kx_wire.proofs.FrameLaws.{splits_more}
 
 pub all_taken : (n : ℕ) (xs : List ℕ) → length xs ≡ n → take n xs ≡ xs
 all_taken n xs e = ap (take n) (sym (append-nil xs)) ∙ take_at xs [] n e
@@ -69,9 +70,9 @@ fields_fault (Some m) r f e = absurd (whole_not_bad f m r e)
 length_fault : (n : ℕ) (tail : List ℕ) (f : FrameFault) → of_length n tail ≡ Bad f → IsFault f
 length_fault n [] f e = absurd (more_not_bad f e)
 length_fault n (k ∷ bytes) f e =
-    elim (front_if (is_kind k) _ _ (Bad f) e) [
+    elim (chosen (is_kind k) _ _ (Bad f) e) [
       | inr h ↦ subst IsFault (bad_is fault.Kind f h.1) tt
-      | inl h ↦ elim (front_if (ltb (length bytes + 1) n) _ _ (Bad f) h.1) [
+      | inl h ↦ elim (chosen (ltb (length bytes + 1) n) _ _ (Bad f) h.1) [
         | inl g ↦ absurd (more_not_bad f g.1)
         | inr g ↦ fields_fault (whole (fields_at k (take (n - 1) bytes))) (drop (n - 1) bytes) f g.1
       ]
@@ -80,9 +81,9 @@ length_fault n (k ∷ bytes) f e =
 number_fault : (o : Option (ℕ × List ℕ)) (f : FrameFault) → of_number o ≡ Bad f → IsFault f
 number_fault None f e = absurd (more_not_bad f e)
 number_fault (Some (n, tail)) f e =
-    elim (front_if (ltb longest_frame n) _ _ (Bad f) e) [
+    elim (chosen (ltb longest_frame n) _ _ (Bad f) e) [
       | inl h ↦ subst IsFault (bad_is fault.TooLong f h.1) tt
-      | inr h ↦ elim (front_if (eqb n 0) _ _ (Bad f) h.1) [
+      | inr h ↦ elim (chosen (eqb n 0) _ _ (Bad f) h.1) [
         | inl g ↦ subst IsFault (bad_is fault.Kind f g.1) tt
         | inr g ↦ length_fault n tail f g.1
       ]

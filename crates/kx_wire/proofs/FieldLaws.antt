@@ -318,13 +318,13 @@ offsets_exact = record {
       ((repeated_exact offset_exact (length os)).again os (refl, h.each));
 }
 
-natural_takes : (z : ℤ) (n : ℕ) → FitsSigned w64 z → natural_with z ≡ Some n
+pub natural_takes : (z : ℤ) (n : ℕ) → FitsSigned w64 z → natural_with z ≡ Some n
     → (pos n ≡ z) × IsProducerId n
 natural_takes (pos k) n f e = subst (λ n. (pos n ≡ pos k) × IsProducerId n) (some_is k n e)
     (refl, omega arith)
 natural_takes (negsuc k) n f e = absurd cc
 
-id_exact : Exact (λ n. signed_text w64 (pos n)) IsProducerId id_at
+pub id_exact : Exact (λ n. signed_text w64 (pos n)) IsProducerId id_at
 unfolding id_at
 id_exact = narrowed i64_exact (record {
   takes = natural_takes;

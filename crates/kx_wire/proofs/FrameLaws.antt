@@ -12,6 +12,7 @@ use Rattle.std.proofs.lemmas.List.Concat.{flat_map-cons}
 use Rattle.kx_varint.specs.BigEndian.{unsigned_text}
 use Rattle.kx_varint.specs.Text.{IsBytes}
 use Rattle.kx_varint.proofs.FixedWidth.{IsBytes-take}
+use Rattle.kx_varint.proofs.Laws.{chosen}
 use Rattle.kx_wire.specs.Fields.{kind_of, fields_of, frame_text}
 use Rattle.kx_wire.specs.Sizes.{longest_frame}
 use Rattle.kx_wire.specs.Message.{IsMessage, IsSendable}
@@ -74,11 +75,6 @@ frame_again m rest h =
 
 -- ---- what is read is spelled so
 
-pub front_if : (b : Bool) (x y z : Front) → cond b x y ≡ z
-    → ((b ≡ true) × (x ≡ z)) ⊎ ((b ≡ false) × (y ≡ z))
-front_if true x y z e = inl (refl, e)
-front_if false x y z e = inr (refl, e)
-
 pub bad_not_whole : (f : FrameFault) (m : Message) (rest : List ℕ) → Bad f ≡ Whole m rest → ⊥
 bad_not_whole f m rest e = absurd cc
 
@@ -112,9 +108,9 @@ length_takes : (n : ℕ) (tail : List ℕ) (m : Message) (rest : List ℕ)
     → of_length n tail ≡ Whole m rest → Framed n tail m rest
 length_takes n [] m rest e = absurd (more_not_whole m rest e)
 length_takes n (k ∷ bytes) m rest e =
-    elim (front_if (is_kind k) _ _ (Whole m rest) e) [
+    elim (chosen (is_kind k) _ _ (Whole m rest) e) [
       | inr h ↦ absurd (bad_not_whole _ _ _ h.1)
-      | inl h ↦ elim (front_if (ltb (length bytes + 1) n) _ _ (Whole m rest) h.1) [
+      | inl h ↦ elim (chosen (ltb (length bytes + 1) n) _ _ (Whole m rest) h.1) [
         | inl g ↦ absurd (more_not_whole m rest g.1)
         | inr g ↦
             let p = fields_take (whole (fields_at k (take (n - 1) bytes))) (drop (n - 1) bytes) m
@@ -144,9 +140,9 @@ number_takes : (o : Option (ℕ × List ℕ)) (m : Message) (rest : List ℕ)
     → of_number o ≡ Whole m rest → Numbered o m rest
 number_takes None m rest e = absurd (more_not_whole m rest e)
 number_takes (Some (n, tail)) m rest e =
-    elim (front_if (ltb longest_frame n) _ _ (Whole m rest) e) [
+    elim (chosen (ltb longest_frame n) _ _ (Whole m rest) e) [
       | inl h ↦ absurd (bad_not_whole _ _ _ h.1)
-      | inr h ↦ elim (front_if (eqb n 0) _ _ (Whole m rest) h.1) [
+      | inr h ↦ elim (chosen (eqb n 0) _ _ (Whole m rest) h.1) [
         | inl g ↦ absurd (bad_not_whole _ _ _ g.1)
         | inr g ↦ record {
           n = n;

@@ -38,7 +38,7 @@ of_caller : (client correlation : ℕ) → length (caller_text client correlatio
 unfolding caller_text
 of_caller client correlation = simp (length-append, of_unsigned) refl
 
-of_name : (name : List ℕ) → length (name_text name) ≡ 1 + length name
+pub of_name : (name : List ℕ) → length (name_text name) ≡ 1 + length name
 unfolding name_text
 of_name name = simp (length-append, of_unsigned) (omega arith)
 
@@ -47,7 +47,7 @@ unfolding optional_text
 of_optional None = of_unsigned w8 0
 of_optional (Some name) = of_name name
 
-of_held : (held : Held) → length (held_text held) ≡ 10
+pub of_held : (held : Held) → length (held_text held) ≡ 10
 unfolding held_text
 of_held held = simp (length-append, of_signed) refl
 
@@ -72,7 +72,7 @@ of_bytes : (bytes : List ℕ) → length (bytes_text bytes) ≡ 4 + length bytes
 unfolding bytes_text
 of_bytes bytes = simp (length-append, of_unsigned) (omega arith)
 
-of_each : {A : Type 0} (text : A → List ℕ) (size : ℕ) → ((x : A) → length (text x) ≡ size)
+pub of_each : {A : Type 0} (text : A → List ℕ) (size : ℕ) → ((x : A) → length (text x) ≡ size)
     → (xs : List A) → length (flat_map text xs) ≡ size * length xs
 of_each text size each [] = omega arith
 of_each text size each (x ∷ xs) =

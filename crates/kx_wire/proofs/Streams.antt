@@ -14,6 +14,7 @@ use Rattle.kx_varint.specs.declared.fault.VarFault.TheVariants.{Short}
 use Rattle.kx_wire.proofs.Sizes.{of_unsigned}
 use Rattle.kx_varint.specs.Text.{IsBytes}
 use Rattle.kx_varint.proofs.Agree.{IsBytes-front, IsBytes-back}
+use Rattle.kx_varint.proofs.Laws.{chosen}
 use Rattle.kx_wire.specs.Sizes.{longest_frame}
 use Rattle.kx_wire.specs.Fields.{frame_text}
 use Rattle.kx_wire.specs.Message.{IsSendable}
@@ -26,7 +27,7 @@ use Rattle.kx_wire.specs.declared.message.Message.{Message}
 use Rattle.kx_wire.specs.declared.fault.FrameFault.{FrameFault}
 use Rattle.kx_wire.specs.declared.fault.FrameFault.TheVariants as fault
 use Rattle.kx_wire.proofs.FieldLaws.{u32_exact}
-use Rattle.kx_wire.proofs.FrameLaws.{front_if, frame_again, more_not_whole, whole_is}
+use Rattle.kx_wire.proofs.FrameLaws.{frame_again, more_not_whole, whole_is}
 use Rattle.kx_wire.proofs.Feeding.{more_not_bad, whole_not_bad}
 
 -- ---- a fault stays, whatever comes behind it
@@ -48,9 +49,9 @@ length_stays : (n : ℕ) (tail y : List ℕ) (f : FrameFault) → of_length n ta
     → of_length n (tail ++ y) ≡ Bad f
 length_stays n [] y f e = absurd (more_not_bad f e)
 length_stays n (k ∷ bytes) y f e =
-    elim (front_if (is_kind k) _ _ (Bad f) e) [
+    elim (chosen (is_kind k) _ _ (Bad f) e) [
       | inr h ↦ rw h.0 h.1
-      | inl h ↦ elim (front_if (ltb (length bytes + 1) n) _ _ (Bad f) h.1) [
+      | inl h ↦ elim (chosen (ltb (length bytes + 1) n) _ _ (Bad f) h.1) [
         | inl g ↦ absurd (more_not_bad f g.1)
         | inr g ↦
             let room : n ≤ length bytes + 1 = ltb-false (length bytes + 1) n g.0 in
@@ -67,9 +68,9 @@ length_stays n (k ∷ bytes) y f e =
 number_stays : (n : ℕ) (tail y : List ℕ) (f : FrameFault) → of_number (Some (n, tail)) ≡ Bad f
     → of_number (Some (n, tail ++ y)) ≡ Bad f
 number_stays n tail y f e =
-    elim (front_if (ltb longest_frame n) _ _ (Bad f) e) [
+    elim (chosen (ltb longest_frame n) _ _ (Bad f) e) [
       | inl h ↦ rw h.0 h.1
-      | inr h ↦ elim (front_if (eqb n 0) _ _ (Bad f) h.1) [
+      | inr h ↦ elim (chosen (eqb n 0) _ _ (Bad f) h.1) [
         | inl g ↦ rw (h.0, g.0) g.1
         | inr g ↦ rw (h.0, g.0) (length_stays n tail y f g.1)
       ]
@@ -217,9 +218,9 @@ length_more : (n : ℕ) (tail : List ℕ) → n ≤ longest_frame → of_length 
     → length tail ≤ longest_frame
 length_more n [] most e = omega arith
 length_more n (k ∷ bytes) most e =
-    elim (front_if (is_kind k) _ _ More e) [
+    elim (chosen (is_kind k) _ _ More e) [
       | inr h ↦ absurd (more_not_bad fault.Kind (sym h.1))
-      | inl h ↦ elim (front_if (ltb (length bytes + 1) n) _ _ More h.1) [
+      | inl h ↦ elim (chosen (ltb (length bytes + 1) n) _ _ More h.1) [
         | inl g ↦ let less : length bytes + 1 < n = ltb-true _ _ g.0 in omega arith
         | inr g ↦ absurd (fields_not_more (whole (fields_at k (take (n - 1) bytes)))
             (drop (n - 1) bytes) g.1)
@@ -232,9 +233,9 @@ number_more : (o : Option (ℕ × List ℕ)) (size : ℕ) → of_number o ≡ Mo
     → size ≤ 4 + longest_frame
 number_more None size e short long = let less : size < 4 = short refl in omega arith
 number_more (Some (n, tail)) size e short long =
-    elim (front_if (ltb longest_frame n) _ _ More e) [
+    elim (chosen (ltb longest_frame n) _ _ More e) [
       | inl h ↦ absurd (more_not_bad fault.TooLong (sym h.1))
-      | inr h ↦ elim (front_if (eqb n 0) _ _ More h.1) [
+      | inr h ↦ elim (chosen (eqb n 0) _ _ More h.1) [
         | inl g ↦ absurd (more_not_bad fault.Kind (sym g.1))
         | inr g ↦
             let most : n ≤ longest_frame = ltb-false longest_frame n h.0 in

@@ -8,7 +8,7 @@ use Rattle.std.specs.List.{find}
 use Rattle.std.specs.Char.{IsAsciiGraphic}
 use Rattle.std.specs.Result.{result_ok}
 use Rattle.std.proofs.lemmas.Bool.Decides.{Decides-ltb, nat_tests}
-use Rattle.std.proofs.lemmas.Bool.{eqb-true}
+use Rattle.std.proofs.lemmas.Bool.{and_from, and_parts, eqb-true}
 use Rattle.std.proofs.lemmas.List.Sums.{AllPass-from_list_all, list_all-from_AllPass}
 use Rattle.kx_wire.specs.Ranges.{IsPartition, IsTimeout, IsName, IsOffsetCount}
 use Rattle.kx_wire.specs.Codes.{number_of, IsOutcomeOfByte, IsCodeOfNumber}
@@ -50,13 +50,6 @@ of_offset_count n = (λ e. grind (arith, nat_tests), λ p. grind (arith, nat_tes
 of_graphic : (n : ℕ) → Decides (is_graphic n) (IsAsciiGraphic n)
 of_graphic n = (λ e. grind (arith, nat_tests), λ p. grind (arith, nat_tests))
 
-and_parts : (a b : Bool) → (a && b) ≡ true → (a ≡ true) × (b ≡ true)
-and_parts true b e = (refl, e)
-and_parts false b e = absurd cc
-
-and_of : (a b : Bool) → a ≡ true → b ≡ true → (a && b) ≡ true
-and_of a b p q = rw (p, q) refl
-
 name_of : (t : List ℕ) → is_name t ≡ true → IsName t
 name_of t e =
     let parts = and_parts _ _ e in
@@ -71,8 +64,8 @@ name_of t e =
 
 of_name-again : (t : List ℕ) → IsName t → is_name t ≡ true
 of_name-again t h =
-    and_of _ _
-    (and_of _ _ ((Decides-ltb 0 (length t)).1 (omega (arith, h.nonempty)))
+    and_from _ _
+    (and_from _ _ ((Decides-ltb 0 (length t)).1 (omega (arith, h.nonempty)))
     ((Decides-ltb (length t) 65).1 (omega (arith, h.fits))))
     (list_all-from_AllPass is_graphic t (λ k d lt. (of_graphic _).1 (h.graphic k d lt)))
 

@@ -1,12 +1,14 @@
 //! The words of the wire: the small values that a producer, a consumer group and a transaction
-//! coordinator say to each other, each in a type that holds no value out of its range; the twenty
-//! messages that they make up; and the frames in which messages go over a stream of bytes.
+//! coordinator say to each other, each in a type that holds no value out of its range, and reading
+//! them as fields; the twenty messages that they make up; and the frames in which messages go over
+//! a stream of bytes.
 //!
 //! Everything above reads these types, and none of them knows of logs, groups or coordinators.
 #![tactic(auto)]
 
 pub use code::ErrorCode;
 pub use fault::{FrameFault, ValueFault};
+pub use fields::Fields;
 pub use frames::{
     Frames, frames_are_read, less_than_a_frame_is_held, streams_come_as_their_messages,
 };
