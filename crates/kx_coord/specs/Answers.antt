@@ -1,10 +1,10 @@
 -- What the code decides about a request, in the words of the definitions.
-use Rattle.std.specs.Prelude.{◌≡◌, ◌≤◌, ℕ, Bool, true, false, List, [], ◌∷◌, ◌++◌, Option}
+use Rattle.std.specs.Prelude.{◌≡◌, ◌≤◌, ℕ, Bool, true, false, List, Option}
 use Rattle.std.specs.Prelude.{Some, None, MatchOption}
 use Rattle.kx_wire.specs.declared.message.Message.TheVariants as msg
 use Rattle.kx_model.specs.Coordinator as model
-use Rattle.kx_model.specs.Coordinator.{Note, State, Empty, Ongoing, Prepare, Complete, ByAdd}
-use Rattle.kx_model.specs.Coordinator.{Written, next_id, lists}
+use Rattle.kx_model.specs.Coordinator.{Note, State, Empty, Ongoing, Prepare, Complete}
+use Rattle.kx_model.specs.Coordinator.{Written, next_id}
 use Rattle.kx_model.specs.CoordinatorNode.{Reply, has_no_id, id_limit}
 use Rattle.kx_model.specs.Requests as requests
 use Rattle.kx_txnlog.specs.Entry.{note_of, row_of}
@@ -46,23 +46,3 @@ is_settled Empty = true
 is_settled Ongoing = false
 is_settled (Prepare outcome) = false
 is_settled (Complete outcome) = true
-
--- the row with a partition listed last
-abbrev pub added_row : model.Row → ℕ → ℕ → model.Row
-added_row r partition start = record r {
-  state = Ongoing;
-  cause = ByAdd;
-  start = start;
-  partitions = r.partitions ++ partition ∷ [];
-}
-
-abbrev pub IsFreeIn : ℕ → model.Row → State → Type 0
-IsFreeIn partition r Empty = lists partition r ≡ false
-IsFreeIn partition r Ongoing = Unit {0}
-IsFreeIn partition r (Prepare outcome) = Unit {0}
-IsFreeIn partition r (Complete outcome) = lists partition r ≡ false
-
--- a row with nothing under way doesn't list the partition: each that is written lists none
-abbrev pub IsFree : ℕ → Option model.Row → Type 0
-IsFree partition None = Unit {0}
-IsFree partition (Some r) = IsFreeIn partition r r.state

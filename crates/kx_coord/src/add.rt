@@ -1,10 +1,9 @@
 //! A partition asks to be added to a transaction (KIP-890, "AddPartitionsToTxn").
 ghost use Rattle.std.specs.Prelude.{◌≡◌, ◌<◌, IfOk, not, false, Some, ◌&&◌, ◌||◌};
 ghost use Rattle.kx_model.specs.Coordinator.{is, spent_epoch};
-ghost use Rattle.kx_model.specs.Coordinator.{lists as listed};
 ghost use Rattle.kx_model.specs.Requests as model;
 ghost use Rattle.kx_txnlog.specs.Entry.{row_of};
-ghost use Rattle.kx_coord.specs.Answers.{IsAnswer, IsFree};
+ghost use Rattle.kx_coord.specs.Answers.{IsAnswer};
 
 use crate::answer::{Answer, refuses, repeats, writes};
 use crate::rows::{SPENT_EPOCH, added};
@@ -50,11 +49,11 @@ pub(crate) fn is_old(row: &Row, id: ProducerId, epoch: Epoch) -> bool
     row.id.get() != id.get() || epoch.get() < row.epoch.get()
 }
 
-// The partition is listed last.
+// The partition is listed.
 fn lists(row: &Row, partition: PartitionId, start: u64) -> Result<Answer, AllocError>
     requires { row.now.epoch < spent_epoch }
-    ensures { IfOk result (λ answer. listed partition (row_of row.now) ≡ false
-        → IsAnswer answer (model.added (row_of row.now) partition start)) }
+    ensures { IfOk result (λ answer.
+        IsAnswer answer (model.writes (model.with_added (row_of row.now) start partition))) }
 {
     let row = added(row, partition, start)?;
     Ok(writes(Some(row)))
@@ -68,8 +67,7 @@ pub(crate) fn add_row(
     epoch: Epoch,
     partition: PartitionId,
 ) -> Result<Answer, AllocError>
-    ensures { IfOk result (λ answer. IsFree partition (Some (row_of row.now))
-        → IsAnswer answer (model.add_at clock (Some (row_of row.now))
+    ensures { IfOk result (λ answer. IsAnswer answer (model.add_at clock (Some (row_of row.now))
         (record { id = id; epoch = epoch }) partition)) }
 {
     if let Some(code) = refused_first(row, id, epoch) {

@@ -15,3 +15,10 @@ mod rows;
 mod table;
 
 pub use coordinator::Coordinator;
+
+#[cfg(test)]
+mod failure_tests;
+#[cfg(test)]
+mod test_node;
+#[cfg(test)]
+mod tests;

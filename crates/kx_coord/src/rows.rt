@@ -1,11 +1,11 @@
 //! The rows that are written.
 ghost use Rattle.std.specs.Prelude.{◌≡◌, ◌+◌, ◌<◌, [], IfOk, List, true, false};
-ghost use Rattle.kx_model.specs.Coordinator.{Note, lists, spent_epoch};
+ghost use Rattle.kx_model.specs.Coordinator.{Note, spent_epoch};
 ghost use Rattle.kx_model.specs.Requests as model;
 ghost use Rattle.kx_txnlog.specs.Entry.{row_of};
 ghost use Rattle.kx_txnlog.specs.State.{cause_of, state_of};
 ghost use Rattle.kx_txnlog.specs.Ranges.{may_stand};
-ghost use Rattle.kx_coord.specs.Answers.{IsMade, IsNextId, added_row, is_settled};
+ghost use Rattle.kx_coord.specs.Answers.{IsMade, IsNextId, is_settled};
 
 use kx_txnlog::{Cause, Partitions, Row, State};
 use kx_wire::{ClientId, Epoch, Outcome, PartitionId, ProducerId, Timeout, TxnId};
@@ -161,11 +161,11 @@ impl Fresh {
     }
 }
 
-/// The row with a partition listed last, in a transaction that began at this moment.
+/// The row with a partition listed last, unless it lists it, in a transaction that began at this
+/// moment.
 pub(crate) fn added(row: &Row, partition: PartitionId, start: u64) -> Result<Row, AllocError>
     requires { row.now.epoch < spent_epoch }
-    ensures { IfOk result (λ made. lists partition (row_of row.now) ≡ false
-        → row_of made ≡ added_row (row_of row.now) partition start) }
+    ensures { IfOk result (λ made. row_of made ≡ model.with_added (row_of row.now) start partition) }
 {
     let mut partitions = row.partitions.clone()?;
     partitions.insert(partition)?;

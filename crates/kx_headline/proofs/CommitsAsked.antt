@@ -8,10 +8,10 @@ use Rattle.kx_wire.specs.declared.outcome.Outcome.{Outcome}
 use Rattle.kx_wire.specs.declared.outcome.Outcome.TheVariants.{Commit}
 use Rattle.kx_model.specs.Coordinator.{Cause, Note, Row, Written}
 use Rattle.kx_model.specs.Coordinator.{decision, ends, first_row, outcome_in, outcome_of}
-use Rattle.kx_model.specs.Requests.{completed, first_use, prepared}
+use Rattle.kx_model.specs.Requests.{completed, first_use, prepared, with_added}
 use Rattle.kx_headline.proofs.CoordinatorFollows as follows
 use Rattle.kx_headline.proofs.CoordinatorFollows.{Follows, Reason, completed_ends, given_up}
-use Rattle.kx_headline.proofs.CoordinatorFollows.{is_completed, taken_over, with_added}
+use Rattle.kx_headline.proofs.CoordinatorFollows.{is_completed, taken_over}
 use Rattle.kx_headline.proofs.CoordinatorGrows
 use Rattle.kx_headline.proofs.CoordinatorGrows.{Grows, History, first_sound, no_first_row}
 use Rattle.kx_headline.proofs.CoordinatorGrows.{sound_grows}

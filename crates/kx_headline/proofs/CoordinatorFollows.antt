@@ -8,6 +8,8 @@ use Rattle.std.proofs.Common.{arith, nat_lt, cond}
 use Rattle.std.specs.Prelude.{unwrap_or, is_some}
 use Rattle.std.proofs.lemmas.Bool.{cond_both}
 use Rattle.std.proofs.lemmas.Bool.Decides.{nat_tests}
+use Rattle.std.proofs.lemmas.List.Elements.{Contains-append_left, Contains-push}
+use Rattle.std.specs.List.{list_any}
 use Rattle.kx_wire.specs.declared.code.ErrorCode.TheVariants.{NoError}
 use Rattle.kx_wire.specs.declared.message.Message.{Message}
 use Rattle.kx_wire.specs.declared.message.Message.TheVariants as msg
@@ -17,14 +19,15 @@ use Rattle.kx_model.specs.Coordinator.{Row, Note, CoordinatorEpoch, Allot, Writt
 use Rattle.kx_model.specs.Coordinator.{Ongoing, Prepare, Complete, Cause, ByInit, ByAdd, ByEnd}
 use Rattle.kx_model.specs.Coordinator.{ByExpiry, ByMarkers, coordinator_epoch, decision, ends}
 use Rattle.kx_model.specs.Coordinator.{first_row, last_epoch, next_id, outcome_of}
-use Rattle.kx_model.specs.Coordinator.{row_of, spent_epoch}
+use Rattle.kx_model.specs.Coordinator.{row_of, spent_epoch, with_one}
 use Rattle.kx_model.specs.Markers.{greatest_epoch}
-use Rattle.kx_model.specs.Requests.{completed, first_use, own_pair, prepared, raised}
+use Rattle.kx_model.specs.Requests.{completed, first_use, own_pair, prepared, raised, with_added}
 use Rattle.kx_headline.proofs.CoordinatorRows.{IsFound, Ends, one_higher, replaced, Names, own}
 use Rattle.kx_headline.proofs.CoordinatorRows.{previous, next, above_own, ends_own, ends_tells}
 use Rattle.kx_headline.proofs.CoordinatorRows.{first_row_found, not_decided, row_of-found}
 use Rattle.kx_headline.proofs.CoordinatorSound.{NotPast, newer_id, same_id, Shape, Sound, Fits}
 use Rattle.kx_headline.proofs.CoordinatorSound.{sound_other, sound_written}
+use Rattle.kx_headline.proofs.Membership.{any_holds}
 
 ------ what may be written
 
@@ -45,13 +48,19 @@ pub data Reason (sent : List Message) (s : Row) : Outcome → Cause → Type 0 w
   by_init : Reason sent s Abort ByInit
   by_expiry : Reason sent s Abort ByExpiry
 
-abbrev pub with_added : Row → ℕ → ℕ → Row
-with_added s start partition = record s {
-  state = Ongoing;
-  cause = ByAdd;
-  start = start;
-  partitions = s.partitions ++ partition ∷ [];
-}
+pub lists_added : (p : ℕ) (ps : List ℕ) → Contains (with_one p ps) p
+lists_added p ps =
+    cond_both (list_any (λ q. q == p) ps) ps (ps ++ p ∷ []) (λ qs. Contains qs p) (λ l.
+    let (q, c, t) = any_holds (λ q. q == p) ps l in
+    let same : q ≡ p = grind (arith, nat_tests) in
+    subst (Contains ps) same c)
+    (λ l. Contains-push ps p)
+
+pub lists_still : (p : ℕ) (ps : List ℕ) (q : ℕ) → Contains ps q → Contains (with_one p ps) q
+lists_still p ps q c =
+    cond_both (list_any (λ q. q == p) ps) ps (ps ++ p ∷ []) (λ qs. Contains qs q)
+    (λ l. c)
+    (λ l. Contains-append_left ps (p ∷ []) q c)
 
 abbrev pub taken_over : List Note → Row → ℕ → ℕ → Row
 taken_over log s client timeout =

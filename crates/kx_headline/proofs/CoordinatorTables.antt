@@ -7,7 +7,7 @@ use Rattle.std.proofs.Common.{ap}
 use Rattle.std.proofs.Common.{◌∙◌, subst, ⊎_elim, IfSome, arith, filter_map, find}
 use Rattle.std.proofs.Common.{bytes_eq}
 use Rattle.std.specs.List.{cons_option, list_all, list_any}
-use Rattle.std.proofs.lemmas.Bool.{and_from, and_parts, cond_both, or_parts, or_right}
+use Rattle.std.proofs.lemmas.Bool.{and_from, and_parts, cond_both, not-false, or_parts, or_right}
 use Rattle.std.specs.Prelude.{is_some, option_map, ◌≤◌}
 use Rattle.std.proofs.lemmas.Bool.Decides.{nat_tests}
 use Rattle.std.proofs.lemmas.List.Elements.{All-contains, All-push, Contains-push}
@@ -31,17 +31,17 @@ use Rattle.kx_model.specs.Markers.{Answered, Settled, Ignored, Noted, Completes,
 use Rattle.kx_model.specs.Markers.{expire}
 use Rattle.kx_model.specs.Markers.{is_answered, is_overdue, is_overdue_in, noting, same_answered}
 use Rattle.kx_model.specs.Markers.{settle, settle_at, settle_in}
-use Rattle.kx_model.specs.Requests.{Answer, add, add_at, add_in, added, asked_again, completed}
+use Rattle.kx_model.specs.Requests.{Answer, add, add_at, add_in, asked_again, completed}
 use Rattle.kx_model.specs.Requests.{end_at, end_in, end_row, end_txn, fences_owner, first_use}
 use Rattle.kx_model.specs.Requests.{has_outcome, held_after, init, init_at, init_row, is_old}
 use Rattle.kx_model.specs.Requests.{is_own}
 use Rattle.kx_model.specs.Requests.{is_prepared, newcomer, nothing_sent, or_answer, own_pair}
-use Rattle.kx_model.specs.Requests.{prepared, refused_first, refuses, repeats, writes}
+use Rattle.kx_model.specs.Requests.{prepared, refused_first, refuses, repeats, writes, with_added}
 use Rattle.kx_headline.proofs.CoordinatorFollows
 use Rattle.kx_headline.proofs.CoordinatorFollows.{Follows, IsSettled, empty, complete, IsActive}
 use Rattle.kx_headline.proofs.CoordinatorFollows.{ongoing, settled, allots, begins, adds, prepares}
 use Rattle.kx_headline.proofs.CoordinatorFollows.{gives_up, completes, by_end, by_init, by_expiry}
-use Rattle.kx_headline.proofs.CoordinatorFollows.{given_up, is_raised, taken_over, with_added}
+use Rattle.kx_headline.proofs.CoordinatorFollows.{given_up, is_raised, lists_added, taken_over}
 use Rattle.kx_headline.proofs.CoordinatorFollows.{Raised, higher, anew, there, not_prepare}
 use Rattle.kx_headline.proofs.CoordinatorRows.{ends_own, row_of-found, row_of-own_txn}
 use Rattle.kx_headline.proofs.CoordinatorSound.{Sound}
@@ -165,10 +165,6 @@ module _ (r : Row) (held : Held) where
   none_else true code o e = absurd cc
   none_else false code o e = (refl, e)
 
-  not_false : (b : Bool) → not b ≡ false → b ≡ true
-  not_false true h = refl
-  not_false false h = cc
-
   -- what is neither refused first nor old is of the row's own pair
   own_passes : refused_first r held ≡ None → is_old r held ≡ false → held ≡ own_pair r
   own_passes first old =
@@ -183,7 +179,7 @@ module _ (r : Row) (held : Held) where
       let d = or_parts (held.epoch == spent_epoch)
       (is_own r held && nat_lt r.epoch held.epoch) c.0 in
       let e = or_parts (not (is_own r held)) (nat_lt held.epoch r.epoch) old in
-      let own : is_own r held ≡ true = not_false (is_own r held) e.0 in
+      let own : is_own r held ≡ true = not-false (is_own r held) e.0 in
       let low : nat_lt r.epoch held.epoch ≡ false =
       sym (ap (λ x. x && nat_lt r.epoch held.epoch) own) ∙ d.1 in
       let same_id : held.id ≡ r.id = grind (arith, nat_tests, own) in
@@ -219,7 +215,7 @@ module _ (sent : List Message) (log : List Note) (clock : ℕ) (held : Held) (pa
 
   module _ (r : Row) (found : row_of log r.txn ≡ Some r) (own : held ≡ own_pair r)
       (m : Contains sent (msg.AddPartition r.txn held partition)) where
-    adds_it : (start : ℕ) → IsActive r.state → AddDoes (added r partition start)
+    adds_it : (start : ℕ) → IsActive r.state → AddDoes (writes (with_added r start partition))
     adds_it start active = record {
       follows = adds r start partition found active
           (subst (λ h. Contains sent (msg.AddPartition r.txn h partition)) own m);
@@ -229,7 +225,7 @@ module _ (sent : List Message) (log : List Note) (clock : ℕ) (held : Held) (pa
         its_id = sym (ap (λ h. h.id) own);
         its_epoch = sym (ap (λ h. h.epoch) own);
         going = refl;
-        listed = Contains-push r.partitions partition;
+        listed = lists_added partition r.partitions;
       };
     }
 
@@ -252,7 +248,7 @@ module _ (sent : List Message) (log : List Note) (clock : ℕ) (held : Held) (pa
     add_in_does : (st : State) → r.state ≡ st → AddDoes (add_in clock r held partition st)
     add_in_does Empty e = adds_it clock (settled (subst IsSettled (sym e) empty))
     add_in_does Ongoing e =
-        cond_both (lists partition r) (repeats held) (added r partition r.start) AddDoes
+        cond_both (lists partition r) (repeats held) (writes (with_added r r.start partition)) AddDoes
         (λ l. lists_it e l) (λ l. adds_it r.start (subst IsActive (sym e) ongoing))
     add_in_does (Prepare o) e = refused ConcurrentTransactions (λ e. cc)
     add_in_does (Complete o) e = adds_it clock (settled (subst IsSettled (sym e) (complete o)))

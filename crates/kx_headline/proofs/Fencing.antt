@@ -17,14 +17,14 @@ use Rattle.kx_model.specs.Coordinator.{Fenced, decision, ends, first_row, is_fen
 use Rattle.kx_model.specs.Coordinator.{is_past, outcome_in, outcome_of, row_if, row_of}
 use Rattle.kx_model.specs.Headline.{HasOneOutcome}
 use Rattle.kx_model.specs.Log.{Control, Marker}
-use Rattle.kx_model.specs.Requests.{completed, first_use, prepared}
+use Rattle.kx_model.specs.Requests.{completed, first_use, prepared, with_added}
 use Rattle.kx_model.specs.World.{World, entries_at, notes}
 use Rattle.kx_model.proofs.Notes.{decision_stays}
 use Rattle.kx_headline.proofs.CoordinatorFollows.{Follows, Reason, by_end, by_init, by_expiry}
 use Rattle.kx_headline.proofs.CoordinatorFollows.{opens, allots, begins, adds, prepares, takes_over}
 use Rattle.kx_headline.proofs.CoordinatorFollows.{gives_up, completes, decides_completed}
 use Rattle.kx_headline.proofs.CoordinatorFollows.{ending_range, given_up, is_completed, sound_next}
-use Rattle.kx_headline.proofs.CoordinatorFollows.{taken_over, with_added}
+use Rattle.kx_headline.proofs.CoordinatorFollows.{taken_over}
 use Rattle.kx_headline.proofs.CoordinatorGrows.{History, none, more, history_sound}
 use Rattle.kx_headline.proofs.CoordinatorGrows.{no_first_row}
 use Rattle.kx_headline.proofs.CoordinatorRows.{IsFound, Ends, one_higher, replaced, Names, own}

@@ -19,11 +19,11 @@ use Rattle.kx_model.specs.Coordinator.{Row, Note, CoordinatorEpoch, Allot, Writt
 use Rattle.kx_model.specs.Coordinator.{Ongoing, Prepare, Complete, coordinator_epoch}
 use Rattle.kx_model.specs.Coordinator.{has_under_way, is, is_at, last_row, lists, next_id, owed}
 use Rattle.kx_model.specs.Coordinator.{row_if, row_of}
-use Rattle.kx_model.specs.Requests.{completed, first_use, own_pair, prepared}
+use Rattle.kx_model.specs.Requests.{completed, first_use, own_pair, prepared, with_added}
 use Rattle.kx_headline.proofs.CoordinatorFollows.{Follows, opens, allots, begins, adds, prepares}
 use Rattle.kx_headline.proofs.CoordinatorFollows.{takes_over, gives_up, completes, IsSettled}
 use Rattle.kx_headline.proofs.CoordinatorFollows.{IsActive, active_not_prepare, given_up}
-use Rattle.kx_headline.proofs.CoordinatorFollows.{not_ongoing, not_prepare, taken_over, with_added}
+use Rattle.kx_headline.proofs.CoordinatorFollows.{lists_still, not_ongoing, not_prepare, taken_over}
 use Rattle.kx_headline.proofs.CoordinatorGrows.{History, none, more, no_first_row}
 use Rattle.kx_headline.proofs.CoordinatorRows.{IsFound, Names, own, previous, is_tells}
 use Rattle.kx_headline.proofs.CoordinatorRows.{last_row_found, row_of-found, row_of-other}
@@ -146,7 +146,7 @@ module _ (sent : List Message) (log : List Note) (p : ℕ) where
   old_owed note (adds s start q found active m) id epoch o =
       let r = with_added s start q in
       goes_on s r id epoch found refl o
-      (λ i l u. inl (owed_by r id epoch i (Contains-append_left s.partitions (q ∷ []) p l)
+      (λ i l u. inl (owed_by r id epoch i (lists_still q s.partitions p l)
       (added_under_way s start q epoch active u)))
   old_owed note (prepares s x cause found is_going why) id epoch o =
       let r = prepared log s x cause in

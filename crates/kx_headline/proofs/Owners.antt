@@ -11,14 +11,14 @@ use Rattle.kx_wire.specs.declared.outcome.Outcome.TheVariants.{Abort}
 use Rattle.kx_model.specs.Coordinator.{Row, Note, CoordinatorEpoch, Allot, Written, Cause, ByEnd}
 use Rattle.kx_model.specs.Coordinator.{Complete, Prepare, coordinator_epoch, ends}
 use Rattle.kx_model.specs.Coordinator.{next_id, outcome_of, row_of}
-use Rattle.kx_model.specs.Requests.{completed, first_use, prepared}
+use Rattle.kx_model.specs.Requests.{completed, first_use, prepared, with_added}
 use Rattle.kx_headline.proofs.CoordinatorFollows.{Follows, opens, allots, begins, adds, prepares}
 use Rattle.kx_headline.proofs.CoordinatorFollows.{takes_over, gives_up, completes, IsSettled}
 use Rattle.kx_headline.proofs.CoordinatorFollows.{Raised, higher, anew, Completed, stays, gives_way}
 use Rattle.kx_headline.proofs.CoordinatorFollows.{behind, completed_ends, ending_range, given_up}
 use Rattle.kx_headline.proofs.CoordinatorFollows.{is_completed, is_raised, is_taken_over}
 use Rattle.kx_headline.proofs.CoordinatorFollows.{not_prepare, prepared_next, taken_over, there}
-use Rattle.kx_headline.proofs.CoordinatorFollows.{fresh, undecided, with_added}
+use Rattle.kx_headline.proofs.CoordinatorFollows.{fresh, undecided}
 use Rattle.kx_headline.proofs.CoordinatorGrows.{History, none, more, history_sound, no_first_row}
 use Rattle.kx_headline.proofs.CoordinatorRows.{IsFound, Ends, one_higher, replaced, Names, own}
 use Rattle.kx_headline.proofs.CoordinatorRows.{previous, next, above_below, above_own, ends_tells}

@@ -1,4 +1,4 @@
 use Rattle.kx_coord.proofs.add.lists.Goals as goal
 
 pub returns : goal.returns
-returns c = λ absent. c.writes.ensures _ (c.in_ok-row.ensures absent)
+returns c = c.writes.ensures _ c.in_ok-row.ensures
