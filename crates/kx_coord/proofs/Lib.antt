@@ -1,6 +1,6 @@
 pub mod LastRows
 pub mod Following
 pub mod HandedOut
-pub mod Opening
+pub mod Reopening
 pub mod NotedTables
-pub mod Settling
+pub mod Completing

@@ -1,8 +1,10 @@
 //! What no clause says of appends that fail: whether the entry stands when the log is opened again
 //! is the store's, and the coordinator goes on from either.
 use crate::Coordinator;
-use crate::test_node::Step::{Abort, Add, AppendFails, Commit, Expire, Failures, Init, InitAlone};
-use crate::test_node::Step::{LoadFails, Remind, Reply, Restart, Rows};
+use crate::test_node::Step::{
+    Abort, Add, AppendFails, Commit, Expire, Failures, Init, InitAlone, LoadFails, Remind, Reply,
+    Restart, Rows,
+};
 use crate::test_node::{Node, Step, plays_on};
 use kx_log::{FaultStore, MemStore, OpenFault};
 use std::alloc::Global;
@@ -73,7 +75,10 @@ const FENCES_IN_VAIN: [(Step, &str); 6] = [
     (Rows, "a 0 0 1 0 1\n"),
     (Restart(0), ""),
     (Rows, "a 0 0 1 0 1\n"),
-    (Init(2, "a"), "c2 InitReply 51 -1 -1\np0 Marker 0 1 abort 2\np1 Marker 0 1 abort 2\n"),
+    (
+        Init(2, "a"),
+        "c2 InitReply 51 -1 -1\np0 Marker 0 1 abort 2\np1 Marker 0 1 abort 2\n",
+    ),
 ];
 
 const FENCES_UNHEARD: [(Step, &str); 5] = [
@@ -145,14 +150,20 @@ const ENDS_IN_VAIN: [(Step, &str); 8] = [
     (Failures, "1\n"),
     (Restart(0), ""),
     (Rows, "a 0 0 1 0 1\n"),
-    (Abort(0, 0), "c1 EndReply 0 0 1\np0 Marker 0 1 abort 2\np1 Marker 0 1 abort 2\n"),
+    (
+        Abort(0, 0),
+        "c1 EndReply 0 0 1\np0 Marker 0 1 abort 2\np1 Marker 0 1 abort 2\n",
+    ),
 ];
 
 const ENDS_UNHEARD: [(Step, &str); 5] = [
     (AppendFails(WHOLE), ""),
     (Commit(0, 0), "c1 EndReply 56 -1 -1\n"),
     (Rows, "a 0 0 1 0 1\n"),
-    (Restart(0), "p0 Marker 0 1 commit 2\np1 Marker 0 1 commit 2\n"),
+    (
+        Restart(0),
+        "p0 Marker 0 1 commit 2\np1 Marker 0 1 commit 2\n",
+    ),
     (Commit(0, 0), "c1 EndReply 0 0 1\n"),
 ];
 
@@ -189,14 +200,20 @@ const EXPIRES_IN_VAIN: [(Step, &str); 5] = [
     (Expire(60_000), ""),
     (Rows, "a 0 0 1 0 1\n"),
     (Restart(60_000), ""),
-    (Expire(60_000), "p0 Marker 0 1 abort 2\np1 Marker 0 1 abort 2\n"),
+    (
+        Expire(60_000),
+        "p0 Marker 0 1 abort 2\np1 Marker 0 1 abort 2\n",
+    ),
 ];
 
 const EXPIRES_UNSENT: [(Step, &str); 5] = [
     (AppendFails(WHOLE), ""),
     (Expire(60_000), ""),
     (Rows, "a 0 0 1 0 1\n"),
-    (Restart(60_000), "p0 Marker 0 1 abort 2\np1 Marker 0 1 abort 2\n"),
+    (
+        Restart(60_000),
+        "p0 Marker 0 1 abort 2\np1 Marker 0 1 abort 2\n",
+    ),
     (Expire(60_000), ""),
 ];
 
@@ -208,7 +225,10 @@ fn expiry(rt: HostRuntime) -> Result<(), Fail> {
 
 // The reply of the last partition is as good as lost.
 const COMPLETES_IN_VAIN: [(Step, &str); 9] = [
-    (Abort(0, 0), "c1 EndReply 0 0 1\np0 Marker 0 1 abort 1\np1 Marker 0 1 abort 1\n"),
+    (
+        Abort(0, 0),
+        "c1 EndReply 0 0 1\np0 Marker 0 1 abort 1\np1 Marker 0 1 abort 1\n",
+    ),
     (Reply(0, 0, 1), ""),
     (AppendFails(0), ""),
     (Reply(1, 0, 1), ""),
@@ -220,7 +240,10 @@ const COMPLETES_IN_VAIN: [(Step, &str); 9] = [
 ];
 
 const COMPLETES_UNSEEN: [(Step, &str); 7] = [
-    (Abort(0, 0), "c1 EndReply 0 0 1\np0 Marker 0 1 abort 1\np1 Marker 0 1 abort 1\n"),
+    (
+        Abort(0, 0),
+        "c1 EndReply 0 0 1\np0 Marker 0 1 abort 1\np1 Marker 0 1 abort 1\n",
+    ),
     (Reply(0, 0, 1), ""),
     (AppendFails(WHOLE), ""),
     (Reply(1, 0, 1), ""),
@@ -248,7 +271,10 @@ const RESTARTS: [(Step, &str); 11] = [
     (InitAlone(2), "c2 InitReply 56 -1 -1\n"),
     (Failures, "3\n"),
     (Restart(0), ""),
-    (Commit(0, 0), "c1 EndReply 0 0 1\np0 Marker 0 1 commit 3\np1 Marker 0 1 commit 3\n"),
+    (
+        Commit(0, 0),
+        "c1 EndReply 0 0 1\np0 Marker 0 1 commit 3\np1 Marker 0 1 commit 3\n",
+    ),
 ];
 
 #[test]

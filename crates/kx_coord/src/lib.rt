@@ -8,10 +8,14 @@ mod add;
 mod answer;
 mod coordinator;
 mod end;
+mod expiry;
 mod init;
 mod markers;
 mod noted;
+mod opening;
+mod requests;
 mod rows;
+mod settling;
 mod table;
 
 pub use coordinator::Coordinator;

@@ -180,9 +180,7 @@ impl Node {
                 self.coordinator.arm_load(true);
                 Ok(String::new(self.alloc))
             }
-            Step::Failures => {
-                Ok(format!(in self.alloc; "{}\n", self.coordinator.failures())?)
-            }
+            Step::Failures => { Ok(format!(in self.alloc; "{}\n", self.coordinator.failures())?) }
             _ => {
                 let messages = self.asked(step)?;
                 Ok(lines(self.alloc, messages.as_slice())?)

@@ -1,7 +1,8 @@
 //! What no clause says: that calls succeed, and worked cases by what they hand out.
 use crate::Coordinator;
-use crate::test_node::Step::{Abort, Add, Commit, Expire, Init, InitAlone, Refuse, Remind, Reply};
-use crate::test_node::Step::{Restart, Rows};
+use crate::test_node::Step::{
+    Abort, Add, Commit, Expire, Init, InitAlone, Refuse, Remind, Reply, Restart, Rows,
+};
 use crate::test_node::{Step, plays_on};
 use kx_log::{MemStore, OpenFault, Store};
 use std::alloc::Global;
@@ -79,7 +80,10 @@ const FENCES: [(Step, &str); 17] = [
     (Init(0, "a"), "c0 InitReply 90 -1 -1\n"),
     (Add("a", 0, 0, 0), "p0 AddReply 0 0 0\n"),
     (Init(1, "a"), "c1 InitReply 48 -1 -1\n"),
-    (Init(2, "a"), "c2 InitReply 51 -1 -1\np0 Marker 0 1 abort 1\n"),
+    (
+        Init(2, "a"),
+        "c2 InitReply 51 -1 -1\np0 Marker 0 1 abort 1\n",
+    ),
     (Init(2, "a"), "c2 InitReply 51 -1 -1\n"),
     (Init(0, "a"), "c0 InitReply 90 -1 -1\n"),
     (Reply(0, 0, 1), ""),
@@ -145,7 +149,10 @@ fn refuses(rt: HostRuntime) -> Result<(), Fail> {
 const RESTARTS: [(Step, &str); 8] = [
     (Commit(0, 0), COMMITTED),
     (Reply(0, 0, 1), ""),
-    (Restart(0), "p0 Marker 0 1 commit 2\np1 Marker 0 1 commit 2\n"),
+    (
+        Restart(0),
+        "p0 Marker 0 1 commit 2\np1 Marker 0 1 commit 2\n",
+    ),
     (Reply(1, 0, 1), ""),
     (Rows, "a 0 1 2 0 1\n"),
     (Reply(0, 0, 1), ""),
@@ -198,7 +205,10 @@ fn expires_the_first(rt: HostRuntime) -> Result<(), Fail> {
 }
 
 const LAST_COMMIT: [(Step, &str); 13] = [
-    (Commit(0, 32766), "c1 EndReply 0 1 0\np0 Marker 0 32767 commit 2\n"),
+    (
+        Commit(0, 32766),
+        "c1 EndReply 0 1 0\np0 Marker 0 32767 commit 2\n",
+    ),
     (Commit(0, 32766), "c1 EndReply 0 1 0\n"),
     (Abort(0, 32766), "c1 EndReply 48 -1 -1\n"),
     (Commit(1, 0), "c1 EndReply 51 -1 -1\n"),
@@ -220,7 +230,10 @@ fn last_commit_of_an_id(rt: HostRuntime) -> Result<(), Fail> {
 }
 
 const LAST_ABORT: [(Step, &str); 6] = [
-    (Abort(0, 32766), "c1 EndReply 0 1 0\np0 Marker 0 32767 abort 2\n"),
+    (
+        Abort(0, 32766),
+        "c1 EndReply 0 1 0\np0 Marker 0 32767 abort 2\n",
+    ),
     (Abort(0, 32766), "c1 EndReply 0 1 0\n"),
     (Commit(0, 32766), "c1 EndReply 48 -1 -1\n"),
     (Reply(0, 0, 32767), ""),
@@ -234,7 +247,10 @@ fn last_abort_of_an_id(rt: HostRuntime) -> Result<(), Fail> {
 }
 
 const LAST_FENCED: [(Step, &str); 6] = [
-    (Init(2, "a"), "c2 InitReply 51 -1 -1\np0 Marker 0 32767 abort 2\n"),
+    (
+        Init(2, "a"),
+        "c2 InitReply 51 -1 -1\np0 Marker 0 32767 abort 2\n",
+    ),
     (Commit(0, 32766), "c1 EndReply 48 -1 -1\n"),
     (Abort(0, 32766), "c1 EndReply 0 1 0\n"),
     (Reply(0, 0, 32767), ""),

@@ -1,0 +1,129 @@
+//! A coordinator is opened on what a store holds, and restarted on its own store.
+ghost use Rattle.std.specs.Prelude.{◌≡◌, map, MatchResult};
+ghost use Rattle.kx_txnlog.specs.Entry.{note_of};
+ghost use Rattle.kx_coord.specs.Calls.{IsOpen, OpenRefuses, RestartRefuses};
+ghost use Rattle.kx_coord.specs.Deciding.{IsTaken, TakeFaults, open_fault_of};
+
+use crate::coordinator::Coordinator;
+use crate::markers::all_markers;
+use crate::noted::NotedMarkers;
+use crate::table::Table;
+use kx_log::{AppendFault, OpenFault, Store, StoreFault};
+use kx_txnlog::{CoordinatorEpoch, Entry, TxnLog};
+use kx_wire::Message;
+use std::alloc::Global;
+
+// What opening makes of the entries of a log, before its own entry is appended.
+#[derive(Drop)]
+struct Reopened {
+    table: Table,
+    epoch: CoordinatorEpoch,
+    handed: Vec<Message>,
+}
+
+// What is kept of these entries, the epoch of this opening, and the markers that are handed out.
+fn take_up(alloc: Global, entries: &[Entry]) -> Result<Reopened, OpenFault>
+    ensures { MatchResult result (IsTaken (map note_of entries.now))
+        (TakeFaults (map note_of entries.now)) }
+{
+    let table = Table::of_entries(alloc, entries)?;
+    let epoch = match table.next_epoch() {
+        None => return Err(OpenFault::UsedUp),
+        Some(epoch) => epoch,
+    };
+    let handed = all_markers(alloc, epoch.get(), table.rows())?;
+    Ok(Reopened {
+        table,
+        epoch,
+        handed,
+    })
+}
+
+// The fault of an opening whose entry wasn't appended to a log that isn't closed.
+fn open_fault(fault: AppendFault) -> OpenFault
+    ensures { result ≡ open_fault_of fault }
+{
+    match fault {
+        AppendFault::Memory => OpenFault::Memory,
+        AppendFault::Closed | AppendFault::UsedUp | AppendFault::Device => OpenFault::Device,
+    }
+}
+
+impl<S: Store> Coordinator<S> {
+    /// Opens the coordinator of a log that a store holds, at this moment in milliseconds, any u64:
+    /// its log is read, with what is torn at the end cut off, and the next coordinator epoch, 1 for
+    /// an empty log, is appended. Hands out the markers of every row that waits for them, in order
+    /// of first use. Memory is taken from `alloc`, now and later.
+    ///
+    /// # Errors
+    ///
+    /// The store comes back beside the fault: [`OpenFault::Device`] where its device failed,
+    /// [`OpenFault::Damaged`] with the place where something else than the next entry begins,
+    /// [`OpenFault::UsedUp`] where the log's last coordinator epoch is 2^31 - 1, and
+    /// [`OpenFault::Memory`] for want of memory, which may come in place of a fault that stands
+    /// further on.
+    pub fn open(
+        alloc: Global,
+        store: S,
+        now: u64,
+    ) -> Result<(Coordinator<S>, Vec<Message>), (OpenFault, S)>
+        ensures { MatchResult result (λ opened. IsOpen (S.state store) now opened.0 opened.1.items)
+            (λ refused. OpenRefuses (S.state store) (S.state refused.1) refused.0) }
+    {
+        let log = TxnLog::open(alloc, store)?;
+        let opening = match take_up(alloc, log.entries()) {
+            Ok(opening) => opening,
+            Err(fault) => return Err((fault, log.into_store())),
+        };
+        let mut log = log;
+        let mut table = opening.table;
+        match log.append(Entry::CoordinatorEpoch(opening.epoch)) {
+            Ok(()) => {
+                table.epoch = opening.epoch.get();
+                let coordinator = Coordinator {
+                    alloc,
+                    log,
+                    table,
+                    clock: now,
+                    answered: NotedMarkers::new(alloc),
+                };
+                Ok((coordinator, opening.handed))
+            }
+            Err(fault) => Err((open_fault(fault), log.into_store())),
+        }
+    }
+
+    /// Reads the own store again and goes on as [`open`](Coordinator::open) does, at this moment.
+    ///
+    /// # Errors
+    ///
+    /// As [`open`](Coordinator::open). After [`OpenFault::Device`] and [`OpenFault::Damaged`] the
+    /// coordinator is closed, and as before, or, where only the coordinator epoch wasn't appended,
+    /// as its log was read again. After the other faults it is as before.
+    pub fn restart(&mut self, now: u64) -> Result<Vec<Message>, OpenFault>
+        ensures { MatchResult result
+            (λ handed. IsOpen self.old.log.store now self.new handed.items)
+            (RestartRefuses self.old self.new now) }
+    {
+        let content = self.log.reload()?;
+        let opening = take_up(self.alloc, content.entries())?;
+        let epoch = opening.epoch;
+        let entry = Entry::CoordinatorEpoch(epoch);
+        match self.log.install_with(content, entry) {
+            Ok(()) => {
+                self.table = opening.table;
+                self.table.epoch = epoch.get();
+                self.clock = now;
+                self.answered = NotedMarkers::new(self.alloc);
+                Ok(opening.handed)
+            }
+            Err(StoreFault::Memory) => Err(OpenFault::Memory),
+            Err(StoreFault::Device) => {
+                self.table = opening.table;
+                self.clock = now;
+                self.answered = NotedMarkers::new(self.alloc);
+                Err(OpenFault::Device)
+            }
+        }
+    }
+}

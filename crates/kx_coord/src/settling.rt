@@ -1,0 +1,120 @@
+//! The replies to markers: each is noted, and with the last one of a row the row is complete.
+ghost use Rattle.std.specs.Prelude.{◌≡◌, ◌==◌, ◌&&◌, ◌||◌, [], IfOk, MatchResult};
+ghost use Rattle.std.specs.List.{list_all, list_any};
+ghost use Rattle.kx_model.specs.Markers.{answered_at, same_answered, settle};
+ghost use Rattle.kx_txnlog.specs.Entry.{row_of};
+ghost use Rattle.kx_coord.specs.Calls.{CompletesRow, Settles};
+ghost use Rattle.kx_coord.specs.Deciding.{IsSettled};
+ghost use Rattle.kx_coord.specs.Noted.{answered};
+
+use crate::coordinator::Coordinator;
+use kx_log::Store;
+use kx_txnlog::{Entry, Row, State};
+use kx_wire::{Epoch, ErrorCode, Held, Message, PartitionId, ProducerId, TxnId};
+use std::alloc::AllocError;
+
+// What the answer to a marker brings about.
+#[derive(Drop)]
+enum Settled {
+    // Nothing.
+    Ignored,
+    // It is noted.
+    Noted,
+    // The row would be complete, but needs an id, and none is left.
+    UsedUp,
+    // The row is complete.
+    Completes(Row),
+}
+
+// Whether the row has this id and epoch.
+fn has_pair(row: &Row, id: ProducerId, epoch: Epoch) -> bool
+    ensures { result ≡ ((row_of row.now).id == id && (row_of row.now).epoch == epoch) }
+{
+    row.id.get() == id.get() && row.epoch.get() == epoch.get()
+}
+
+impl<S: Store> Coordinator<S> {
+    // Whether the marker of the row to each of its partitions was answered, or is this one.
+    fn is_last(&self, row: &Row, partition: PartitionId) -> bool
+        ensures { result ≡ list_all (λ p. (partition == p) || list_any (same_answered
+            (answered_at (row_of row.now) p)) self.now.answered) (row_of row.now).partitions }
+    {
+        let answered = &self.answered;
+        row.partitions.as_slice().iter().all(|other| {
+            partition.get() == other.get() || answered.contains(row.txn, row.id, row.epoch, *other)
+        })
+    }
+
+    // What the answer to a marker brings about.
+    fn settle(&self, txn: TxnId, id: ProducerId, epoch: Epoch, partition: PartitionId) -> Settled
+        ensures { IsSettled result (settle self.now.log.notes self.now.answered
+            (answered txn id epoch partition)) }
+    {
+        let fresh = self.fresh();
+        let Some(row) = self.row(txn) else {
+            return Settled::Ignored;
+        };
+        let State::Prepare(outcome) = row.state else {
+            return Settled::Ignored;
+        };
+        if !has_pair(row, id, epoch) || !row.partitions.contains(partition) {
+            return Settled::Ignored;
+        }
+        if !self.is_last(row, partition) {
+            return Settled::Noted;
+        }
+        match fresh.completed(row, outcome) {
+            Some(completed) => Settled::Completes(completed),
+            None => Settled::UsedUp,
+        }
+    }
+
+    // Appends the row that is complete, and forgets the answers to its markers.
+    fn complete(&mut self, row: Row) -> Result<(), AllocError>
+        ensures { MatchResult result (λ done. CompletesRow self.old self.new (row_of row))
+            (λ refused. self.new ≡ self.old) }
+    {
+        let txn = row.txn;
+        if !self.append(Entry::Row(row))? {
+            return Ok(());
+        }
+        self.answered.forget(txn);
+        Ok(())
+    }
+
+    /// A partition answers a marker of the transaction that ends with this id and epoch. Where it
+    /// is the last one of its row, the row is complete. Hands out nothing.
+    ///
+    /// # Errors
+    ///
+    /// Only for want of memory; then the coordinator is as before.
+    pub fn marker_reply(
+        &mut self,
+        partition: PartitionId,
+        txn: TxnId,
+        held: Held,
+        code: ErrorCode,
+    ) -> Result<Vec<Message>, AllocError>
+        ensures settles { MatchResult result
+            (λ handed. Settles self.old self.new
+            (record { txn = txn; held = held; partition = partition }) code)
+            (λ refused. self.new ≡ self.old) }
+        ensures handed { IfOk result (λ handed. handed.items ≡ []) }
+    {
+        let handed = Vec::new(self.alloc);
+        if code != ErrorCode::NoError {
+            return Ok(handed);
+        }
+        match self.settle(txn, held.id, held.epoch, partition) {
+            Settled::Ignored | Settled::UsedUp => Ok(handed),
+            Settled::Noted => {
+                self.answered.note(txn, held.id, held.epoch, partition)?;
+                Ok(handed)
+            }
+            Settled::Completes(row) => {
+                self.complete(row)?;
+                Ok(handed)
+            }
+        }
+    }
+}
