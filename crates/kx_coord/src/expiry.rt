@@ -1,5 +1,6 @@
 //! Time: a transaction that has lasted too long is aborted.
-ghost use Rattle.std.specs.Prelude.{◌≡◌, map, find, None, Some, IfOk, IfSome, OnErr, MatchOption};
+ghost use Rattle.std.specs.Prelude.{◌≡◌, map, find, is_some, true, None, Some, IfOk};
+ghost use Rattle.std.specs.Prelude.{IfSome, OnErr, MatchOption};
 ghost use Rattle.kx_model.specs.Coordinator as model;
 ghost use Rattle.kx_model.specs.Coordinator.{Ongoing};
 ghost use Rattle.kx_model.specs.Markers.{expire, is_overdue, markers_of};
@@ -52,7 +53,8 @@ impl<S: Store> Coordinator<S> {
     // The row that aborts the first transaction that has lasted too long, if there is any and an id
     // for it.
     fn expired(&self, now: u64) -> Result<Option<Row>, AllocError>
-        ensures { IfOk result (IsExpired (expire self.now.log.notes now)) }
+        ensures ok { IfOk result (IsExpired (expire self.now.log.notes now)) }
+        ensures refused { OnErr result (is_some (expire self.now.log.notes now) ≡ true) }
     {
         let fresh = self.fresh();
         match overdue(now, self.table.rows()) {
@@ -67,10 +69,12 @@ impl<S: Store> Coordinator<S> {
     ///
     /// # Errors
     ///
-    /// Only for want of memory; then the coordinator is as before.
+    /// Only for want of memory, and where a transaction has lasted too long; then the coordinator
+    /// is as before.
     pub fn expire(&mut self, now: u64) -> Result<Vec<Message>, AllocError>
         ensures ok { IfOk result (λ handed. Expires self.old self.new now handed.items) }
-        ensures err { OnErr result (self.new ≡ self.old) }
+        ensures err { OnErr result ((self.new ≡ self.old)
+            × (is_some (expire self.old.log.notes now) ≡ true)) }
     {
         let clock = self.clock.max(now);
         let Some(row) = self.expired(now)? else {

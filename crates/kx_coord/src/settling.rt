@@ -1,10 +1,11 @@
 //! The replies to markers: each is noted, and with the last one of a row the row is complete.
-ghost use Rattle.std.specs.Prelude.{◌≡◌, ◌==◌, ◌&&◌, ◌||◌, [], IfOk, MatchResult};
+ghost use Rattle.std.specs.Prelude.{◌≡◌, ◌==◌, ◌&&◌, ◌||◌, [], true, IfOk, OnErr, MatchResult};
 ghost use Rattle.std.specs.List.{list_all, list_any};
 ghost use Rattle.kx_model.specs.Markers.{answered_at, same_answered, settle};
 ghost use Rattle.kx_txnlog.specs.Entry.{row_of};
 ghost use Rattle.kx_coord.specs.Calls.{CompletesRow, Settles};
-ghost use Rattle.kx_coord.specs.Deciding.{IsSettled};
+ghost use Rattle.kx_coord.specs.Deciding.{IsSettled, is_of_use};
+ghost use Rattle.kx_wire.specs.declared.code.ErrorCode.TheVariants as error;
 ghost use Rattle.kx_coord.specs.Noted.{answered};
 
 use crate::coordinator::Coordinator;
@@ -87,7 +88,8 @@ impl<S: Store> Coordinator<S> {
     ///
     /// # Errors
     ///
-    /// Only for want of memory; then the coordinator is as before.
+    /// Only for want of memory, and where the reply is noted or completes its row; then the
+    /// coordinator is as before.
     pub fn marker_reply(
         &mut self,
         partition: PartitionId,
@@ -100,6 +102,9 @@ impl<S: Store> Coordinator<S> {
             (record { txn = txn; held = held; partition = partition }) code)
             (λ refused. self.new ≡ self.old) }
         ensures handed { IfOk result (λ handed. handed.items ≡ []) }
+        ensures refused { OnErr result ((code ≡ error.NoError)
+            × (is_of_use (settle self.old.log.notes self.old.answered
+            (record { txn = txn; held = held; partition = partition })) ≡ true)) }
     {
         let handed = Vec::new(self.alloc);
         if code != ErrorCode::NoError {
