@@ -1,5 +1,6 @@
 //! The markers that end a transaction at its partitions (KIP-98, "WriteTxnMarkerRequest").
-ghost use Rattle.std.specs.Prelude.{◌≡◌, ◌++◌, ℕ, pos, flat_map, map, IfOk, OnOk};
+ghost use Rattle.std.specs.Prelude.{◌≡◌, ◌<◌, ◌++◌, ℕ, pos, flat_map, length, map, IfOk, OnOk};
+ghost use Rattle.std.specs.Prelude.{OnErr};
 ghost use Rattle.kx_model.specs.Markers.{markers_of, missing_of};
 ghost use Rattle.kx_txnlog.specs.Entry.{row_of};
 
@@ -46,15 +47,17 @@ pub(crate) fn push_markers(
 ///
 /// # Errors
 ///
-/// Only for want of memory.
+/// Only for want of memory, and where there are any.
 pub(crate) fn push_missing(
     messages: &mut Vec<Message>,
     epoch: i32,
     noted: &NotedMarkers,
     row: &Row,
 ) -> Result<(), AllocError>
-    ensures { (n : ℕ) → epoch ≡ pos n → OnOk result
+    ensures ok { (n : ℕ) → epoch ≡ pos n → OnOk result
         (messages.new.items ≡ messages.old.items ++ missing_of n noted.now (row_of row.now)) }
+    ensures refused { (n : ℕ) → epoch ≡ pos n → OnErr result
+        (0 < length (missing_of n noted.now (row_of row.now))) }
 {
     let State::Prepare(outcome) = row.state else {
         return Ok(());
@@ -103,15 +106,17 @@ pub(crate) fn all_markers(
 ///
 /// # Errors
 ///
-/// Only for want of memory.
+/// Only for want of memory, and where there are any.
 pub(crate) fn all_missing(
     alloc: Global,
     epoch: i32,
     noted: &NotedMarkers,
     rows: &[Row],
 ) -> Result<Vec<Message>, AllocError>
-    ensures { IfOk result (λ messages. (n : ℕ) → epoch ≡ pos n
+    ensures ok { IfOk result (λ messages. (n : ℕ) → epoch ≡ pos n
         → messages.items ≡ flat_map (missing_of n noted.now) (map row_of rows.now)) }
+    ensures refused { (n : ℕ) → epoch ≡ pos n → OnErr result
+        (0 < length (flat_map (missing_of n noted.now) (map row_of rows.now))) }
 {
     let mut messages = Vec::new(alloc);
     for row in rows {
