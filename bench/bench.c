@@ -122,5 +122,6 @@ int main(int argc, char **argv)
     bench_produce();
     bench_growth();
     bench_pages();
+    bench_transactions();
     return 0;
 }
