@@ -29,7 +29,7 @@ pub enum ReplyFault {
     /// Its bytes aren't batches one after the other: the fault of the first that isn't right.
     #[error("the page is damaged: {0}")]
     Bytes(BatchFault),
-    /// Memory ran out. The message has a page.
+    /// Memory ran out. The message has a page, and the page names aborted transactions.
     #[error("out of memory")]
     Memory,
 }
