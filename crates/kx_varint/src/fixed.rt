@@ -13,7 +13,8 @@ use std::alloc::AllocError;
 // A front of so many bytes, and the bytes behind it.
 fn front_of(bytes: &[u8], size: usize) -> Result<(&[u8], &[u8]), VarFault>
     ensures { MatchResult result
-        (λ x. (size ≤ length bytes.now) × (x.0.now ≡ take size bytes.now) × (x.1.now ≡ drop size bytes.now))
+        (λ x. (size ≤ length bytes.now) × (x.0.now ≡ take size bytes.now)
+        × (x.1.now ≡ drop size bytes.now))
         (λ fault. (length bytes.now < size) × (fault ≡ Short)) }
 {
     if bytes.len() < size {
