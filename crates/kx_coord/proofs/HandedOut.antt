@@ -70,5 +70,5 @@ some_of f g xs i x lt at some =
     let within : i < length (map g xs) = subst (λ n. i < n) (sym (length-map xs g)) lt in
     let there : g x ≡ get_or (map g xs) i (g x) = ap g at ∙ sym (get_or-map g xs i x (g x) lt) in
     let one : 0 < length (f (get_or (map g xs) i (g x))) =
-        subst (λ y. 0 < length (f y)) there some in
+    subst (λ y. 0 < length (f y)) there some in
     omega (arith, one, length-flat_map-take f (map g xs) i (g x) within)

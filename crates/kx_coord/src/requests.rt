@@ -33,8 +33,8 @@ fn only(handed: Vec<Message>, message: Message) -> Vec<Message>
 impl<S: Store> Coordinator<S> {
     // The messages of an appended entry: this one and the markers that the entry owes.
     fn handed_with(&self, message: Message, entry: &Entry) -> Result<Vec<Message>, AllocError>
-        ensures { IfOk result (λ handed. handed.items ≡ message
-            ∷ markers_after (coordinator.coordinator_epoch self.now.log.notes) (note_of entry.now)) }
+        ensures { IfOk result (λ handed. handed.items ≡ message ∷ markers_after
+            (coordinator.coordinator_epoch self.now.log.notes) (note_of entry.now)) }
     {
         let mut handed = vec![in self.alloc; message]?;
         if let Entry::Row(row) = entry {

@@ -165,7 +165,8 @@ impl Fresh {
 /// moment.
 pub(crate) fn added(row: &Row, partition: PartitionId, start: u64) -> Result<Row, AllocError>
     requires { row.now.epoch < spent_epoch }
-    ensures { IfOk result (λ made. row_of made ≡ model.with_added (row_of row.now) start partition) }
+    ensures { IfOk result (λ made.
+        row_of made ≡ model.with_added (row_of row.now) start partition) }
 {
     let mut partitions = row.partitions.clone()?;
     partitions.insert(partition)?;

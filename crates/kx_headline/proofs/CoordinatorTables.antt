@@ -248,8 +248,8 @@ module _ (sent : List Message) (log : List Note) (clock : ℕ) (held : Held) (pa
     add_in_does : (st : State) → r.state ≡ st → AddDoes (add_in clock r held partition st)
     add_in_does Empty e = adds_it clock (settled (subst IsSettled (sym e) empty))
     add_in_does Ongoing e =
-        cond_both (lists partition r) (repeats held) (writes (with_added r r.start partition)) AddDoes
-        (λ l. lists_it e l) (λ l. adds_it r.start (subst IsActive (sym e) ongoing))
+        cond_both (lists partition r) (repeats held) (writes (with_added r r.start partition))
+        AddDoes (λ l. lists_it e l) (λ l. adds_it r.start (subst IsActive (sym e) ongoing))
     add_in_does (Prepare o) e = refused ConcurrentTransactions (λ e. cc)
     add_in_does (Complete o) e = adds_it clock (settled (subst IsSettled (sym e) (complete o)))
 
