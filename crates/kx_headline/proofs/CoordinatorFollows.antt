@@ -16,7 +16,7 @@ use Rattle.kx_wire.specs.declared.message.Message.TheVariants as msg
 use Rattle.kx_wire.specs.declared.outcome.Outcome.{Outcome}
 use Rattle.kx_wire.specs.declared.outcome.Outcome.TheVariants.{Abort}
 use Rattle.kx_model.specs.Coordinator.{Row, Note, CoordinatorEpoch, Allot, Written, State, Empty}
-use Rattle.kx_model.specs.Coordinator.{Ongoing, Prepare, Complete, Cause, ByInit, ByAdd, ByEnd}
+use Rattle.kx_model.specs.Coordinator.{Ongoing, Prepare, Complete, Cause, ByInit, ByEnd}
 use Rattle.kx_model.specs.Coordinator.{ByExpiry, ByMarkers, coordinator_epoch, decision, ends}
 use Rattle.kx_model.specs.Coordinator.{first_row, last_epoch, next_id, outcome_of}
 use Rattle.kx_model.specs.Coordinator.{row_of, spent_epoch, with_one}

@@ -1,6 +1,6 @@
 -- A group's committed offsets are those of decided-commit transactions alone, where each marker has
 -- the outcome that was decided.
-use Rattle.std.proofs.Common.{◌≡◌, ℕ, ℤ, negsuc, ◌+◌, ◌++◌, Bool, true, false, ◌&&◌, cond, List, []}
+use Rattle.std.proofs.Common.{◌≡◌, ℕ, ℤ, negsuc, ◌++◌, Bool, true, false, ◌&&◌, cond, List, []}
 use Rattle.std.proofs.Common.{◌∷◌}
 use Rattle.std.proofs.Common.{Some, None, Contains, refl, sym, ap, ◌∙◌, arith, subst}
 use Rattle.std.proofs.Common.{flat_map}

@@ -1,15 +1,15 @@
 -- What is read is spelled so, and what is spelled so is read: the tools.
-use Rattle.std.proofs.Common.{◌≡◌, ℕ, zero, suc, ℤ, pos, negsuc, ◌-◌, ◌+◌, ◌≤◌, ◌<◌, Bool, true}
-use Rattle.std.proofs.Common.{false, cond, ltb, List, [], ◌∷◌, ◌++◌, length, take, drop, get_or}
+use Rattle.std.proofs.Common.{◌≡◌, ℕ, zero, suc, ℤ, ◌+◌, ◌<◌}
+use Rattle.std.proofs.Common.{List, [], ◌∷◌, ◌++◌, length, drop, get_or}
 use Rattle.std.proofs.Common.{Option, Some, None, Result, Ok, Err, refl, sym, ap, ◌∙◌, subst}
 use Rattle.std.proofs.Common.{append_assoc, arith, inl, inr}
 use Rattle.std.proofs.lemmas.Bool.{cases_lt}
-use Rattle.std.proofs.lemmas.List.{take_at, drop_at, take-append-drop, length-append, append-nil}
+use Rattle.std.proofs.lemmas.List.{drop_at, append-nil}
 use Rattle.std.proofs.lemmas.List.{get_or-append-add, get_or_append_left, get_or_past}
 use Rattle.kx_varint.specs.declared.fault.VarFault.{VarFault}
-use Rattle.kx_varint.specs.Varint.{Shape, varint, varlong, Spells, value_at}
+use Rattle.kx_varint.specs.Varint.{Shape, Spells, value_at}
 use Rattle.kx_varint.proofs.Laws.{value_again, value_takes}
-use Rattle.kx_varint.specs.Text.{IsBytes, ◌⊳◌, Exactly, Several, ◌>>=◌, after, varint_at, many}
+use Rattle.kx_varint.specs.Text.{IsBytes, ◌⊳◌, Several, ◌>>=◌, after, varint_at, many}
 
 pub IsBytes-back : (bytes front back : List ℕ) → bytes ≡ front ++ back → IsBytes bytes
     → IsBytes back

@@ -1,8 +1,8 @@
 -- The frame of a message is read as that message, and nothing else is.
-use Rattle.std.proofs.Common.{◌≡◌, ℕ, suc, ◌+◌, ◌-◌, ◌<◌, ◌≤◌, Bool, true, false, cond, ltb, eqb}
+use Rattle.std.proofs.Common.{◌≡◌, ℕ, suc, ◌+◌, ◌-◌, ◌<◌, ◌≤◌, true, false, ltb, eqb}
 use Rattle.std.proofs.Common.{List, [], ◌∷◌, ◌++◌, length, take, drop, Option, Some, None, refl}
 use Rattle.std.proofs.Common.{sym}
-use Rattle.std.proofs.Common.{ap, ◌∙◌, subst, append_assoc, arith, inl, inr, length-append, ◌⊎◌}
+use Rattle.std.proofs.Common.{ap, ◌∙◌, subst, append_assoc, arith, inl, inr, length-append}
 use Rattle.std.specs.List.{flat_map, AllByRecursion}
 use Rattle.std.specs.Int.{w8, w32}
 use Rattle.std.proofs.lemmas.Bool.{ltb-false, le-ltb, ne_eqb}
@@ -18,7 +18,7 @@ use Rattle.kx_wire.specs.Sizes.{longest_frame}
 use Rattle.kx_wire.specs.Message.{IsMessage, IsSendable}
 use Rattle.kx_wire.specs.Reader.{unsigned, whole}
 use Rattle.kx_wire.specs.Reading.{is_kind, fields_at}
-use Rattle.kx_wire.specs.Frames.{Front, Whole, Bad, More, of_fields, of_length, of_number, frame_at}
+use Rattle.kx_wire.specs.Frames.{Whole, Bad, More, of_fields, of_length, of_number, frame_at}
 use Rattle.kx_wire.specs.Frames.{Splits}
 use Rattle.kx_wire.specs.declared.message.Message.{Message}
 use Rattle.kx_wire.specs.declared.fault.FrameFault.{FrameFault}
