@@ -1,0 +1,36 @@
+//! The lines of a file of cases.
+
+/// What a line says.
+#[derive(Clone, Copy)]
+pub enum Line<'a> {
+    /// Nothing: it is empty, or a comment.
+    Nothing,
+    /// A case begins.
+    Case(&'a str),
+    /// Bytes have this name from here on.
+    Bytes { name: &'a str, bytes: &'a str },
+    /// A step, and the answer that it has to give.
+    Step { step: &'a str, answer: &'a str },
+    /// It has none of these forms.
+    Bad,
+}
+
+/// What a line of a file of cases says.
+pub fn read_line(line: &str) -> Line<'_> {
+    if line.is_empty() || line.starts_with('#') {
+        return Line::Nothing;
+    }
+    if let Some(name) = line.strip_prefix("case ") {
+        return Line::Case(name);
+    }
+    let Some((step, answer)) = line.split_once(" = ") else {
+        return Line::Bad;
+    };
+    match step.strip_prefix("bytes ") {
+        Some(name) => Line::Bytes {
+            name,
+            bytes: answer,
+        },
+        None => Line::Step { step, answer },
+    }
+}

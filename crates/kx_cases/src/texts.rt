@@ -1,0 +1,103 @@
+//! Bytes as files of cases write them.
+use crate::fault::StepFault;
+use std::alloc::{AllocError, Global};
+use std::collections::BTreeMap;
+
+/// The bytes that have a name. Bytes are written as parts that are joined by `+`; a part is
+/// hexadecimal digits, or `$NAME` of bytes with a name, or `-` for none, and behind it changes, of
+/// which each begins with a `,`: `,..N` cuts it to N bytes, `,xN` repeats it N times, and `,P:HEX`
+/// puts these bytes at place P.
+#[derive(Drop)]
+pub struct Texts {
+    alloc: Global,
+    named: BTreeMap<String, Vec<u8>>,
+}
+
+impl Texts {
+    /// No bytes have a name.
+    pub fn new(alloc: Global) -> Self {
+        Texts {
+            alloc,
+            named: BTreeMap::new(alloc),
+        }
+    }
+
+    /// The bytes have this name from here on.
+    pub fn name(&mut self, name: &str, bytes: &str) -> Result<(), StepFault> {
+        let bytes = self.bytes(bytes)?;
+        let name = String::from_str(self.alloc, name)?;
+        self.named.insert(name, bytes)?;
+        Ok(())
+    }
+
+    /// The bytes that are written so.
+    pub fn bytes(&self, text: &str) -> Result<Vec<u8>, StepFault> {
+        let mut bytes = Vec::new(self.alloc);
+        for part in text.split('+') {
+            let part = self.part(part)?;
+            bytes.extend_from_slice(part.as_slice())?;
+        }
+        Ok(bytes)
+    }
+
+    // One of the parts that are joined.
+    fn part(&self, text: &str) -> Result<Vec<u8>, StepFault> {
+        let mut words = text.split(',');
+        let mut bytes = self.word(words.next().unwrap_or(""))?;
+        for change in words {
+            bytes = self.changed(bytes, change)?;
+        }
+        Ok(bytes)
+    }
+
+    fn word(&self, word: &str) -> Result<Vec<u8>, StepFault> {
+        if word == "-" {
+            return Ok(Vec::new(self.alloc));
+        }
+        match word.strip_prefix('$') {
+            Some(name) => {
+                let bytes = self.named.get(name).ok_or(StepFault::Unknown)?;
+                Ok(bytes.clone()?)
+            }
+            None => self.digits(word),
+        }
+    }
+
+    fn digits(&self, word: &str) -> Result<Vec<u8>, StepFault> {
+        match hex::decode(self.alloc, word) {
+            Ok(bytes) => Ok(bytes),
+            Err(hex::FromHexError::OutOfMemory) => Err(StepFault::Memory(AllocError)),
+            Err(_) => Err(StepFault::Unknown),
+        }
+    }
+
+    fn changed(&self, bytes: Vec<u8>, change: &str) -> Result<Vec<u8>, StepFault> {
+        let mut bytes = bytes;
+        if let Some(len) = change.strip_prefix("..") {
+            bytes.truncate(number(len)?);
+            return Ok(bytes);
+        }
+        if let Some(count) = change.strip_prefix('x') {
+            return Ok(repeated(self.alloc, bytes.as_slice(), number(count)?)?);
+        }
+        let (place, with) = change.split_once(':').ok_or(StepFault::Unknown)?;
+        let with = self.digits(with)?;
+        let places = bytes.iter_mut().skip(number(place)?);
+        for (byte, new) in places.zip(with.iter()) {
+            *byte = *new;
+        }
+        Ok(bytes)
+    }
+}
+
+fn number(text: &str) -> Result<usize, StepFault> {
+    text.parse::<usize>().map_err(|_| StepFault::Unknown)
+}
+
+fn repeated(alloc: Global, bytes: &[u8], count: usize) -> Result<Vec<u8>, AllocError> {
+    let mut all = Vec::new(alloc);
+    for _ in 0..count {
+        all.extend_from_slice(bytes)?;
+    }
+    Ok(all)
+}
