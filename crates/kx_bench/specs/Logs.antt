@@ -1,7 +1,7 @@
 -- What is said of a log to which the benchmark appends.
 use Rattle.std.specs.Prelude.{◌≡◌, ℕ, ℤ, pos, negsuc, List, length}
 use Rattle.kx_model.specs.Log.{Stored, end, entries}
-use Rattle.kx_headline.specs.Grown.{IsGrown}
+use Rattle.kx_laws.specs.Grown.{IsGrown}
 
 -- -1 where a batch isn't appended; else the end of a log of so many batches, each of which was
 -- the one to come next

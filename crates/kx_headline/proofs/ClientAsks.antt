@@ -17,8 +17,8 @@ use Rattle.kx_headline.proofs.ClientRequests.{Answered, Carries, HasEnded, IsAwa
 use Rattle.kx_headline.proofs.ClientRequests.{IsWithin, Knows, Load, is_batch, is_offsets}
 use Rattle.kx_headline.proofs.ClientRequests.{same_id, sender}
 use Rattle.kx_headline.proofs.ClientRequests.{with_batch, with_offsets}
-use Rattle.kx_headline.proofs.Lists.{All-from_contains}
-use Rattle.kx_headline.proofs.Membership.{any_holds, any_keeps, no_element}
+use Rattle.kx_laws.proofs.Lists.{All-from_contains}
+use Rattle.kx_laws.proofs.Membership.{any_holds, any_keeps, no_element}
 
 ------ more messages
 

@@ -28,8 +28,8 @@ use Rattle.kx_headline.proofs.ClientRequests.{Answered, Carries, HasEnded, HeldF
 use Rattle.kx_headline.proofs.ClientRequests.{IsIts, Knows, Load}
 use Rattle.kx_headline.proofs.ClientRequests.{IsAwaited, is_batch, is_offsets, sender}
 use Rattle.kx_headline.proofs.ClientRequests.{with_batch, with_offsets}
-use Rattle.kx_headline.proofs.Lists.{All-from_contains}
-use Rattle.kx_headline.proofs.Membership.{filter_holds, no_element}
+use Rattle.kx_laws.proofs.Lists.{All-from_contains}
+use Rattle.kx_laws.proofs.Membership.{filter_holds, no_element}
 
 ------ the checks of a command
 

@@ -26,7 +26,7 @@ use Rattle.kx_model.specs.Replies.{Meaning, Done, Waits, Aborts, Fails, holding,
 use Rattle.kx_model.specs.Replies.{is_awaited, learns, meaning, offsets_meaning, take_reply, told}
 use Rattle.kx_model.specs.World.{World}
 use Rattle.kx_headline.proofs.EventDoes.{ClientTurn, commands, hears}
-use Rattle.kx_headline.proofs.Lists.{if_some_more}
+use Rattle.kx_laws.proofs.Lists.{if_some_more}
 use Rattle.kx_headline.proofs.SentKinds.{unless_does}
 
 -- a reply of code 0 gave the client this id and epoch

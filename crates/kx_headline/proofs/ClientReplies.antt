@@ -23,8 +23,8 @@ use Rattle.kx_headline.proofs.ClientAsks.{is_a_batch}
 use Rattle.kx_headline.proofs.ClientRequests.{Answered, Carries, HasEnded, IsAwaited, IsIts, IsUpTo}
 use Rattle.kx_headline.proofs.ClientRequests.{IsWithin, Knows, Load, is_batch, is_offsets, older_id}
 use Rattle.kx_headline.proofs.ClientRequests.{same_id}
-use Rattle.kx_headline.proofs.Lists.{All-from_contains}
-use Rattle.kx_headline.proofs.Membership.{any_holds, any_keeps, filter_holds, filter_keeps}
+use Rattle.kx_laws.proofs.Lists.{All-from_contains}
+use Rattle.kx_laws.proofs.Membership.{any_holds, any_keeps, filter_holds, filter_keeps}
 
 ------ what a code means
 

@@ -22,9 +22,9 @@ use Rattle.kx_headline.proofs.ClientHolds.{Handed, IsEntitled}
 use Rattle.kx_headline.proofs.ClientRequests.{Answered, AreMade, IsIts, IsMade, Knows}
 use Rattle.kx_headline.proofs.ClientRequests.{RequestsStand, sender}
 use Rattle.kx_headline.proofs.CommitsAsked.{commit_asked}
-use Rattle.kx_headline.proofs.DroppedIds.{same_number}
+use Rattle.kx_laws.proofs.DroppedIds.{same_number}
 use Rattle.kx_headline.proofs.Loads.{carries_reads, same_request}
-use Rattle.kx_headline.proofs.Membership.{map_holds}
+use Rattle.kx_laws.proofs.Membership.{map_holds}
 use Rattle.kx_headline.proofs.OneHolder.{one_client}
 use Rattle.kx_headline.proofs.PartitionsAlways.{PartitionsStand, Promised, partitions_stand_always}
 use Rattle.kx_headline.proofs.RequestsAlways.{requests_stand_always}

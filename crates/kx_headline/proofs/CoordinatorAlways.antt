@@ -20,7 +20,7 @@ use Rattle.kx_headline.proofs.CoordinatorSound.{Sound}
 use Rattle.kx_headline.proofs.EventDoes.{CoordinatorTurn, ClientTurn, Turn, nobodys, coordinators}
 use Rattle.kx_headline.proofs.EventDoes.{partitions, clients, making, always, expires_now}
 use Rattle.kx_headline.proofs.EventDoes.{reminds_now}
-use Rattle.kx_headline.proofs.Membership.{find_tells}
+use Rattle.kx_laws.proofs.Membership.{find_tells}
 use Rattle.kx_headline.proofs.SentKinds.{IsClients, IsPartitions, WaitsForOwn, client_sends}
 use Rattle.kx_headline.proofs.SentKinds.{turn_sends}
 use Rattle.kx_headline.proofs.SentKinds

@@ -47,8 +47,8 @@ use Rattle.kx_headline.proofs.CoordinatorTables.{Listed, IsReplied, SettleDoes}
 use Rattle.kx_headline.proofs.CoordinatorTables.{writes_row, add_does, end_does, expire_follows}
 use Rattle.kx_headline.proofs.CoordinatorTables.{init_does, log_after, noting_replied, rows_last}
 use Rattle.kx_headline.proofs.CoordinatorTables.{settle_does}
-use Rattle.kx_headline.proofs.Lists.{All-flat_map, All-from_contains, if_some_more}
-use Rattle.kx_headline.proofs.Membership.{filter_holds}
+use Rattle.kx_laws.proofs.Lists.{All-flat_map, All-from_contains, if_some_more}
+use Rattle.kx_laws.proofs.Membership.{filter_holds}
 
 ------ what a message of the coordinator rests on
 

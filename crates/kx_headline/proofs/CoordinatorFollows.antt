@@ -27,7 +27,7 @@ use Rattle.kx_headline.proofs.CoordinatorRows.{previous, next, above_own, ends_o
 use Rattle.kx_headline.proofs.CoordinatorRows.{first_row_found, not_decided, row_of-found}
 use Rattle.kx_headline.proofs.CoordinatorSound.{NotPast, newer_id, same_id, Shape, Sound, Fits}
 use Rattle.kx_headline.proofs.CoordinatorSound.{sound_other, sound_written}
-use Rattle.kx_headline.proofs.Membership.{any_holds}
+use Rattle.kx_laws.proofs.Membership.{any_holds}
 
 ------ what may be written
 

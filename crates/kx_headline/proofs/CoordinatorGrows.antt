@@ -16,7 +16,7 @@ use Rattle.kx_headline.proofs.CoordinatorFollows.{Follows, opens, allots, begins
 use Rattle.kx_headline.proofs.CoordinatorFollows.{takes_over, gives_up, completes, follows_later}
 use Rattle.kx_headline.proofs.CoordinatorFollows.{sound_next}
 use Rattle.kx_headline.proofs.CoordinatorSound.{Sound}
-use Rattle.kx_headline.proofs.Membership.{cons_cases, no_element}
+use Rattle.kx_laws.proofs.Membership.{cons_cases, no_element}
 
 -- the note may be written next, and its ids are in range
 pub record Next (sent : List Message) (log : List Note) (note : Note) : Type 0 where

@@ -14,7 +14,7 @@ use Rattle.kx_model.specs.Coordinator.{Ongoing, Prepare, Complete, above, above_
 use Rattle.kx_model.specs.Coordinator.{first_row, is, is_complete, last_epoch, last_row, next_id}
 use Rattle.kx_model.specs.Coordinator.{outcome_of, row_if, row_of}
 use Rattle.kx_model.proofs.Notes.{first_row-append, last_row-push}
-use Rattle.kx_headline.proofs.Membership.{cons_cases, contains_head, contains_tail, no_element}
+use Rattle.kx_laws.proofs.Membership.{cons_cases, contains_head, contains_tail, no_element}
 
 ------ the rows that are found
 

@@ -45,9 +45,9 @@ use Rattle.kx_headline.proofs.CoordinatorFollows.{given_up, is_raised, lists_add
 use Rattle.kx_headline.proofs.CoordinatorFollows.{Raised, higher, anew, there, not_prepare}
 use Rattle.kx_headline.proofs.CoordinatorRows.{ends_own, row_of-found, row_of-own_txn}
 use Rattle.kx_headline.proofs.CoordinatorSound.{Sound}
-use Rattle.kx_headline.proofs.Lists.{list_all_tells}
-use Rattle.kx_headline.proofs.Membership.{find_tells}
-use Rattle.kx_headline.proofs.Membership.{any_holds, cons_cases, no_element}
+use Rattle.kx_laws.proofs.Lists.{list_all_tells}
+use Rattle.kx_laws.proofs.Membership.{find_tells}
+use Rattle.kx_laws.proofs.Membership.{any_holds, cons_cases, no_element}
 
 ------ what an answer does
 

@@ -29,8 +29,8 @@ use Rattle.kx_model.specs.World.{IsSchedule, client_at, commanded, data_partitio
 use Rattle.kx_model.specs.World.{does, is_new, node_takes, partition_at, plain_text, puts_at}
 use Rattle.kx_model.specs.World.{restarts_at, run, start, step, to_client, to_node, to_partition}
 use Rattle.kx_model.specs.World.{with_client, with_coordinator, with_partition}
-use Rattle.kx_headline.proofs.Lists.{All-slice_get}
-use Rattle.kx_headline.proofs.Membership.{find_tells}
+use Rattle.kx_laws.proofs.Lists.{All-slice_get}
+use Rattle.kx_laws.proofs.Membership.{find_tells}
 
 ------ turns
 

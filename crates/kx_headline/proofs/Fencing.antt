@@ -32,7 +32,7 @@ use Rattle.kx_headline.proofs.CoordinatorRows.{previous, ends_decided, ends_tell
 use Rattle.kx_headline.proofs.CoordinatorRows.{first_row_found, not_decided, outcome_some}
 use Rattle.kx_headline.proofs.CoordinatorRows.{row_of-found}
 use Rattle.kx_headline.proofs.CoordinatorSound.{NotPast, newer_id, same_id, Sound}
-use Rattle.kx_headline.proofs.Membership.{contains_head}
+use Rattle.kx_laws.proofs.Membership.{contains_head}
 
 ------ where a list is parted
 

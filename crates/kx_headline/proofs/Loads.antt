@@ -3,7 +3,7 @@ use Rattle.std.proofs.Common.{◌≡◌, pos, Some, refl, sym, ap, ◌∙◌, ar
 use Rattle.kx_wire.specs.declared.message.Message.{Message}
 use Rattle.kx_batch.specs.Batch.{batch_of}
 use Rattle.kx_model.specs.Verification.{Request, partition_of, request_of}
-use Rattle.kx_headline.proofs.DroppedIds.{same_number}
+use Rattle.kx_laws.proofs.DroppedIds.{same_number}
 use Rattle.kx_headline.proofs.ClientRequests.{Carries, Load, with_batch, with_offsets}
 use Rattle.kx_headline.proofs.SentBatches.{reads_epoch, reads_id, reads_sequence}
 

@@ -21,18 +21,18 @@ use Rattle.kx_model.specs.Producers.{is_of}
 use Rattle.kx_model.specs.Transactions.{is_open, unclosed}
 use Rattle.kx_model.specs.Verification.{Request, pair_in, pair_of}
 use Rattle.kx_model.proofs.Logs.{entries-push}
-use Rattle.kx_headline.proofs.GrownLogs.{no_batch_is_marker, same_marker, KindOf, control_kind}
-use Rattle.kx_headline.proofs.GrownLogs.{data_kind, plain_kind, batch_is}
-use Rattle.kx_headline.proofs.GrownLogs.{kind_of, marker_is}
-use Rattle.kx_headline.proofs.LogRules.{batch_tells}
-use Rattle.kx_headline.proofs.Membership.{any_holds, in_the_middle, no_element}
-use Rattle.kx_headline.proofs.OpenBatches.{listed_stands}
+use Rattle.kx_laws.proofs.GrownLogs.{no_batch_is_marker, same_marker, KindOf, control_kind}
+use Rattle.kx_laws.proofs.GrownLogs.{data_kind, plain_kind, batch_is}
+use Rattle.kx_laws.proofs.GrownLogs.{kind_of, marker_is}
+use Rattle.kx_laws.proofs.LogRules.{batch_tells}
+use Rattle.kx_laws.proofs.Membership.{any_holds, in_the_middle, no_element}
+use Rattle.kx_laws.proofs.OpenBatches.{listed_stands}
 use Rattle.kx_headline.proofs.PartitionDoes.{HasNoProducer, behind}
 use Rattle.kx_headline.proofs.PartitionHolds.{Built, IsListed, Justified, MarkersFit, WasAsked}
 use Rattle.kx_headline.proofs.PartitionHolds.{asked, ended, listed, next, start, text_next}
 use Rattle.kx_headline.proofs.PartitionHolds.{unlisted, unowned}
-use Rattle.kx_headline.proofs.Splits.{Each, Each-nil, Each-push}
-use Rattle.kx_headline.proofs.StoredTexts.{judged_text}
+use Rattle.kx_laws.proofs.Splits.{Each, Each-nil, Each-push}
+use Rattle.kx_laws.proofs.StoredTexts.{judged_text}
 
 module _ (sent : List Message) (number : ℕ) where
   -- a batch of the log is a text that was to come next, stored behind those before it

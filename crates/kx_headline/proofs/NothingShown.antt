@@ -15,14 +15,14 @@ use Rattle.kx_model.specs.Page.{page}
 use Rattle.kx_model.specs.Reading.{Shown, committed_records, numbered, standing, visible}
 use Rattle.kx_model.specs.Transactions.{last_stable_offset}
 use Rattle.kx_model.specs.World.{World, entries_at, log_at, notes}
-use Rattle.kx_headline.proofs.CommittedRecords.{Between, in_page, standing_between}
-use Rattle.kx_headline.proofs.Membership.{cons_cases, filter_holds}
-use Rattle.kx_headline.proofs.Membership.{flat_map_holds}
-use Rattle.kx_headline.proofs.Membership.{no_element}
+use Rattle.kx_laws.proofs.CommittedRecords.{Between, in_page, standing_between}
+use Rattle.kx_laws.proofs.Membership.{cons_cases, filter_holds}
+use Rattle.kx_laws.proofs.Membership.{flat_map_holds}
+use Rattle.kx_laws.proofs.Membership.{no_element}
 use Rattle.kx_headline.proofs.PartitionsAlways.{PartitionsHold}
 use Rattle.kx_headline.proofs.PartitionHolds.{MarkersFit}
-use Rattle.kx_headline.proofs.Spans.{end_behind}
-use Rattle.kx_headline.proofs.Splits.{Beside, beside, earlier, later, same_place}
+use Rattle.kx_laws.proofs.Spans.{end_behind}
+use Rattle.kx_laws.proofs.Splits.{Beside, beside, earlier, later, same_place}
 use Rattle.kx_headline.proofs.WorldReaders.{gives_visible}
 
 -- an entry at an offset, between those before it and those behind it

@@ -17,8 +17,8 @@ use Rattle.kx_model.specs.Headline.{FollowsDecisions, HasOneOutcome}
 use Rattle.kx_model.specs.Log.{Entry, Plain, Data, Control, Sequenced}
 use Rattle.kx_model.specs.Transactions.{has_commit, is_commit_of}
 use Rattle.kx_model.specs.World.{World, entries_at, notes}
-use Rattle.kx_headline.proofs.ClosedByCommit.{IsCommit, commit_tells}
-use Rattle.kx_headline.proofs.Membership.{any_holds}
+use Rattle.kx_laws.proofs.ClosedByCommit.{IsCommit, commit_tells}
+use Rattle.kx_laws.proofs.Membership.{any_holds}
 
 module _ (w : World) (one : HasOneOutcome w) (p : ℕ) where
   decided : (id epoch : ℕ) (entry : Entry) → Contains (entries_at w p) entry

@@ -35,8 +35,8 @@ use Rattle.kx_headline.proofs.CoordinatorRows.{Names, own, previous, next, above
 use Rattle.kx_headline.proofs.CoordinatorRows.{Ends, one_higher, replaced}
 use Rattle.kx_headline.proofs.EventDoes.{CoordinatorTurn, Turn, nobodys, coordinators, partitions}
 use Rattle.kx_headline.proofs.EventDoes.{clients, making, always}
-use Rattle.kx_headline.proofs.Membership.{find_tells}
-use Rattle.kx_headline.proofs.Membership.{any_holds, no_element}
+use Rattle.kx_laws.proofs.Membership.{find_tells}
+use Rattle.kx_laws.proofs.Membership.{any_holds, no_element}
 use Rattle.kx_headline.proofs.Owners.{Pairs, has_now, promised, allotted_below}
 use Rattle.kx_headline.proofs.Owners.{new_allotment, one_owner, unnamed}
 use Rattle.kx_headline.proofs.SentKinds.{IsClients, IsPartitions, WaitsForOwn, client_sends}

@@ -15,14 +15,14 @@ use Rattle.kx_model.specs.World.{World, entries_at, log_at, notes}
 use Rattle.kx_headline.proofs.CoordinatorAlways.{CoordinatorStands, stands_sound}
 use Rattle.kx_headline.proofs.CoordinatorDoes.{Says}
 use Rattle.kx_headline.proofs.CoordinatorTables.{Listed}
-use Rattle.kx_headline.proofs.AbortedTransactions.{first_is_listed}
+use Rattle.kx_laws.proofs.AbortedTransactions.{first_is_listed}
 use Rattle.kx_headline.proofs.LogCauses.{transactional_is_added}
 use Rattle.kx_headline.proofs.MarkersFit.{markers_fit}
-use Rattle.kx_headline.proofs.Membership.{in_the_middle}
-use Rattle.kx_headline.proofs.OpenBatches.{listed_stands}
-use Rattle.kx_headline.proofs.OpenTop.{open_at_top}
+use Rattle.kx_laws.proofs.Membership.{in_the_middle}
+use Rattle.kx_laws.proofs.OpenBatches.{listed_stands}
+use Rattle.kx_laws.proofs.OpenTop.{open_at_top}
 use Rattle.kx_headline.proofs.PartitionHolds.{Built, built_grown}
-use Rattle.kx_headline.proofs.LogRules.{AtLeast}
+use Rattle.kx_laws.proofs.LogRules.{AtLeast}
 use Rattle.kx_headline.proofs.OwedRows.{IsAnswered, owed_is, owes}
 
 -- an answered marker has brought its id to its epoch

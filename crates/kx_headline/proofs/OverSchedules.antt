@@ -16,11 +16,11 @@ use Rattle.kx_model.specs.World.{World, log_at, log_in, partition_at, run, start
 use Rattle.kx_headline.proofs.PartitionsAlways.{PartitionsStand, Promised, partitions_stand_always}
 use Rattle.kx_headline.proofs.Fencing.{fenced_never, no_commit_marker}
 use Rattle.kx_headline.proofs.NothingShown.{not_shown}
-use Rattle.kx_headline.specs.Grown.{IsGrown}
+use Rattle.kx_laws.specs.Grown.{IsGrown}
 use Rattle.kx_headline.proofs.WorldReaders.{gives_visible, grown_at}
 use Rattle.kx_headline.proofs.LogCauses.{MarkerCause, marker_came}
 use Rattle.kx_headline.proofs.MarkersFit.{markers_fit}
-use Rattle.kx_headline.proofs.Membership.{no_element}
+use Rattle.kx_laws.proofs.Membership.{no_element}
 use Rattle.kx_headline.proofs.PartitionDoes.{behind}
 use Rattle.kx_headline.proofs.OffsetsFollow.{follows_decisions}
 use Rattle.kx_headline.proofs.OneOutcome.{AreAsked, IsAsked, has_one_outcome}

@@ -30,7 +30,7 @@ use Rattle.kx_headline.proofs.CoordinatorRows.{last_row_found, row_of-found, row
 use Rattle.kx_headline.proofs.CoordinatorRows.{row_of-own, row_of-written}
 use Rattle.kx_headline.proofs.CoordinatorSound.{Sound, same_or_not}
 use Rattle.kx_headline.proofs.CoordinatorTables.{Listed}
-use Rattle.kx_headline.proofs.Membership.{any_keeps, contains_tail}
+use Rattle.kx_laws.proofs.Membership.{any_keeps, contains_tail}
 
 -- the transaction is under way, or its marker is on the way
 pub data UnderWay (epoch : ℕ) (s : Row) : Type 0 where

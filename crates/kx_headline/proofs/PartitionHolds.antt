@@ -22,11 +22,11 @@ use Rattle.kx_model.specs.Produce.{Appends, Next, Refused, Verdict, judge_marker
 use Rattle.kx_model.specs.Produce.{text_of}
 use Rattle.kx_model.specs.Verification.{Parked, Request, judge_request, pair_of, partition_of}
 use Rattle.kx_model.specs.Verification.{Target, ToGroup, ToPartition, judge_target, request_of}
-use Rattle.kx_headline.specs.Grown.{IsGrown, Unwritten}
-use Rattle.kx_headline.proofs.GrownLogs.{grown_by_batch, grown_by_marker}
+use Rattle.kx_laws.specs.Grown.{IsGrown, Unwritten}
+use Rattle.kx_laws.proofs.GrownLogs.{grown_by_batch, grown_by_marker}
 use Rattle.kx_headline.proofs.PartitionDoes.{HasNoProducer, IsPaired, behind}
 use Rattle.kx_headline.proofs.PartitionDoes as does
-use Rattle.kx_headline.proofs.StoredTexts.{Accepts}
+use Rattle.kx_laws.proofs.StoredTexts.{Accepts}
 
 -- given the messages, of the partition of this number
 module _ (sent : List Message) (number : ℕ) where

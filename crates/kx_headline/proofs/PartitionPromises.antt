@@ -26,15 +26,15 @@ use Rattle.kx_model.specs.Produce.{judge_marker, marked_by, text_of}
 use Rattle.kx_model.specs.Producers.{epoch_of}
 use Rattle.kx_model.specs.Verification.{Request, Target, ToGroup, ToPartition, judge_request}
 use Rattle.kx_model.specs.Verification.{partition_of, reply_for}
-use Rattle.kx_headline.proofs.Duplicates.{StoredLike, duplicate_stands}
-use Rattle.kx_headline.proofs.GrownLogs.{batch_is, marker_is}
-use Rattle.kx_headline.proofs.LogRules.{AtLeast, marker_epoch, reached_by, reaches}
-use Rattle.kx_headline.proofs.Membership.{in_the_middle, map_keeps}
+use Rattle.kx_laws.proofs.Duplicates.{StoredLike, duplicate_stands}
+use Rattle.kx_laws.proofs.GrownLogs.{batch_is, marker_is}
+use Rattle.kx_laws.proofs.LogRules.{AtLeast, marker_epoch, reached_by, reaches}
+use Rattle.kx_laws.proofs.Membership.{in_the_middle, map_keeps}
 use Rattle.kx_headline.proofs.PartitionDoes.{IsReading, behind}
 use Rattle.kx_headline.proofs.PartitionDoes as does
 use Rattle.kx_headline.proofs.PartitionHolds.{Comes, MarkersFit, PartitionHolds, WasAsked}
 use Rattle.kx_headline.proofs.PartitionHolds.{handed_out, origin_asked, text_next, text_verdict}
-use Rattle.kx_headline.proofs.StoredTexts.{judged_as}
+use Rattle.kx_laws.proofs.StoredTexts.{judged_as}
 
 ------ logs grow
 

@@ -32,8 +32,8 @@ use Rattle.kx_headline.proofs.CoordinatorDoes
 use Rattle.kx_headline.proofs.CoordinatorDoes.{IsCoordinators, Out}
 use Rattle.kx_headline.proofs.EventDoes.{PartitionTurn, Turn, always, clients, coordinators, drops}
 use Rattle.kx_headline.proofs.EventDoes.{making, nobodys, partitions, puts_values, restarts, takes}
-use Rattle.kx_headline.proofs.Membership.{find_tells}
-use Rattle.kx_headline.proofs.LogRules.{AtLeast}
+use Rattle.kx_laws.proofs.Membership.{find_tells}
+use Rattle.kx_laws.proofs.LogRules.{AtLeast}
 use Rattle.kx_headline.proofs.MarkersFit.{markers_fit}
 use Rattle.kx_headline.proofs.PartitionDoes.{IsPaired, State, changed_does, made_without_producer}
 use Rattle.kx_headline.proofs.PartitionDoes.{node_does, puts_does, restarts_does, was}

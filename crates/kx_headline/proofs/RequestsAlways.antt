@@ -39,10 +39,10 @@ use Rattle.kx_headline.proofs.CoordinatorSound.{Shape}
 use Rattle.kx_headline.proofs.EventDoes.{ClientTurn, Turn, always}
 use Rattle.kx_headline.proofs.EventDoes.{clients, commands, coordinators, hears, making, nobodys}
 use Rattle.kx_headline.proofs.EventDoes.{partitions}
-use Rattle.kx_headline.proofs.Lists.{All-from_contains, list_all_tells}
-use Rattle.kx_headline.proofs.Membership.{find_tells}
+use Rattle.kx_laws.proofs.Lists.{All-from_contains, list_all_tells}
+use Rattle.kx_laws.proofs.Membership.{find_tells}
 use Rattle.kx_headline.proofs.Loads.{one_load}
-use Rattle.kx_headline.proofs.Membership.{map_holds, map_keeps, no_element}
+use Rattle.kx_laws.proofs.Membership.{map_holds, map_keeps, no_element}
 use Rattle.kx_headline.proofs.OneHolder.{HoldersStand, holders_first, holders_next}
 use Rattle.kx_headline.proofs.Owners.{allotted_below}
 use Rattle.kx_headline.proofs.SentKinds

@@ -43,7 +43,7 @@ use Rattle.kx_model.specs.Verification.{request_of, without}
 use Rattle.kx_model.specs.World.{World}
 use Rattle.kx_headline.proofs.EventDoes.{PartitionTurn, takes, drops, puts_values, restarts}
 use Rattle.kx_headline.proofs.EventDoes.{ClientTurn, commands, hears}
-use Rattle.kx_headline.proofs.Lists.{All-from_contains}
+use Rattle.kx_laws.proofs.Lists.{All-from_contains}
 
 ------ partitions
 

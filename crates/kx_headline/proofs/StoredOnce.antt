@@ -17,10 +17,10 @@ use Rattle.kx_model.specs.World.{World, log_at, notes}
 use Rattle.kx_headline.proofs.WorldReaders.{grown_at}
 use Rattle.kx_headline.proofs.MarkersFit.{markers_fit}
 use Rattle.kx_headline.proofs.PartitionsAlways.{PartitionsHold, PartitionsStand}
-use Rattle.kx_headline.proofs.Duplicates.{StoredLike}
+use Rattle.kx_laws.proofs.Duplicates.{StoredLike}
 use Rattle.kx_headline.proofs.PartitionHolds.{MarkersFit}
 use Rattle.kx_headline.proofs.PartitionPromises.{IsStored}
-use Rattle.kx_headline.proofs.Sequences.{grown_ordered}
+use Rattle.kx_laws.proofs.Sequences.{grown_ordered}
 use Rattle.kx_headline.proofs.StoredRequests.{place_of, same_tells, stored_as, stored_request}
 
 ------ what clients keep to

@@ -18,9 +18,9 @@ use Rattle.kx_model.specs.Verification.{Request}
 use Rattle.kx_model.specs.World.{World, entries_at, log_at, log_in, partition_at}
 use Rattle.kx_model.proofs.Logs.{end_is}
 use Rattle.kx_headline.proofs.LogCauses.{data_came, each_came}
-use Rattle.kx_headline.proofs.Membership.{SplitAt, cons_cases, contains_head, map_holds, no_element}
-use Rattle.kx_headline.proofs.Membership.{split_at}
-use Rattle.kx_headline.proofs.Pages.{placed_by-append}
+use Rattle.kx_laws.proofs.Membership.{SplitAt, cons_cases, contains_head, map_holds, no_element}
+use Rattle.kx_laws.proofs.Membership.{split_at}
+use Rattle.kx_laws.proofs.Pages.{placed_by-append}
 use Rattle.kx_headline.proofs.PartitionsAlways.{PartitionsHold}
 use Rattle.kx_headline.proofs.PartitionHolds.{Built, MarkersFit, PartitionHolds, WasAsked}
 use Rattle.kx_headline.proofs.PartitionHolds as holds

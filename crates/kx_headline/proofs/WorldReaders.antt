@@ -14,15 +14,15 @@ use Rattle.kx_model.specs.Log.{Data, Control, Marker, Sequenced}
 use Rattle.kx_model.specs.Page.{page}
 use Rattle.kx_model.specs.PartitionNode.{Partition}
 use Rattle.kx_model.specs.World.{World, entries_at, log_at, log_in, notes, partition_at}
-use Rattle.kx_headline.specs.Grown.{IsGrown, Unwritten}
-use Rattle.kx_headline.proofs.CommittedRecords.{gives_standing}
-use Rattle.kx_headline.proofs.GrownLogs.{Admits, each_admitted, each_stands}
-use Rattle.kx_headline.proofs.LogRules.{closes_its_own}
-use Rattle.kx_headline.proofs.Membership.{in_the_middle}
+use Rattle.kx_laws.specs.Grown.{IsGrown, Unwritten}
+use Rattle.kx_laws.proofs.CommittedRecords.{gives_standing}
+use Rattle.kx_laws.proofs.GrownLogs.{Admits, each_admitted, each_stands}
+use Rattle.kx_laws.proofs.LogRules.{closes_its_own}
+use Rattle.kx_laws.proofs.Membership.{in_the_middle}
 use Rattle.kx_headline.proofs.PartitionsAlways.{PartitionsHold}
 use Rattle.kx_headline.proofs.PartitionHolds.{MarkersFit, PartitionHolds, built_grown}
-use Rattle.kx_headline.proofs.DroppedIds.{KnowsClosed}
-use Rattle.kx_headline.proofs.Splits.{Each}
+use Rattle.kx_laws.proofs.DroppedIds.{KnowsClosed}
+use Rattle.kx_laws.proofs.Splits.{Each}
 
 grown_in : (sent : List Message) (q : ℕ) (o : Option Partition)
     → IfSome o (PartitionHolds sent q) → MarkersFit sent → IsGrown (log_in o)

@@ -1,6 +1,6 @@
 //! That a partition is as before when its store is read again.
 ghost use Rattle.std.specs.Prelude.{◌≡◌, ◌++◌, ◌∷◌, [], List, ℕ, Bool};
-ghost use Rattle.kx_headline.specs.Grown.{IsGrown};
+ghost use Rattle.kx_laws.specs.Grown.{IsGrown};
 ghost use Rattle.kx_log.specs.LogState.{IsAppendedTo, LogState};
 ghost use Rattle.kx_log.specs.Log.{IsLog, texts};
 ghost use Rattle.kx_model.specs.Log.{Marker, MarkerFits, Stored, end, entries};

@@ -1,4 +1,4 @@
-use Rattle.kx_headline.proofs.GrownLogs.{grown_by_batch, grown_by_marker}
+use Rattle.kx_laws.proofs.GrownLogs.{grown_by_batch, grown_by_marker}
 use Rattle.kx_partition.proofs.Rebuilding.{none_untaken}
 use Rattle.kx_partition.proofs.law.rebuilt_partitions_are_as_before.Goals as goal
 
