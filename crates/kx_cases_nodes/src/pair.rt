@@ -8,7 +8,7 @@ use std::{fs, io};
 // Whether what has to be written ends in the bad line of this number.
 fn ends_badly(alloc: Global, wanted: &str, number: u64) -> Result<bool, AllocError> {
     let line = format!(in alloc; "bad line {number}\n")?;
-    Ok(wanted.ends_with(line.as_str()))
+    Ok(wanted.strip_suffix(line.as_str()).is_some())
 }
 
 // Whether the script writes what it has to, and ends there: at its end, or at a bad line where that

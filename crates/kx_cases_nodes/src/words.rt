@@ -20,19 +20,27 @@ pub fn unsigned(word: &str) -> Result<u64, StepFault> {
     known(word.parse::<u64>())
 }
 
-/// An offset, any i64.
-pub fn offset(word: &str) -> Result<i64, StepFault> {
-    known(word.parse::<i64>())
+// A number of 63 bits.
+fn natural(word: &str) -> Result<i64, StepFault> {
+    known(i64::try_from(unsigned(word)?))
 }
 
-/// A number of 32 bits.
+/// An offset, which a `-` in front puts below 0.
+pub fn offset(word: &str) -> Result<i64, StepFault> {
+    match word.strip_prefix('-') {
+        Some(digits) => Ok(natural(digits)?.wrapping_neg()),
+        None => natural(word),
+    }
+}
+
+/// The epoch of a coordinator.
 pub fn epoch_of_coordinator(word: &str) -> Result<i32, StepFault> {
-    known(word.parse::<i32>())
+    known(i32::try_from(unsigned(word)?))
 }
 
 /// How many bytes.
 pub fn size(word: &str) -> Result<u32, StepFault> {
-    known(word.parse::<u32>())
+    known(u32::try_from(unsigned(word)?))
 }
 
 /// A client's number.
@@ -47,7 +55,7 @@ pub fn producer(word: &str) -> Result<ProducerId, StepFault> {
 
 /// A producer's id and epoch.
 pub fn held(id: &str, epoch: &str) -> Result<Held, StepFault> {
-    let epoch = known(epoch.parse::<i16>())?;
+    let epoch = known(i16::try_from(unsigned(epoch)?))?;
     Ok(Held {
         id: producer(id)?,
         epoch: known(Epoch::try_from(epoch))?,
@@ -56,13 +64,13 @@ pub fn held(id: &str, epoch: &str) -> Result<Held, StepFault> {
 
 /// A partition's number.
 pub fn partition(word: &str) -> Result<PartitionId, StepFault> {
-    let number = known(word.parse::<u16>())?;
+    let number = known(u16::try_from(unsigned(word)?))?;
     known(PartitionId::try_from(number))
 }
 
 /// An error code, by its number.
 pub fn code(word: &str) -> Result<ErrorCode, StepFault> {
-    let number = known(word.parse::<i16>())?;
+    let number = known(i16::try_from(unsigned(word)?))?;
     known(ErrorCode::try_from(number))
 }
 
