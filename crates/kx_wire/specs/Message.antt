@@ -3,14 +3,14 @@ use Rattle.std.specs.Prelude.{ℕ, ◌^◌, ◌<◌, ◌≤◌, List, length, If
 use Rattle.std.specs.List.{AllByRecursion}
 use Rattle.std.specs.Int.{w32, w64}
 use Rattle.std.specs.Int.RustNames.{FitsSigned}
-use Rattle.kx_wire.specs.Ranges.{IsProducerId, IsEpoch, IsPartition, IsTimeout, IsName}
-use Rattle.kx_wire.specs.Ranges.{IsOffsetCount}
-use Rattle.kx_wire.specs.Sizes.{FitsFrame}
-use Rattle.kx_wire.specs.declared.payload.PartitionOffset.{PartitionOffset}
-use Rattle.kx_wire.specs.declared.payload.AbortedTxn.{AbortedTxn}
-use Rattle.kx_wire.specs.declared.message.Held.{Held}
-use Rattle.kx_wire.specs.declared.message.Message.{Message}
-use Rattle.kx_wire.specs.declared.message.Message.TheVariants as msg
+use Rattle.kx_message.specs.Ranges.{IsProducerId, IsEpoch, IsPartition, IsTimeout, IsName}
+use Rattle.kx_message.specs.Ranges.{IsOffsetCount}
+use Rattle.kx_message.specs.Sizes.{FitsFrame}
+use Rattle.kx_message.specs.declared.payload.PartitionOffset.{PartitionOffset}
+use Rattle.kx_message.specs.declared.payload.AbortedTxn.{AbortedTxn}
+use Rattle.kx_message.specs.declared.message.Held.{Held}
+use Rattle.kx_message.specs.declared.message.Message.{Message}
+use Rattle.kx_message.specs.declared.message.Message.TheVariants as msg
 
 abbrev pub IsU32 : ℕ → Type 0
 IsU32 n = n < 2 ^ 32

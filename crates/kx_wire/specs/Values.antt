@@ -3,13 +3,13 @@ use Rattle.std.specs.Prelude.{ℕ, zero, suc, ℤ, pos, negsuc, List, [], ◌∷
 use Rattle.std.specs.Prelude.{Some, None}
 use Rattle.std.specs.Prelude.{Bool, true, false, nat_lt, ◌==◌, ◌&&◌, ◌||◌}
 use Rattle.std.specs.List.{list_all, find}
-use Rattle.kx_wire.specs.Codes.{number_of}
-use Rattle.kx_wire.specs.Ranges.{data_partitions, offsets_partition, longest_name}
-use Rattle.kx_wire.specs.declared.code.ErrorCode.{ErrorCode}
-use Rattle.kx_wire.specs.declared.code.ErrorCode.TheVariants as code
-use Rattle.kx_wire.specs.declared.outcome.Outcome.{Outcome}
-use Rattle.kx_wire.specs.declared.outcome.Outcome.TheVariants.{Abort, Commit}
-use Rattle.kx_wire.specs.declared.message.Held.{Held}
+use Rattle.kx_message.specs.Codes.{number_of}
+use Rattle.kx_message.specs.Ranges.{data_partitions, offsets_partition, longest_name}
+use Rattle.kx_message.specs.declared.code.ErrorCode.{ErrorCode}
+use Rattle.kx_message.specs.declared.code.ErrorCode.TheVariants as code
+use Rattle.kx_message.specs.declared.outcome.Outcome.{Outcome}
+use Rattle.kx_message.specs.declared.outcome.Outcome.TheVariants.{Abort, Commit}
+use Rattle.kx_message.specs.declared.message.Held.{Held}
 
 -- the value where the test holds
 abbrev pub where_true : {A : Type 0} → Bool → A → Option A
