@@ -1,4 +1,4 @@
-use Rattle.std.proofs.Common.{sym}
+use Rattle.std.proofs.Common.{sym, rules}
 use Rattle.kx_message.proofs.copies.MessageClone.clone.Goals as goal
 
 pub returns-in-InitProducerId : goal.returns-in-InitProducerId
@@ -36,3 +36,19 @@ returns-in-OffsetsReply c = record { cases = sym c.in-OffsetsReply.is }
 
 pub returns-in-OffsetFetch : goal.returns-in-OffsetFetch
 returns-in-OffsetFetch c = record { cases = sym c.in-OffsetFetch.is }
+
+pub returns-in_ok-clone-in-Produce : goal.returns-in_ok-clone-in-Produce
+returns-in_ok-clone-in-Produce c =
+    record { cases = rw c.in_ok-clone-in-Produce.ensures.cases (sym c.in-Produce.is) }
+
+pub returns-in_ok-clone-in-FetchReply-2 : goal.returns-in_ok-clone-in-FetchReply-2
+returns-in_ok-clone-in-FetchReply-2 c = record {
+  cases = rw (
+    c.in_ok-clone-in-FetchReply.ensures.cases,
+    c.in_ok-clone-in-FetchReply-2.ensures.cases,
+  ) (search rules);
+}
+
+pub returns-in_ok-clone-in-TxnOffsetCommit : goal.returns-in_ok-clone-in-TxnOffsetCommit
+returns-in_ok-clone-in-TxnOffsetCommit c =
+    record { cases = rw c.in_ok-clone-in-TxnOffsetCommit.ensures.cases (search rules) }
