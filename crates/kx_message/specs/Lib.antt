@@ -6,3 +6,5 @@ pub mod Receiver
 pub mod Fields
 pub mod Sizes
 pub mod Reader
+pub mod Values
+pub mod Message

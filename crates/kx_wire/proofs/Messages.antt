@@ -6,7 +6,7 @@ use Rattle.std.specs.List.{slice_get}
 use Rattle.std.proofs.lemmas.Option.{none-some}
 use Rattle.kx_message.specs.Reader.{Reader, only}
 use Rattle.kx_message.specs.Fields.{kind_of, fields_of}
-use Rattle.kx_wire.specs.Message.{IsMessage}
+use Rattle.kx_message.specs.Message.{IsMessage}
 use Rattle.kx_message.specs.declared.code.ErrorCode.{ErrorCode}
 use Rattle.kx_message.specs.declared.outcome.Outcome.{Outcome}
 use Rattle.kx_message.specs.declared.payload.PartitionOffset.{PartitionOffset}

@@ -17,7 +17,7 @@ use Rattle.kx_varint.proofs.Agree.{IsBytes-front, IsBytes-back}
 use Rattle.kx_varint.proofs.Laws.{chosen}
 use Rattle.kx_message.specs.Sizes.{longest_frame}
 use Rattle.kx_message.specs.Fields.{frame_text}
-use Rattle.kx_wire.specs.Message.{IsSendable}
+use Rattle.kx_message.specs.Message.{IsSendable}
 use Rattle.kx_message.specs.Reader.{unsigned, whole, found}
 use Rattle.kx_wire.specs.Reading.{is_kind, fields_at}
 use Rattle.kx_wire.specs.Frames.{Front, Whole, Bad, More, of_fields, of_length, of_number, frame_at}

@@ -12,8 +12,8 @@ use Rattle.std.proofs.lemmas.Bool.{and_from, and_parts, eqb-true}
 use Rattle.std.proofs.lemmas.List.Sums.{AllPass-from_list_all, list_all-from_AllPass}
 use Rattle.kx_message.specs.Ranges.{IsPartition, IsTimeout, IsName, IsOffsetCount}
 use Rattle.kx_message.specs.Codes.{number_of, IsOutcomeOfByte, IsCodeOfNumber}
-use Rattle.kx_wire.specs.Values.{where_true, is_partition, is_timeout, is_name, is_graphic}
-use Rattle.kx_wire.specs.Values.{is_offset_count, name_with, code_with, all_codes, outcome_with}
+use Rattle.kx_message.specs.Values.{where_true, is_partition, is_timeout, is_name, is_graphic}
+use Rattle.kx_message.specs.Values.{is_offset_count, name_with, code_with, all_codes, outcome_with}
 use Rattle.kx_message.specs.declared.fault.ValueFault.{ValueFault}
 use Rattle.kx_message.specs.declared.code.ErrorCode.{ErrorCode}
 use Rattle.kx_message.specs.declared.code.ErrorCode.TheVariants as code

@@ -9,7 +9,7 @@ use Rattle.kx_message.specs.Reader.{unsigned, whole}
 use Rattle.kx_wire.specs.Reading.{is_kind, fields_at}
 use Rattle.kx_message.specs.Fields.{frame_text}
 use Rattle.kx_message.specs.Sizes.{longest_frame}
-use Rattle.kx_wire.specs.Message.{IsSendable}
+use Rattle.kx_message.specs.Message.{IsSendable}
 use Rattle.kx_message.specs.declared.message.Message.{Message}
 use Rattle.kx_wire.specs.declared.fault.FrameFault.{FrameFault}
 use Rattle.kx_wire.specs.declared.fault.FrameFault.TheVariants as fault

@@ -6,9 +6,9 @@ pub use Rattle.kx_message.specs.Receiver
 pub use Rattle.kx_message.specs.Fields
 pub use Rattle.kx_message.specs.Sizes
 pub use Rattle.kx_message.specs.Reader
-pub mod Values
+pub use Rattle.kx_message.specs.Values
+pub use Rattle.kx_message.specs.Message
 pub mod Reading
-pub mod Message
 pub mod Gives
 pub mod Frames
 pub mod Held

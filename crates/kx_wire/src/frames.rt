@@ -8,7 +8,7 @@ ghost use Rattle.kx_wire.specs.Pieces.{joined, Comes};
 ghost use Rattle.std.specs.List.{flat_map, AllByRecursion};
 ghost use Rattle.kx_message.specs.Sizes.{longest_frame};
 ghost use Rattle.kx_message.specs.Fields.{frame_text};
-ghost use Rattle.kx_wire.specs.Message.{IsSendable};
+ghost use Rattle.kx_message.specs.Message.{IsSendable};
 ghost use Rattle.kx_varint.specs.Text.{IsBytes};
 ghost use Rattle.kx_message.specs.declared.message.Message.{Message};
 
