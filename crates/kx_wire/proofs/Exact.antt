@@ -16,8 +16,8 @@ use Rattle.kx_varint.specs.BigEndian.{place_value, unsigned_text}
 use Rattle.kx_varint.specs.BigEndian.{signed_text}
 use Rattle.kx_varint.specs.Text.{IsBytes}
 use Rattle.kx_varint.proofs.FixedWidth.{IsWide, IsBytes-take, IsBytes-drop, below}
-use Rattle.kx_wire.specs.Reader.{Reader, ◌>>=◌, goes_on, gives, only, found, unsigned, signed}
-use Rattle.kx_wire.specs.Reader.{taken, repeated}
+use Rattle.kx_message.specs.Reader.{Reader, ◌>>=◌, goes_on, gives, only, found, unsigned, signed}
+use Rattle.kx_message.specs.Reader.{taken, repeated}
 
 -- what a reader took from the front
 pub record Took (text bytes rest : List ℕ) (F : Type 0) : Type 0 where

@@ -5,14 +5,14 @@ use Rattle.std.proofs.Common.{subst, arith, inl, inr, length-drop}
 use Rattle.std.proofs.lemmas.List.{take_at, append-nil, drop-drop}
 use Rattle.kx_varint.specs.Text.{IsBytes}
 use Rattle.kx_varint.proofs.FixedWidth.{IsBytes-drop}
-use Rattle.kx_wire.specs.Sizes.{longest_frame}
-use Rattle.kx_wire.specs.Reader.{unsigned, whole}
+use Rattle.kx_message.specs.Sizes.{longest_frame}
+use Rattle.kx_message.specs.Reader.{unsigned, whole}
 use Rattle.kx_wire.specs.Reading.{is_kind, fields_at}
 use Rattle.std.specs.Int.{w32}
 use Rattle.kx_varint.proofs.Laws.{chosen}
 use Rattle.kx_wire.specs.Frames.{Whole, Bad, More, of_fields, of_length, of_number, frame_at}
 use Rattle.kx_wire.specs.Frames.{Splits, Fed, Reads, Over}
-use Rattle.kx_wire.specs.declared.message.Message.{Message}
+use Rattle.kx_message.specs.declared.message.Message.{Message}
 use Rattle.kx_wire.specs.declared.fault.FrameFault.{FrameFault}
 use Rattle.kx_wire.specs.declared.fault.FrameFault.TheVariants as fault
 use Rattle.kx_wire.proofs.FrameLaws.{splits_more}

@@ -9,28 +9,28 @@ use Rattle.std.specs.Int.RustNames.{FitsSigned}
 use Rattle.std.proofs.lemmas.Bool.Decides.{Decides-ltb}
 use Rattle.kx_varint.specs.BigEndian.{unsigned_text, signed_text}
 use Rattle.kx_varint.proofs.FixedWidth.{wide8, wide16, wide32, wide64}
-use Rattle.kx_wire.specs.Ranges.{IsProducerId, IsPartition, IsTimeout, IsName}
-use Rattle.kx_wire.specs.Ranges.{IsOffsetCount}
-use Rattle.kx_wire.specs.Codes.{number_of, outcome_byte}
-use Rattle.kx_wire.specs.Values.{is_partition, is_timeout, is_name, is_offset_count}
-use Rattle.kx_wire.specs.Values.{partition_with, timeout_with, name_with, code_with, outcome_with}
-use Rattle.kx_wire.specs.Values.{flag_with, held_with, optional_held_with, natural_with}
-use Rattle.kx_wire.specs.Reader.{unsigned, signed}
+use Rattle.kx_message.specs.Ranges.{IsProducerId, IsPartition, IsTimeout, IsName}
+use Rattle.kx_message.specs.Ranges.{IsOffsetCount}
+use Rattle.kx_message.specs.Codes.{number_of, outcome_byte}
+use Rattle.kx_message.specs.Values.{is_partition, is_timeout, is_name, is_offset_count}
+use Rattle.kx_message.specs.Values.{partition_with, timeout_with, name_with, code_with, outcome_with}
+use Rattle.kx_message.specs.Values.{flag_with, held_with, optional_held_with, natural_with}
+use Rattle.kx_message.specs.Reader.{unsigned, signed}
 use Rattle.kx_wire.specs.Reading.{caller_at, partition_at, timeout_at, code_at, outcome_at}
 use Rattle.kx_wire.specs.Reading.{flag_at, named, name_at, optional_named, optional_name_at}
 use Rattle.kx_wire.specs.Reading.{held_at, marker_at, optional_held_at, bytes_at, offset_at}
 use Rattle.kx_wire.specs.Reading.{offset_count_at, offsets_at, id_at, aborted_txn_at, aborted_at}
-use Rattle.kx_wire.specs.Fields.{caller_text, name_text, optional_text, held_text}
-use Rattle.kx_wire.specs.Fields.{optional_held_text, code_text, outcome_field, flag_byte, flag_text}
-use Rattle.kx_wire.specs.Fields.{bytes_text, offset_text, offsets_text, aborted_txn_text}
-use Rattle.kx_wire.specs.Fields.{aborted_text}
-use Rattle.kx_wire.specs.Message.{IsU16, IsU32, IsCaller, IsHeld, IsMarker, IsOffset, IsAborted}
-use Rattle.kx_wire.specs.Message.{AreOffsets, AreAborted, IsPayload}
-use Rattle.kx_wire.specs.declared.code.ErrorCode.{ErrorCode}
-use Rattle.kx_wire.specs.declared.code.ErrorCode.TheVariants as code
-use Rattle.kx_wire.specs.declared.outcome.Outcome.{Outcome}
-use Rattle.kx_wire.specs.declared.outcome.Outcome.TheVariants.{Abort, Commit}
-use Rattle.kx_wire.specs.declared.message.Held.{Held}
+use Rattle.kx_message.specs.Fields.{caller_text, name_text, optional_text, held_text}
+use Rattle.kx_message.specs.Fields.{optional_held_text, code_text, outcome_field, flag_byte, flag_text}
+use Rattle.kx_message.specs.Fields.{bytes_text, offset_text, offsets_text, aborted_txn_text}
+use Rattle.kx_message.specs.Fields.{aborted_text}
+use Rattle.kx_message.specs.Message.{IsU16, IsU32, IsCaller, IsHeld, IsMarker, IsOffset, IsAborted}
+use Rattle.kx_message.specs.Message.{AreOffsets, AreAborted, IsPayload}
+use Rattle.kx_message.specs.declared.code.ErrorCode.{ErrorCode}
+use Rattle.kx_message.specs.declared.code.ErrorCode.TheVariants as code
+use Rattle.kx_message.specs.declared.outcome.Outcome.{Outcome}
+use Rattle.kx_message.specs.declared.outcome.Outcome.TheVariants.{Abort, Commit}
+use Rattle.kx_message.specs.declared.message.Held.{Held}
 use Rattle.kx_wire.proofs.Exact.{Exact, Completes, Narrows, field, done, last, only_done, took_of}
 use Rattle.kx_wire.proofs.Exact.{then_again, last_again, done_again, only_again, Again, narrowed}
 use Rattle.kx_wire.proofs.Exact.{some_is, unsigned_exact}

@@ -13,14 +13,14 @@ use Rattle.kx_varint.specs.BigEndian.{unsigned_text}
 use Rattle.kx_varint.specs.Text.{IsBytes}
 use Rattle.kx_varint.proofs.FixedWidth.{IsBytes-take}
 use Rattle.kx_varint.proofs.Laws.{chosen}
-use Rattle.kx_wire.specs.Fields.{kind_of, fields_of, frame_text}
-use Rattle.kx_wire.specs.Sizes.{longest_frame}
-use Rattle.kx_wire.specs.Message.{IsMessage, IsSendable}
-use Rattle.kx_wire.specs.Reader.{unsigned, whole}
+use Rattle.kx_message.specs.Fields.{kind_of, fields_of, frame_text}
+use Rattle.kx_message.specs.Sizes.{longest_frame}
+use Rattle.kx_message.specs.Message.{IsMessage, IsSendable}
+use Rattle.kx_message.specs.Reader.{unsigned, whole}
 use Rattle.kx_wire.specs.Reading.{is_kind, fields_at}
 use Rattle.kx_wire.specs.Frames.{Whole, Bad, More, of_fields, of_length, of_number, frame_at}
 use Rattle.kx_wire.specs.Frames.{Splits}
-use Rattle.kx_wire.specs.declared.message.Message.{Message}
+use Rattle.kx_message.specs.declared.message.Message.{Message}
 use Rattle.kx_wire.specs.declared.fault.FrameFault.{FrameFault}
 use Rattle.kx_wire.proofs.Exact.{some_is}
 use Rattle.kx_wire.proofs.FieldLaws.{u32_exact}

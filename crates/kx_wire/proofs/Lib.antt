@@ -1,4 +1,4 @@
-pub mod Sizes
+pub use Rattle.kx_message.proofs.Sizes
 pub mod Values
 pub mod Repeated
 pub mod Outcomes

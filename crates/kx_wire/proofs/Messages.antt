@@ -4,16 +4,16 @@ use Rattle.std.proofs.Common.{Option, None, refl, subst, append_assoc, arith}
 use Rattle.std.proofs.Common.{Bool, true}
 use Rattle.std.specs.List.{slice_get}
 use Rattle.std.proofs.lemmas.Option.{none-some}
-use Rattle.kx_wire.specs.Reader.{Reader, only}
-use Rattle.kx_wire.specs.Fields.{kind_of, fields_of}
-use Rattle.kx_wire.specs.Message.{IsMessage}
-use Rattle.kx_wire.specs.declared.code.ErrorCode.{ErrorCode}
-use Rattle.kx_wire.specs.declared.outcome.Outcome.{Outcome}
-use Rattle.kx_wire.specs.declared.payload.PartitionOffset.{PartitionOffset}
-use Rattle.kx_wire.specs.declared.payload.AbortedTxn.{AbortedTxn}
-use Rattle.kx_wire.specs.declared.message.Held.{Held}
-use Rattle.kx_wire.specs.declared.message.Message.{Message}
-use Rattle.kx_wire.specs.declared.message.Message.TheVariants as msg
+use Rattle.kx_message.specs.Reader.{Reader, only}
+use Rattle.kx_message.specs.Fields.{kind_of, fields_of}
+use Rattle.kx_message.specs.Message.{IsMessage}
+use Rattle.kx_message.specs.declared.code.ErrorCode.{ErrorCode}
+use Rattle.kx_message.specs.declared.outcome.Outcome.{Outcome}
+use Rattle.kx_message.specs.declared.payload.PartitionOffset.{PartitionOffset}
+use Rattle.kx_message.specs.declared.payload.AbortedTxn.{AbortedTxn}
+use Rattle.kx_message.specs.declared.message.Held.{Held}
+use Rattle.kx_message.specs.declared.message.Message.{Message}
+use Rattle.kx_message.specs.declared.message.Message.TheVariants as msg
 use Rattle.kx_wire.proofs.Exact.{Completes, Again, field, done, then_again, last_again}
 use Rattle.kx_wire.proofs.Exact.{only_done, done_again, spelled}
 use Rattle.kx_wire.proofs.FieldLaws.{aborted_exact, bytes_exact, caller_exact, code_exact}

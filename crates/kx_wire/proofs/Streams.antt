@@ -11,19 +11,19 @@ use Rattle.std.proofs.lemmas.List.{append-nil, take-append-le}
 use Rattle.std.proofs.lemmas.List.Concat.{flat_map-cons}
 use Rattle.kx_varint.specs.BigEndian.{unsigned_text, place_value}
 use Rattle.kx_varint.specs.declared.fault.VarFault.TheVariants.{Short}
-use Rattle.kx_wire.proofs.Sizes.{of_unsigned}
+use Rattle.kx_message.proofs.Sizes.{of_unsigned}
 use Rattle.kx_varint.specs.Text.{IsBytes}
 use Rattle.kx_varint.proofs.Agree.{IsBytes-front, IsBytes-back}
 use Rattle.kx_varint.proofs.Laws.{chosen}
-use Rattle.kx_wire.specs.Sizes.{longest_frame}
-use Rattle.kx_wire.specs.Fields.{frame_text}
-use Rattle.kx_wire.specs.Message.{IsSendable}
-use Rattle.kx_wire.specs.Reader.{unsigned, whole, found}
+use Rattle.kx_message.specs.Sizes.{longest_frame}
+use Rattle.kx_message.specs.Fields.{frame_text}
+use Rattle.kx_message.specs.Message.{IsSendable}
+use Rattle.kx_message.specs.Reader.{unsigned, whole, found}
 use Rattle.kx_wire.specs.Reading.{is_kind, fields_at}
 use Rattle.kx_wire.specs.Frames.{Front, Whole, Bad, More, of_fields, of_length, of_number, frame_at}
 use Rattle.kx_wire.specs.Frames.{Stream, Reads, Stands, Fed}
 use Rattle.kx_wire.specs.Pieces.{joined, Comes}
-use Rattle.kx_wire.specs.declared.message.Message.{Message}
+use Rattle.kx_message.specs.declared.message.Message.{Message}
 use Rattle.kx_wire.specs.declared.fault.FrameFault.{FrameFault}
 use Rattle.kx_wire.specs.declared.fault.FrameFault.TheVariants as fault
 use Rattle.kx_wire.proofs.FieldLaws.{u32_exact}

@@ -10,15 +10,15 @@ use Rattle.std.specs.Result.{result_ok}
 use Rattle.std.proofs.lemmas.Bool.Decides.{Decides-ltb, nat_tests}
 use Rattle.std.proofs.lemmas.Bool.{and_from, and_parts, eqb-true}
 use Rattle.std.proofs.lemmas.List.Sums.{AllPass-from_list_all, list_all-from_AllPass}
-use Rattle.kx_wire.specs.Ranges.{IsPartition, IsTimeout, IsName, IsOffsetCount}
-use Rattle.kx_wire.specs.Codes.{number_of, IsOutcomeOfByte, IsCodeOfNumber}
-use Rattle.kx_wire.specs.Values.{where_true, is_partition, is_timeout, is_name, is_graphic}
-use Rattle.kx_wire.specs.Values.{is_offset_count, name_with, code_with, all_codes, outcome_with}
-use Rattle.kx_wire.specs.declared.fault.ValueFault.{ValueFault}
-use Rattle.kx_wire.specs.declared.code.ErrorCode.{ErrorCode}
-use Rattle.kx_wire.specs.declared.code.ErrorCode.TheVariants as code
-use Rattle.kx_wire.specs.declared.outcome.Outcome.{Outcome}
-use Rattle.kx_wire.specs.declared.outcome.Outcome.TheVariants.{Abort, Commit}
+use Rattle.kx_message.specs.Ranges.{IsPartition, IsTimeout, IsName, IsOffsetCount}
+use Rattle.kx_message.specs.Codes.{number_of, IsOutcomeOfByte, IsCodeOfNumber}
+use Rattle.kx_message.specs.Values.{where_true, is_partition, is_timeout, is_name, is_graphic}
+use Rattle.kx_message.specs.Values.{is_offset_count, name_with, code_with, all_codes, outcome_with}
+use Rattle.kx_message.specs.declared.fault.ValueFault.{ValueFault}
+use Rattle.kx_message.specs.declared.code.ErrorCode.{ErrorCode}
+use Rattle.kx_message.specs.declared.code.ErrorCode.TheVariants as code
+use Rattle.kx_message.specs.declared.outcome.Outcome.{Outcome}
+use Rattle.kx_message.specs.declared.outcome.Outcome.TheVariants.{Abort, Commit}
 
 -- ---- a test
 

@@ -5,12 +5,12 @@ use Rattle.std.specs.Prelude.{if◌then◌else◌}
 use Rattle.std.specs.List.{flat_map, AllByRecursion}
 use Rattle.std.specs.Int.{w32}
 use Rattle.std.specs.Global.{Vec}
-use Rattle.kx_wire.specs.Reader.{unsigned, whole}
+use Rattle.kx_message.specs.Reader.{unsigned, whole}
 use Rattle.kx_wire.specs.Reading.{is_kind, fields_at}
-use Rattle.kx_wire.specs.Fields.{frame_text}
-use Rattle.kx_wire.specs.Sizes.{longest_frame}
-use Rattle.kx_wire.specs.Message.{IsSendable}
-use Rattle.kx_wire.specs.declared.message.Message.{Message}
+use Rattle.kx_message.specs.Fields.{frame_text}
+use Rattle.kx_message.specs.Sizes.{longest_frame}
+use Rattle.kx_message.specs.Message.{IsSendable}
+use Rattle.kx_message.specs.declared.message.Message.{Message}
 use Rattle.kx_wire.specs.declared.fault.FrameFault.{FrameFault}
 use Rattle.kx_wire.specs.declared.fault.FrameFault.TheVariants as fault
 

@@ -2,7 +2,7 @@
 use Rattle.std.specs.Prelude.{◌≡◌, ℕ, List, [], ◌∷◌, ◌++◌, Result, MatchResult}
 use Rattle.std.specs.List.{flat_map}
 use Rattle.kx_wire.specs.Frames.{Stream, Fed}
-use Rattle.kx_wire.specs.declared.message.Message.{Message}
+use Rattle.kx_message.specs.declared.message.Message.{Message}
 use Rattle.kx_wire.specs.declared.fault.FrameFault.{FrameFault}
 use Rattle.kx_wire.specs.declared.fault.FrameFault.TheVariants as fault
 

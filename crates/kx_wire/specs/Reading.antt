@@ -3,17 +3,17 @@ use Rattle.std.specs.Prelude.{ℕ, zero, suc, List, Option, Some, None, Bool}
 use Rattle.std.specs.Prelude.{nat_lt, ◌&&◌, [], ◌∷◌, ◌≡◌, ◌≢◌, true}
 use Rattle.std.specs.List.{slice_get}
 use Rattle.std.specs.Int.{w8, w16, w32, w64}
-use Rattle.kx_wire.specs.Reader.{Reader, ◌>>=◌, gives, only, unsigned, signed, taken, repeated}
-use Rattle.kx_wire.specs.Values.{natural_with, partition_with, timeout_with, name_with, code_with}
-use Rattle.kx_wire.specs.Values.{outcome_with, flag_with, held_with, optional_held_with}
-use Rattle.kx_wire.specs.Values.{marker_with, offset_count_with}
-use Rattle.kx_wire.specs.declared.code.ErrorCode.{ErrorCode}
-use Rattle.kx_wire.specs.declared.outcome.Outcome.{Outcome}
-use Rattle.kx_wire.specs.declared.payload.PartitionOffset.{PartitionOffset}
-use Rattle.kx_wire.specs.declared.payload.AbortedTxn.{AbortedTxn}
-use Rattle.kx_wire.specs.declared.message.Held.{Held}
-use Rattle.kx_wire.specs.declared.message.Message.{Message}
-use Rattle.kx_wire.specs.declared.message.Message.TheVariants as msg
+use Rattle.kx_message.specs.Reader.{Reader, ◌>>=◌, gives, only, unsigned, signed, taken, repeated}
+use Rattle.kx_message.specs.Values.{natural_with, partition_with, timeout_with, name_with, code_with}
+use Rattle.kx_message.specs.Values.{outcome_with, flag_with, held_with, optional_held_with}
+use Rattle.kx_message.specs.Values.{marker_with, offset_count_with}
+use Rattle.kx_message.specs.declared.code.ErrorCode.{ErrorCode}
+use Rattle.kx_message.specs.declared.outcome.Outcome.{Outcome}
+use Rattle.kx_message.specs.declared.payload.PartitionOffset.{PartitionOffset}
+use Rattle.kx_message.specs.declared.payload.AbortedTxn.{AbortedTxn}
+use Rattle.kx_message.specs.declared.message.Held.{Held}
+use Rattle.kx_message.specs.declared.message.Message.{Message}
+use Rattle.kx_message.specs.declared.message.Message.TheVariants as msg
 
 ------ fields
 

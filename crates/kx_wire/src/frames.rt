@@ -6,16 +6,15 @@ ghost use Rattle.kx_wire.specs.Frames.{Whole, More, Faults, of_length, frame_at,
 ghost use Rattle.kx_wire.specs.Frames.{Reads, Ends, Fed, answer_of};
 ghost use Rattle.kx_wire.specs.Pieces.{joined, Comes};
 ghost use Rattle.std.specs.List.{flat_map, AllByRecursion};
-ghost use Rattle.kx_wire.specs.Sizes.{longest_frame};
-ghost use Rattle.kx_wire.specs.Fields.{frame_text};
-ghost use Rattle.kx_wire.specs.Message.{IsSendable};
+ghost use Rattle.kx_message.specs.Sizes.{longest_frame};
+ghost use Rattle.kx_message.specs.Fields.{frame_text};
+ghost use Rattle.kx_message.specs.Message.{IsSendable};
 ghost use Rattle.kx_varint.specs.Text.{IsBytes};
-ghost use Rattle.kx_wire.specs.declared.message.Message.{Message};
+ghost use Rattle.kx_message.specs.declared.message.Message.{Message};
 
 use crate::fault::FrameFault;
-use crate::message::Message;
 use crate::reading::{is_kind, read_message};
-use crate::writing::LONGEST_FRAME;
+use kx_message::{LONGEST_FRAME, Message};
 use std::alloc::{AllocError, Global};
 use std::marker::Model;
 
@@ -41,7 +40,7 @@ fn of_length(alloc: Global, len: usize, rest: &[u8]) -> Result<Option<Message>, 
 }
 
 // The message at the front, and how many bytes its frame takes; None where more is needed.
-#[tactic(auto, unfolding(crate::specs::Frames::frame_at, crate::specs::Reader::unsigned))]
+#[tactic(auto, unfolding(crate::specs::Frames::frame_at, kx_message::specs::Reader::unsigned))]
 fn front(alloc: Global, bytes: &[u8]) -> Result<Option<(Message, usize)>, FrameFault>
     ensures { MatchResult result
         (λ o. MatchOption o (frame_at bytes.now ≡ More)

@@ -1,7 +1,7 @@
 //! Reading a message, kind by kind, from the fields of its frame.
 ghost use Rattle.std.specs.Prelude.{◌≡◌, true, None, Some, MatchOption, MatchResult, IfOk};
 ghost use Rattle.std.specs.Prelude.{length};
-ghost use Rattle.kx_wire.specs.Reader.{repeated, whole};
+ghost use Rattle.kx_message.specs.Reader.{repeated, whole};
 ghost use Rattle.kx_wire.specs.Reading.{init_producer_id_at, init_reply_at, end_txn_at};
 ghost use Rattle.kx_wire.specs.Reading.{end_reply_at, produce_at, produce_reply_at};
 ghost use Rattle.kx_wire.specs.Reading.{add_partition_at, add_reply_at, write_marker_at};
@@ -15,8 +15,7 @@ ghost use Rattle.kx_wire.specs.Gives.{Refuses};
 
 use crate::fault::FrameFault;
 use crate::fields::Fields;
-use crate::message::Message;
-use crate::payload::{AbortedTxns, Bytes, Offsets, PartitionOffset};
+use kx_message::{AbortedTxns, Bytes, Message, Offsets, PartitionOffset};
 use std::alloc::Global;
 
 #[tactic(auto, unfolding(crate::specs::Reading::init_producer_id_at))]

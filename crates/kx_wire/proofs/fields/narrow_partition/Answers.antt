@@ -1,6 +1,6 @@
 use Rattle.std.proofs.Common.{◌∙◌}
-use Rattle.kx_wire.specs.Ranges.{IsPartition}
-use Rattle.kx_wire.specs.Values.{is_partition}
+use Rattle.kx_message.specs.Ranges.{IsPartition}
+use Rattle.kx_message.specs.Values.{is_partition}
 use Rattle.kx_wire.proofs.Values.{found_where, of_partition}
 use Rattle.kx_wire.proofs.fields.narrow_partition.Goals as goal
 

@@ -1,6 +1,6 @@
 use Rattle.std.proofs.Common.{◌∙◌}
-use Rattle.kx_wire.specs.Ranges.{IsTimeout}
-use Rattle.kx_wire.specs.Values.{is_timeout}
+use Rattle.kx_message.specs.Ranges.{IsTimeout}
+use Rattle.kx_message.specs.Values.{is_timeout}
 use Rattle.kx_wire.proofs.Values.{found_where, of_timeout}
 use Rattle.kx_wire.proofs.fields.narrow_timeout.Goals as goal
 

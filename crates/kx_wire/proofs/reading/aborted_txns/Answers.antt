@@ -1,4 +1,4 @@
-use Rattle.kx_wire.specs.Reader.{repeated}
+use Rattle.kx_message.specs.Reader.{repeated}
 use Rattle.kx_wire.specs.Reading.{aborted_txn_at}
 use Rattle.kx_wire.proofs.Repeated.{turn, stops, ends}
 use Rattle.kx_wire.proofs.reading.aborted_txns.Goals as goal

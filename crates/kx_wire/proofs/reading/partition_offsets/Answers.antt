@@ -1,5 +1,5 @@
 use Rattle.std.proofs.Common.{arith, length-append}
-use Rattle.kx_wire.specs.Reader.{repeated}
+use Rattle.kx_message.specs.Reader.{repeated}
 use Rattle.kx_wire.specs.Reading.{offset_at}
 use Rattle.kx_wire.proofs.Repeated.{turn, stops, ends}
 use Rattle.kx_wire.proofs.reading.partition_offsets.Goals as goal

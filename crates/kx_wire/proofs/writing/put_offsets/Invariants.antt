@@ -2,8 +2,8 @@ use Rattle.std.proofs.Common.{◌≡◌, ◌++◌, length, take}
 use Rattle.std.specs.Int.{w16}
 use Rattle.std.specs.List.{flat_map, AllByRecursion}
 use Rattle.kx_varint.specs.BigEndian.{unsigned_text}
-use Rattle.kx_wire.specs.Fields.{offset_text}
-use Rattle.kx_wire.specs.Message.{IsOffset}
+use Rattle.kx_message.specs.Fields.{offset_text}
+use Rattle.kx_message.specs.Message.{IsOffset}
 use Rattle.kx_wire.proofs.writing.put_offsets.Given as goal
 
 abbrev pub invariant-loop-offset : goal.invariant-loop-offset

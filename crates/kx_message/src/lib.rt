@@ -1,0 +1,33 @@
+//! The words of the wire: the small values that a producer, a consumer group and a transaction
+//! coordinator say to each other, each in a type that holds no value out of its range, and the
+//! twenty messages that they make up.
+//!
+//! Everything above reads these types, and none of them knows of logs, groups or coordinators.
+#![tactic(auto)]
+
+pub use code::ErrorCode;
+pub use fault::ValueFault;
+pub use group_id::GroupId;
+pub use ids::{ClientId, Epoch, ProducerId};
+pub use layout::{LONGEST_FRAME, fields_len, kind};
+pub use message::{Held, Message, Node, Raised};
+pub use outcome::Outcome;
+pub use partition::PartitionId;
+pub use payload::{AbortedTxn, AbortedTxns, Bytes, Offsets, PartitionOffset};
+pub use timeout::Timeout;
+pub use txn_id::TxnId;
+
+pub mod code;
+mod copies;
+mod display;
+mod fault;
+mod group_id;
+mod ids;
+mod layout;
+pub mod message;
+mod name;
+pub mod outcome;
+mod partition;
+pub mod payload;
+mod timeout;
+mod txn_id;
