@@ -29,7 +29,7 @@ use Rattle.kx_model.specs.CoordinatorNode.{expires_row, has_no_id, is_appended, 
 use Rattle.kx_model.specs.CoordinatorNode.{on_marker_reply, on_settled, opened, opens, reminds}
 use Rattle.kx_model.specs.CoordinatorNode.{replies, writes}
 use Rattle.kx_model.specs.Disk.{Store, Works, Fails, Reopening, Reopens, CannotRead}
-use Rattle.kx_model.specs.Disk.{CannotWrite, is_written, left_behind, reread, works}
+use Rattle.kx_model.specs.Disk.{CannotWrite, CannotLoad, is_written, left_behind, reread, works}
 use Rattle.kx_model.specs.Markers.{Answered, Settled, Ignored, Noted, Completes}
 use Rattle.kx_model.specs.Markers.{expire, greatest_epoch, is_answered, marker_message}
 use Rattle.kx_model.specs.Markers.{markers_after, markers_in, markers_of}
@@ -279,6 +279,7 @@ module _ (sent : List Message) (co : Coordinator) (ok : CoordinatorOk sent co) w
   left_next Works note n = tt
   left_next (Fails true) note n = n
   left_next (Fails false) note n = tt
+  left_next CannotLoad note n = tt
 
   -- the coordinator after an append: whether its ids are used up, and whether it was written
   abbrev after_append : ℕ → Store → Note → List Message → List Message → Bool → Bool → Coordinated
@@ -309,6 +310,7 @@ module _ (sent : List Message) (co : Coordinator) (ok : CoordinatorOk sent co) w
       nothing_left true store e = absurd cc
       nothing_left false Works e = tt
       nothing_left false (Fails whole) e = absurd cc
+      nothing_left false CannotLoad e = tt
 
       by : (spent : Bool) → has_no_id note ≡ spent → (written : Bool)
           → is_written co.disk store ≡ written
@@ -510,6 +512,9 @@ module _ (sent : List Message) (co : Coordinator) (ok : CoordinatorOk sent co) w
   takes_does store (msg.MarkerReply partition txn held c) m =
       marker_reply_does store (record { txn = txn; held = held; partition = partition }) c m
   takes_does store other m = still 0 co.clock [] (silent 0 (notes_of co))
+
+  pub passes_does : CoordinatorDoes sent co (co, [])
+  passes_does = still 0 co.clock [] (silent 0 (notes_of co))
 
   pub expires_does : (now : ℕ) (store : Store) → CoordinatorDoes sent co (expires co now store)
   expires_does now store = by (expire (notes_of co) now) (expire_follows sent (notes_of co) now)

@@ -332,10 +332,15 @@ module _ (w : World) (h : RequestsStand w) where
       (λ held there. handed_fits w h.holders.stands c.number held
       (subst (λ o. IfSome o (Handed w.sent c.number)) there mine.held))
       one_load what after messages e
-  turn_moves c after messages k mine number (hears m there to) = record {
+  turn_moves c after messages k mine number (hears m there) = record {
     number = number;
     knows = subst (λ l. Knows l after) (sym (append-nil w.sent))
-        (reply_knows w.sent c k (raised w h.holders.stands c.number) m there to);
+        (reply_knows w.sent c k (raised w h.holders.stands c.number) m there);
+    out = λ x none. absurd (no_element x none);
+  }
+  turn_moves c after messages k mine number ClientTurn.passes = record {
+    number = number;
+    knows = subst (λ l. Knows l c) (sym (append-nil w.sent)) k;
     out = λ x none. absurd (no_element x none);
   }
 
