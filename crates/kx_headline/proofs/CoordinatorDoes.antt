@@ -34,7 +34,7 @@ use Rattle.kx_model.specs.Markers.{Answered, Settled, Ignored, Noted, Completes}
 use Rattle.kx_model.specs.Markers.{expire, greatest_epoch, is_answered, marker_message}
 use Rattle.kx_model.specs.Markers.{markers_after, markers_in, markers_of}
 use Rattle.kx_model.specs.Markers.{reopen, settle, without_row}
-use Rattle.kx_model.specs.Requests.{Answer, add, end_txn, held_after, init, own_pair}
+use Rattle.kx_model.specs.Requests.{Answer, add, end_txn, init, own_pair}
 use Rattle.kx_headline.proofs.CoordinatorFollows
 use Rattle.kx_headline.proofs.CoordinatorFollows.{Follows}
 use Rattle.kx_headline.proofs.CoordinatorGrows.{Next, Grows, none, more, History, grows_later}
@@ -43,7 +43,7 @@ use Rattle.kx_headline.proofs.CoordinatorGrows.{next_later, reread_grows}
 use Rattle.kx_headline.proofs.CoordinatorRows.{row_of-found}
 use Rattle.kx_headline.proofs.CoordinatorSound.{Sound}
 use Rattle.kx_headline.proofs.CoordinatorTables.{Does, InitSays, owned, allotted, EndSays, ended}
-use Rattle.kx_headline.proofs.CoordinatorTables.{Listed, IsReplied, SettleDoes}
+use Rattle.kx_headline.proofs.CoordinatorTables.{Gives, Listed, IsReplied, SettleDoes}
 use Rattle.kx_headline.proofs.CoordinatorTables.{writes_row, add_does, end_does, expire_follows}
 use Rattle.kx_headline.proofs.CoordinatorTables.{init_does, log_after, noting_replied, rows_last}
 use Rattle.kx_headline.proofs.CoordinatorTables.{settle_does}
@@ -78,7 +78,7 @@ pub record GivesNext (sent : List Message) (log : List Note) (client correlation
   pub row : Row
   pub written : Contains log (Written row)
   pub its_end : ends ending.id ending.epoch row ≡ true
-  pub given : held ≡ held_after row
+  pub given : Gives row held
 
 -- what a message says for good of the coordinator's log
 abbrev pub Says : List Message → List Note → Message → Type 0
@@ -413,7 +413,7 @@ module _ (sent : List Message) (co : Coordinator) (ok : CoordinatorOk sent co) w
       by : (entry : Option Note) (held : Option Held) → EndSays (notes_of co) ending entry held
           → Out 0 sent (notes_of co) (log_after (notes_of co) entry)
           (msg.EndReply client correlation code.NoError held)
-      by _ x (ended entry r there its_end) = record {
+      by _ x (ended entry r given there its_end gives) = record {
         says = record {
           txn = txn;
           ending = ending;
@@ -422,7 +422,7 @@ module _ (sent : List Message) (co : Coordinator) (ok : CoordinatorOk sent co) w
           row = r;
           written = there;
           its_end = its_end;
-          given = refl;
+          given = gives;
         };
         kind = end_reply;
         is_new = tt;
