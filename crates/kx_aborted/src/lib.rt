@@ -12,6 +12,3 @@ pub use aborted::Aborted;
 pub use entry::{entries_are_read_again, put_entry, read_entry};
 pub use fault::EntryFault;
 pub use index::{AbortedIndex, look_ups_are_those_of_the_log};
-
-#[cfg(test)]
-mod tests;

@@ -12,6 +12,7 @@ pub use lines::{Line, read_line};
 pub use runs::Runs;
 pub use subject::Subject;
 pub use tally::{Tally, try_cases};
+pub use telling::{told, told_bytes, told_option, told_same, value};
 pub use texts::Texts;
 
 mod fault;
@@ -19,4 +20,5 @@ mod lines;
 mod runs;
 mod subject;
 mod tally;
+mod telling;
 mod texts;

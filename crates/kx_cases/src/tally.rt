@@ -15,6 +15,24 @@ pub struct Tally {
     pub failed: u64,
 }
 
+impl Tally {
+    /// No case was tried.
+    pub fn none() -> Self {
+        Tally {
+            tried: 0,
+            failed: 0,
+        }
+    }
+
+    /// The cases of both.
+    pub fn and(self, other: Tally) -> Self {
+        Tally {
+            tried: self.tried.saturating_add(other.tried),
+            failed: self.failed.saturating_add(other.failed),
+        }
+    }
+}
+
 // The case that is being tried: its name, and whether each answer came so far.
 #[derive(Clone, Copy)]
 struct Running<'a> {
@@ -37,10 +55,7 @@ impl<'a> Trial<'a> {
             alloc,
             texts: Texts::new(alloc),
             case: None,
-            tally: Tally {
-                tried: 0,
-                failed: 0,
-            },
+            tally: Tally::none(),
         }
     }
 

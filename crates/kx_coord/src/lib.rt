@@ -19,10 +19,3 @@ mod settling;
 mod table;
 
 pub use coordinator::Coordinator;
-
-#[cfg(test)]
-mod failure_tests;
-#[cfg(test)]
-mod test_node;
-#[cfg(test)]
-mod tests;

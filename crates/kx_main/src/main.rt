@@ -1,29 +1,15 @@
 //! The program. `kx_main sim` runs a script of commands over partitions held in memory; `kx_main
-//! dump FILE` prints the record batches that a file holds. The house has a reading room (words,
-//! commands), an engine room (the world of partitions), a press (answers, dump) and a bridge (the
-//! script), and this is its door: arguments, streams, files and status.
+//! dump FILE` prints the record batches that a file holds. What is read and printed is kx_text's;
+//! this is the door: arguments, streams, files and status.
 #![tactic(auto)]
 
-mod answers;
-mod command;
-mod dump;
-mod fault;
-mod script;
-mod words;
-mod world;
-
-use crate::dump::{DumpFault, dump_batches};
-use crate::fault::ScriptFault;
-use crate::script::run_script;
 use clap::{Arg, ArgAction, Command};
+use kx_text::{DumpFault, ScriptFault, dump_batches, run_script};
 use std::alloc::{AllocError, Global};
 use std::io::{BufReader, BufWriter, Write};
 use std::process::ExitCode;
 use std::rt::Files;
 use std::{fmt, fs, io};
-
-#[cfg(test)]
-mod tests;
 
 // Runs the script on standard input, and flushes what it wrote, also before a fault.
 fn run_sim(rt: &(impl Input + Print + AllocGlobal)) -> Result<(), ScriptFault> {

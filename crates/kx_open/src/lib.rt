@@ -9,6 +9,3 @@ mod open;
 pub use fault::BeginFault;
 pub use law::the_list_follows_the_log;
 pub use open::{OPEN_LIMIT, OpenTxn, OpenTxns};
-
-#[cfg(test)]
-mod tests;

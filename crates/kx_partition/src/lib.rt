@@ -22,10 +22,3 @@ pub use kx_log::Batches;
 pub use law::rebuilt_partitions_are_as_before;
 pub use page::FetchPage;
 pub use partition::Partition;
-
-#[cfg(test)]
-mod fetch_tests;
-#[cfg(test)]
-mod page_tests;
-#[cfg(test)]
-mod tests;

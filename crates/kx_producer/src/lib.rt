@@ -12,6 +12,3 @@ pub use law::the_table_follows_the_log;
 pub use noted::{Noted, RememberedBatch};
 pub use producers::Producers;
 pub use verdict::Verdict;
-
-#[cfg(test)]
-mod tests;

@@ -14,6 +14,3 @@ pub use fixed::{
     read_u64, u32_at,
 };
 pub use groups::{put_varint, put_varlong, read_varint, read_varlong, varints_are_read_again};
-
-#[cfg(test)]
-mod tests;

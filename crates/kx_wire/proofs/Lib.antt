@@ -1,6 +1,7 @@
 pub mod Sizes
 pub mod Values
 pub mod Repeated
+pub mod Outcomes
 pub mod Exact
 pub mod FieldLaws
 pub mod Messages

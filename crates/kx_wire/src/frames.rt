@@ -136,7 +136,7 @@ fn take_piece(held: &mut Vec<u8>, piece: &[u8]) -> Result<Scanned, AllocError>
     Ok(found)
 }
 
-#[derive(Clone, Copy, Debug, PartialEq, Eq)]
+#[derive(Clone, Copy)]
 enum State {
     Reading,
     Faulty(FrameFault),
@@ -144,7 +144,7 @@ enum State {
 }
 
 /// A reader of a stream of frames, which holds back what has come of the next frame.
-#[derive(Debug, Drop)]
+#[derive(Drop)]
 pub struct Frames {
     held: Vec<u8>,
     state: State,

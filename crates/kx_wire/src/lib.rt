@@ -31,17 +31,11 @@ mod frames;
 mod group_id;
 mod ids;
 mod message;
-#[cfg(test)]
-mod message_tests;
 mod name;
 mod outcome;
 mod partition;
 mod payload;
 mod reading;
-#[cfg(test)]
-mod stream_tests;
-#[cfg(test)]
-mod tests;
 mod timeout;
 mod txn_id;
 mod writing;

@@ -76,7 +76,7 @@ pub enum Node {
 
 /// A message, with the fields that its frame spells, in the frame's order. A client's request has
 /// its number and a correlation number, any u32, which the reply repeats.
-#[derive(Debug, Drop)]
+#[derive(Drop)]
 pub enum Message {
     /// Asks the coordinator for a producer id and an epoch.
     InitProducerId {

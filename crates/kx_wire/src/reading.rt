@@ -471,7 +471,6 @@ fn small_message(kind: u8, fields: &mut Fields) -> Option<Message>
     }
 }
 
-#[tactic(auto, unfolding(crate::specs::Reading::fields_at))]
 fn message_of(alloc: Global, kind: u8, fields: &mut Fields) -> Result<Message, FrameFault>
     requires { is_kind kind ≡ true }
     ensures { MatchResult result

@@ -1,0 +1,178 @@
+//! Messages and the frames in which they go. `feed BYTES` gives a piece to the case's stream and
+//! tells the frames of the messages that come of it, or the fault; `singly BYTES` gives each byte
+//! by itself. `message FRAME` tells the one message of a frame, `fields FRAME` its fields,
+//! `receiver FRAME` where it goes. `random SEED COUNT BYTES` feeds random pieces of the bytes.
+use kx_cases::{Runs, StepFault, Subject, Texts, told, told_bytes, value};
+use kx_wire::{FrameFault, Frames, Message, put_frame};
+use std::alloc::Global;
+
+/// The stream of a case.
+#[derive(Drop)]
+pub struct FrameCases {
+    alloc: Global,
+    frames: Frames,
+}
+
+// The frame of a message, where it fits.
+fn frame(alloc: Global, message: &Message) -> Result<Vec<u8>, StepFault> {
+    let mut out = Vec::new(alloc);
+    if message.fits() {
+        put_frame(&mut out, message)?;
+    }
+    Ok(out)
+}
+
+// The frames of the messages, `-` where none came.
+fn told_frames(alloc: Global, messages: &[Message]) -> Result<String, StepFault> {
+    let mut frames = Vec::new(alloc);
+    for message in messages {
+        let frame = frame(alloc, message)?;
+        frames.extend_from_slice(frame.as_slice())?;
+    }
+    Ok(told_bytes(alloc, frames.as_slice())?)
+}
+
+// The message of these bytes, which are one frame.
+fn message_of(alloc: Global, bytes: &[u8]) -> Result<Message, StepFault> {
+    let Ok(mut messages) = Frames::new(alloc).feed(bytes) else {
+        return Err(StepFault::Unknown);
+    };
+    let last = messages.pop().ok_or(StepFault::Unknown)?;
+    if messages.is_empty() {
+        Ok(last)
+    } else {
+        Err(StepFault::Unknown)
+    }
+}
+
+// A message as it is printed, where it is written, and its copy, as it was read.
+fn message(alloc: Global, bytes: &[u8]) -> Result<String, StepFault> {
+    let message = message_of(alloc, bytes)?;
+    if frame(alloc, &message)?.as_slice() != bytes {
+        return Ok(String::from_str(alloc, "written otherwise")?);
+    }
+    let copy = message.clone()?;
+    if frame(alloc, &copy)?.as_slice() != bytes {
+        return Ok(String::from_str(alloc, "copied otherwise")?);
+    }
+    Ok(format!(in alloc; "{message}")?)
+}
+
+fn fields(alloc: Global, bytes: &[u8]) -> Result<String, StepFault> {
+    let message = message_of(alloc, bytes)?;
+    Ok(format!(in alloc; "{message:?}")?)
+}
+
+// The next number of a linear congruential generator, by its high bits.
+fn next_random(state: &mut u64) -> usize {
+    *state = state
+        .wrapping_mul(6_364_136_223_846_793_005)
+        .wrapping_add(1_442_695_040_888_963_407);
+    (*state >> 33) as usize
+}
+
+// A piece of a stream of frames, up to 19 bytes from where the state says, at times with a byte
+// that isn't the stream's.
+fn random_piece(alloc: Global, stream: &[u8], state: &mut u64) -> Result<Vec<u8>, StepFault> {
+    let from = next_random(state) % 40;
+    let len = next_random(state) % 20;
+    let mut piece = Vec::from_slice(alloc, stream.get(from..from + len).unwrap_or(&[]))?;
+    if next_random(state) % 4 == 0 {
+        piece.push((next_random(state) % 256) as u8)?;
+    }
+    Ok(piece)
+}
+
+// Whether the fault is one of the bytes.
+fn is_of_bytes(fault: FrameFault) -> bool {
+    matches!(
+        fault,
+        FrameFault::TooLong | FrameFault::Kind | FrameFault::Field
+    )
+}
+
+// Random pieces bring messages that fit, or faults of the bytes, behind which the stream failed
+// and another begins.
+fn random(alloc: Global, seed: u64, count: u32, stream: &[u8]) -> Result<&'static str, StepFault> {
+    let mut state = seed;
+    let mut frames = Frames::new(alloc);
+    for _ in 0..count {
+        let piece = random_piece(alloc, stream, &mut state)?;
+        match frames.feed(piece.as_slice()) {
+            Ok(messages) => {
+                if !messages.iter().all(|message| message.fits()) {
+                    return Ok("a message that doesn't fit");
+                }
+            }
+            Err(fault) => {
+                if !is_of_bytes(fault) {
+                    return Ok("a fault that isn't of the bytes");
+                }
+                if !matches!(frames.feed(piece.as_slice()), Err(FrameFault::Failed)) {
+                    return Ok("a stream that goes on behind a fault");
+                }
+                frames = Frames::new(alloc);
+            }
+        }
+    }
+    Ok("ok")
+}
+
+impl FrameCases {
+    /// Nothing has come.
+    pub fn new(alloc: Global) -> Self {
+        FrameCases {
+            alloc,
+            frames: Frames::new(alloc),
+        }
+    }
+
+    fn feed(&mut self, piece: &[u8]) -> Result<String, StepFault> {
+        match self.frames.feed(piece) {
+            Ok(messages) => told_frames(self.alloc, messages.as_slice()),
+            Err(fault) => Ok(format!(in self.alloc; "{fault:?}")?),
+        }
+    }
+
+    // What comes of each byte, numbered from 1.
+    fn feed_singly(&mut self, bytes: &[u8]) -> Result<String, StepFault> {
+        let mut runs = Runs::new(self.alloc);
+        for (place, byte) in bytes.iter().enumerate() {
+            let answer = self.feed(&[*byte])?;
+            runs.push(place, answer)?;
+        }
+        Ok(runs.finish()?)
+    }
+}
+
+impl Subject for FrameCases {
+    fn begin(&mut self) -> Result<(), StepFault> {
+        self.frames = Frames::new(self.alloc);
+        Ok(())
+    }
+
+    fn answer(&mut self, texts: &Texts, words: &[&str]) -> Result<String, StepFault> {
+        let [name, given @ .., last] = words else {
+            return Err(StepFault::Unknown);
+        };
+        let bytes = texts.bytes(last)?;
+        let bytes = bytes.as_slice();
+        match (*name, given) {
+            ("feed", []) => self.feed(bytes),
+            ("singly", []) => self.feed_singly(bytes),
+            ("message", []) => message(self.alloc, bytes),
+            ("fields", []) => fields(self.alloc, bytes),
+            ("receiver", []) => {
+                told(
+                    self.alloc,
+                    message_of(self.alloc, bytes).map(|message| message.receiver()),
+                )
+            }
+            ("random", [seed, count]) => {
+                let seen = random(self.alloc, value(seed)?, value(count)?, bytes);
+                told(self.alloc, seen)
+            }
+            _ => Err(StepFault::Unknown),
+        }
+    }
+}

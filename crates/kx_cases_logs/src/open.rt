@@ -1,0 +1,83 @@
+//! The open transactions of a partition. `begin ID EPOCH FIRST`, `end ID` and `reserve` change
+//! them, `first`, `epoch ID` and `full` tell of them, and `fill COUNT` begins one of each id below a
+//! number, at that offset, and tells before each whether they are full, and whether there is room.
+use crate::words::{epoch_of, id_of};
+use kx_cases::{Runs, StepFault, Subject, Texts, told, told_option, value};
+use kx_open::{OPEN_LIMIT, OpenTxn, OpenTxns};
+use kx_wire::{Epoch, ProducerId};
+use std::alloc::Global;
+
+/// The transactions that are open in a case.
+#[derive(Drop)]
+pub struct OpenCases {
+    alloc: Global,
+    open: OpenTxns,
+}
+
+// A transaction's id, epoch and first offset.
+fn told_txn(alloc: Global, txn: Option<OpenTxn>) -> Result<String, StepFault> {
+    match txn {
+        Some(OpenTxn { id, epoch, first }) => Ok(format!(in alloc; "{id} {epoch} {first}")?),
+        None => Ok(String::from_str(alloc, "none")?),
+    }
+}
+
+impl OpenCases {
+    /// None is open.
+    pub fn new(alloc: Global) -> Self {
+        OpenCases {
+            alloc,
+            open: OpenTxns::new(alloc),
+        }
+    }
+
+    // Begins a transaction, where none of its id is open.
+    fn begin_txn(&mut self, id: ProducerId, epoch: Epoch, first: i64) -> Result<String, StepFault> {
+        if self.open.epoch_of(id).is_some() {
+            return Ok(String::from_str(self.alloc, "already open")?);
+        }
+        told(self.alloc, self.open.begin(id, epoch, first).map(|_| "ok"))
+    }
+
+    // Whether they are full, makes room, and begins the transaction of this number.
+    fn begin_next(&mut self, number: u16) -> Result<String, StepFault> {
+        let id = ProducerId::try_from(i64::from(number)).map_err(|_| StepFault::Unknown)?;
+        let epoch = Epoch::try_from(0).map_err(|_| StepFault::Unknown)?;
+        let full = self.open.is_full();
+        let room = told(self.alloc, self.open.reserve().map(|_| "ok"))?;
+        let begun = self.begin_txn(id, epoch, i64::from(number))?;
+        Ok(format!(in self.alloc; "{full} {room} {begun}")?)
+    }
+
+    fn fill(&mut self, count: u16) -> Result<String, StepFault> {
+        let mut runs = Runs::new(self.alloc);
+        for number in 0..count {
+            let answer = self.begin_next(number)?;
+            runs.push(usize::from(number), answer)?;
+        }
+        Ok(runs.finish()?)
+    }
+}
+
+impl Subject for OpenCases {
+    fn begin(&mut self) -> Result<(), StepFault> {
+        self.open = OpenTxns::new(self.alloc);
+        Ok(())
+    }
+
+    fn answer(&mut self, _texts: &Texts, words: &[&str]) -> Result<String, StepFault> {
+        match words {
+            ["begin", id, epoch, first] => {
+                self.begin_txn(id_of(id)?, epoch_of(epoch)?, value(first)?)
+            }
+            ["end", id] => told_txn(self.alloc, self.open.end_at(id_of(id)?)),
+            ["reserve"] => told(self.alloc, self.open.reserve().map(|_| "ok")),
+            ["first"] => told_option(self.alloc, self.open.first_open()),
+            ["epoch", id] => told_option(self.alloc, self.open.epoch_of(id_of(id)?)),
+            ["full"] => Ok(format!(in self.alloc; "{}", self.open.is_full())?),
+            ["limit"] => Ok(format!(in self.alloc; "{OPEN_LIMIT}")?),
+            ["fill", count] => self.fill(value(count)?),
+            _ => Err(StepFault::Unknown),
+        }
+    }
+}

@@ -1,0 +1,97 @@
+//! What a partition keeps of producers. `rebuild ID EPOCH FIRST LAST OFFSET` makes it of a log with
+//! that batch; `data` with the same numbers and `marker ID EPOCH COORDINATOR` note what was
+//! appended, `reserve ID` makes room. `check ID EPOCH FIRST LAST` tells the verdict on a batch,
+//! `epoch ID` and `marked ID` what is known of a producer.
+use crate::words::{epoch_of, id_of};
+use kx_cases::{StepFault, Subject, Texts, told, told_option, value};
+use kx_producer::{Noted, Producers, RememberedBatch};
+use std::alloc::Global;
+
+/// The producers of a case.
+#[derive(Drop)]
+pub struct ProducerCases {
+    alloc: Global,
+    producers: Producers,
+}
+
+// A batch by its sequences and its offset.
+fn batch_of(first: &str, last: &str, offset: &str) -> Result<RememberedBatch, StepFault> {
+    Ok(RememberedBatch {
+        first: value(first)?,
+        last: value(last)?,
+        offset: value(offset)?,
+    })
+}
+
+impl ProducerCases {
+    /// No producer is known.
+    pub fn new(alloc: Global) -> Self {
+        ProducerCases {
+            alloc,
+            producers: Producers::new(alloc),
+        }
+    }
+
+    fn rebuild(&mut self, words: &[&str]) -> Result<String, StepFault> {
+        let [id, epoch, first, last, offset] = words else {
+            return Err(StepFault::Unknown);
+        };
+        let entries = [Noted::Data {
+            id: id_of(id)?,
+            epoch: epoch_of(epoch)?,
+            batch: batch_of(first, last, offset)?,
+        }];
+        self.producers = Producers::rebuild(self.alloc, &entries)?;
+        Ok(String::from_str(self.alloc, "ok")?)
+    }
+
+    fn data(&mut self, words: &[&str]) -> Result<String, StepFault> {
+        let [id, epoch, first, last, offset] = words else {
+            return Err(StepFault::Unknown);
+        };
+        let batch = batch_of(first, last, offset)?;
+        let noted = self
+            .producers
+            .note_data(id_of(id)?, epoch_of(epoch)?, batch);
+        told(self.alloc, noted.map(|_| "ok"))
+    }
+
+    fn marker(&mut self, id: &str, epoch: &str, coordinator: &str) -> Result<String, StepFault> {
+        let coordinator = value::<i32>(coordinator)?;
+        let noted = self
+            .producers
+            .note_marker(id_of(id)?, epoch_of(epoch)?, coordinator);
+        told(self.alloc, noted.map(|_| "ok"))
+    }
+
+    fn check(&self, words: &[&str]) -> Result<String, StepFault> {
+        let [id, epoch, first, last] = words else {
+            return Err(StepFault::Unknown);
+        };
+        let (first, last) = (value(first)?, value(last)?);
+        let verdict = self
+            .producers
+            .check(id_of(id)?, epoch_of(epoch)?, first, last);
+        Ok(format!(in self.alloc; "{verdict:?}")?)
+    }
+}
+
+impl Subject for ProducerCases {
+    fn begin(&mut self) -> Result<(), StepFault> {
+        self.producers = Producers::new(self.alloc);
+        Ok(())
+    }
+
+    fn answer(&mut self, _texts: &Texts, words: &[&str]) -> Result<String, StepFault> {
+        match words {
+            ["rebuild", given @ ..] => self.rebuild(given),
+            ["data", given @ ..] => self.data(given),
+            ["marker", id, epoch, coordinator] => self.marker(id, epoch, coordinator),
+            ["check", given @ ..] => self.check(given),
+            ["reserve", id] => told(self.alloc, self.producers.reserve(id_of(id)?).map(|_| "ok")),
+            ["epoch", id] => told_option(self.alloc, self.producers.epoch(id_of(id)?)),
+            ["marked", id] => told_option(self.alloc, self.producers.marked_by(id_of(id)?)),
+            _ => Err(StepFault::Unknown),
+        }
+    }
+}

@@ -1,0 +1,81 @@
+//! Steps that dump bytes.
+use crate::parts::nothing;
+use crate::streams::Full;
+use crate::words::count;
+use kx_cases::{StepFault, Subject, Texts};
+use kx_text::dump_batches;
+use std::alloc::{AllocError, Global};
+use std::str;
+
+/// What was printed of the bytes that were dumped last, and how many of its lines were told.
+#[derive(Drop)]
+pub struct Dumps {
+    alloc: Global,
+    printed: Vec<u8>,
+    told: usize,
+}
+
+// A line that was printed, without its newline.
+fn line_text(alloc: Global, line: &str) -> Result<String, AllocError> {
+    match line.strip_suffix('\n') {
+        Some(line) => String::from_str(alloc, line),
+        None => format!(in alloc; "no newline: {line}"),
+    }
+}
+
+impl Dumps {
+    /// Nothing is dumped yet.
+    pub fn new(alloc: Global) -> Self {
+        Dumps {
+            alloc,
+            printed: Vec::new(alloc),
+            told: 0,
+        }
+    }
+
+    // How a dump ends.
+    fn dump(&mut self, bytes: &[u8]) -> Result<String, AllocError> {
+        self.printed.clear();
+        self.told = 0;
+        let ended = dump_batches(bytes, &mut self.printed);
+        format!(in self.alloc; "{ended:?}")
+    }
+
+    // The next line that was printed.
+    fn line(&mut self) -> Result<String, AllocError> {
+        let printed = str::from_utf8(self.printed.as_slice()).unwrap_or("");
+        match printed.split_inclusive('\n').nth(self.told) {
+            Some(line) => {
+                self.told = self.told.saturating_add(1);
+                line_text(self.alloc, line)
+            }
+            None => nothing(self.alloc),
+        }
+    }
+}
+
+// How a dump ends whose writer has room for so many bytes.
+fn full(alloc: Global, room: usize, bytes: &[u8]) -> Result<String, AllocError> {
+    let ended = dump_batches(bytes, &mut Full(room));
+    format!(in alloc; "{ended:?}")
+}
+
+impl Subject for Dumps {
+    fn begin(&mut self) -> Result<(), StepFault> {
+        self.printed.clear();
+        self.told = 0;
+        Ok(())
+    }
+
+    fn answer(&mut self, texts: &Texts, words: &[&str]) -> Result<String, StepFault> {
+        match words {
+            ["dump", bytes] => Ok(self.dump(texts.bytes(bytes)?.as_slice())?),
+            ["line"] => Ok(self.line()?),
+            ["full", room, bytes] => {
+                let room = count(room)?;
+                Ok(full(self.alloc, room, texts.bytes(bytes)?.as_slice())?)
+            }
+            _ => Err(StepFault::Unknown),
+        }
+    }
+}

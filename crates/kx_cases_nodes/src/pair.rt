@@ -1,0 +1,42 @@
+//! A script, and what it has to write.
+use kx_cases::Tally;
+use kx_text::{ScriptFault, run_script};
+use std::alloc::{AllocError, Global};
+use std::rt::Files;
+use std::{fs, io};
+
+// Whether what has to be written ends in the bad line of this number.
+fn ends_badly(alloc: Global, wanted: &str, number: u64) -> Result<bool, AllocError> {
+    let line = format!(in alloc; "bad line {number}\n")?;
+    Ok(wanted.strip_suffix(line.as_str()).is_some())
+}
+
+// Whether the script writes what it has to, and ends there: at its end, or at a bad line where that
+// is the last that it has to write.
+fn is_right(alloc: Global, script: &str, wanted: &str) -> Result<bool, AllocError> {
+    let mut reader = script.as_bytes();
+    let mut written = Vec::new(alloc);
+    let ended = run_script(alloc, &mut reader, &mut written);
+    if written.as_slice() != wanted.as_bytes() {
+        return Ok(false);
+    }
+    match ended {
+        Ok(()) => Ok(!wanted.contains("bad line ")),
+        Err(ScriptFault::BadLine(number)) => ends_badly(alloc, wanted, number),
+        Err(_) => Ok(false),
+    }
+}
+
+/// Runs the script NAME.kx, which has to write NAME.out, and prints `ok NAME` or `FAILED NAME`.
+pub fn try_pair(rt: &(impl Files + Print + AllocGlobal), name: &str) -> io::Result<Tally> {
+    let alloc = rt.alloc();
+    let script = fs::read_to_string(rt, format!(in alloc; "{name}.kx")?)?;
+    let wanted = fs::read_to_string(rt, format!(in alloc; "{name}.out")?)?;
+    let is_right = is_right(alloc, script.as_str(), wanted.as_str())?;
+    let told = if is_right { "ok" } else { "FAILED" };
+    println!(rt; "{told} {name}")?;
+    Ok(Tally {
+        tried: 1,
+        failed: u64::from(!is_right),
+    })
+}

@@ -1,0 +1,165 @@
+//! Steps of a partition on a store that is made to fail.
+use crate::parts::nothing;
+use crate::sending::{Kept, sent};
+use crate::shown::shown;
+use crate::words::{count, offset, size, unsigned};
+use kx_cases::{Runs, StepFault, Subject, Texts};
+use kx_log::{FaultStore, MemStore};
+use kx_partition::{FetchPage, Partition};
+use std::alloc::{AllocError, Global};
+
+/// A partition, once it is open.
+#[derive(Drop)]
+pub struct PartitionNode {
+    alloc: Global,
+    kept: Option<Kept>,
+}
+
+// The end and the last stable offset.
+fn offsets(alloc: Global, kept: &Kept) -> Result<String, AllocError> {
+    let (end, stable) = (kept.end(), kept.lso());
+    format!(in alloc; "end {end} lso {stable}")
+}
+
+// Reads the store again and goes on with what it holds: the end before and after, or why not.
+fn reload(alloc: Global, kept: &mut Kept) -> Result<String, AllocError> {
+    match kept.reload() {
+        Ok(content) => {
+            let before = kept.install(content);
+            format!(in alloc; "end {} before {}", kept.end(), before.end())
+        }
+        Err(fault) => format!(in alloc; "{fault:?}"),
+    }
+}
+
+// A page of all records, or of the committed ones.
+fn fetched(alloc: Global, kept: &Kept, words: &[&str]) -> Result<String, StepFault> {
+    let [what, from, max, mode] = words else {
+        return Err(StepFault::Unknown);
+    };
+    let is_committed = match *mode {
+        "all" => false,
+        "committed" => true,
+        _ => return Err(StepFault::Unknown),
+    };
+    match kept.fetch(offset(from)?, size(max)?, is_committed) {
+        Ok(page) => shown(alloc, what, page),
+        Err(fault) => Ok(format!(in alloc; "{fault:?}")?),
+    }
+}
+
+// Whether the batches of a page are these bytes, one behind the other.
+fn are(page: &FetchPage<'_>, bytes: &[u8]) -> bool {
+    let mut rest = bytes;
+    for batch in page.batches() {
+        match rest.strip_prefix(batch.text()) {
+            Some(behind) => rest = behind,
+            None => return false,
+        }
+    }
+    rest.is_empty()
+}
+
+// The same of all batches of the partition.
+fn holds(alloc: Global, kept: &Kept, bytes: &[u8]) -> Result<String, AllocError> {
+    match kept.fetch(0, u32::MAX, false) {
+        Ok(page) => format!(in alloc; "{}", are(&page, bytes)),
+        Err(fault) => format!(in alloc; "{fault:?}"),
+    }
+}
+
+// Makes the store fail, or takes that back.
+fn armed(alloc: Global, kept: &mut Kept, words: &[&str]) -> Result<String, StepFault> {
+    match words {
+        ["append_fails", keep] => kept.arm(Some(unsigned(keep)?)),
+        ["appends_work"] => kept.arm(None),
+        ["load_fails"] => kept.arm_load(true),
+        _ => return fetched(alloc, kept, words),
+    }
+    Ok(nothing(alloc)?)
+}
+
+// Takes a step of a partition that is open.
+fn taken(
+    alloc: Global,
+    kept: &mut Kept,
+    texts: &Texts,
+    words: &[&str],
+) -> Result<String, StepFault> {
+    match words {
+        ["offsets"] => Ok(offsets(alloc, kept)?),
+        ["takes", more] => Ok(format!(in alloc; "{}", kept.can_take(count(more)?))?),
+        ["failures"] => Ok(format!(in alloc; "{}", kept.failures())?),
+        ["holds", bytes] => Ok(holds(alloc, kept, texts.bytes(bytes)?.as_slice())?),
+        ["reload"] => Ok(reload(alloc, kept)?),
+        ["produce", ..]
+        | ["unverified", ..]
+        | ["fronts", ..]
+        | ["repeat", ..]
+        | ["open_txns", ..]
+        | ["marker", ..] => sent(alloc, kept, texts, words),
+        _ => armed(alloc, kept, words),
+    }
+}
+
+// The end of the partition that a store with these bytes has.
+fn end_of(alloc: Global, bytes: Vec<u8>) -> Result<String, AllocError> {
+    match Partition::rebuild(alloc, MemStore::new(bytes)) {
+        Ok(kept) => format!(in alloc; "{}", kept.end()),
+        Err((fault, _)) => format!(in alloc; "{fault:?}"),
+    }
+}
+
+// The same of each front of some bytes, and of all of them.
+fn cuts(alloc: Global, bytes: &[u8]) -> Result<String, StepFault> {
+    let mut runs = Runs::new(alloc);
+    for len in 0..=bytes.len() {
+        let front = Vec::from_slice(alloc, &bytes[..len])?;
+        runs.push(len, end_of(alloc, front)?)?;
+    }
+    Ok(runs.finish()?)
+}
+
+impl PartitionNode {
+    /// No partition yet.
+    pub fn new(alloc: Global) -> Self {
+        PartitionNode { alloc, kept: None }
+    }
+
+    // Opens what a store holds: the end and the last stable offset, or why it isn't opened.
+    fn open(&mut self, store: FaultStore<MemStore>) -> Result<String, StepFault> {
+        match Partition::rebuild(self.alloc, store) {
+            Ok(kept) => {
+                let told = offsets(self.alloc, &kept)?;
+                self.kept = Some(kept);
+                Ok(told)
+            }
+            Err((fault, _)) => Ok(format!(in self.alloc; "{fault:?}")?),
+        }
+    }
+}
+
+impl Subject for PartitionNode {
+    fn begin(&mut self) -> Result<(), StepFault> {
+        self.kept = None;
+        Ok(())
+    }
+
+    fn answer(&mut self, texts: &Texts, words: &[&str]) -> Result<String, StepFault> {
+        match words {
+            ["open", bytes] => {
+                let store = MemStore::new(texts.bytes(bytes)?);
+                self.open(FaultStore::new(store, 0, 0))
+            }
+            ["open_failing", bytes, nth, keep] => {
+                let store = MemStore::new(texts.bytes(bytes)?);
+                self.open(FaultStore::new(store, unsigned(nth)?, unsigned(keep)?))
+            }
+            ["cuts", bytes] => cuts(self.alloc, texts.bytes(bytes)?.as_slice()),
+            _ => match &mut self.kept {
+                Some(kept) => taken(self.alloc, kept, texts, words),
+                None => Err(StepFault::Unknown),
+            },
+        }
+    }
+}

@@ -1,0 +1,42 @@
+//! Answers of several parts.
+use std::alloc::{AllocError, Global};
+
+/// What a step answers that gives nothing.
+pub fn nothing(alloc: Global) -> Result<String, AllocError> {
+    String::from_str(alloc, "-")
+}
+
+/// Parts of an answer, told one behind the other.
+#[derive(Drop)]
+pub struct Parts {
+    alloc: Global,
+    text: String,
+    between: &'static str,
+}
+
+impl Parts {
+    /// None yet; this will stand between two of them.
+    pub fn new(alloc: Global, between: &'static str) -> Self {
+        Parts {
+            alloc,
+            text: String::new(alloc),
+            between,
+        }
+    }
+
+    /// One more.
+    pub fn push(&mut self, part: String) -> Result<(), AllocError> {
+        if !self.text.is_empty() {
+            self.text.push_str(self.between)?;
+        }
+        self.text.push_str(part.as_str())
+    }
+
+    /// All of them, or `-` for none.
+    pub fn finish(self) -> Result<String, AllocError> {
+        if self.text.is_empty() {
+            return nothing(self.alloc);
+        }
+        Ok(self.text)
+    }
+}

@@ -1,0 +1,106 @@
+//! Steps of a client that gets a reply and reads its page.
+use crate::parts::nothing;
+use crate::shown::shown;
+use crate::words::{code, offset, producer};
+use kx_cases::{StepFault, Subject, Texts};
+use kx_partition::FetchPage;
+use kx_wire::{AbortedTxn, AbortedTxns, Bytes, ClientId, ErrorCode, Message, PartitionId};
+use std::alloc::Global;
+
+/// The reply that came.
+#[derive(Drop)]
+pub struct Replies {
+    alloc: Global,
+    reply: Option<Message>,
+}
+
+fn aborted_txn(word: &str) -> Result<AbortedTxn, StepFault> {
+    let Some((id, first)) = word.split_once(':') else {
+        return Err(StepFault::Unknown);
+    };
+    Ok(AbortedTxn {
+        id: producer(id)?,
+        first: offset(first)?,
+    })
+}
+
+// Aborted transactions, written as `ID:FIRST,..`, or `-` for none.
+fn aborted(alloc: Global, text: &str) -> Result<AbortedTxns, StepFault> {
+    let mut txns = Vec::new(alloc);
+    if text != "-" {
+        for word in text.split(',') {
+            txns.push(aborted_txn(word)?)?;
+        }
+    }
+    Ok(AbortedTxns::from_vec(txns))
+}
+
+// A reply of this code: `fetched CODE NEXT LSO END ABORTED BYTES`.
+fn fetch_reply(alloc: Global, texts: &Texts, words: &[&str]) -> Result<Message, StepFault> {
+    let [answer, next, lso, end, txns, batches] = words else {
+        return Err(StepFault::Unknown);
+    };
+    Ok(Message::FetchReply {
+        client: ClientId::from(1),
+        correlation: 2,
+        partition: PartitionId::OFFSETS,
+        code: code(answer)?,
+        next: offset(next)?,
+        lso: offset(lso)?,
+        end: offset(end)?,
+        aborted: aborted(alloc, txns)?,
+        batches: Bytes::from_vec(texts.bytes(batches)?),
+    })
+}
+
+// A reply that has no page.
+fn leave_reply() -> Message {
+    Message::LeaveReply {
+        client: ClientId::from(1),
+        correlation: 2,
+        code: ErrorCode::NoError,
+    }
+}
+
+// What is told of the page of a reply, or why it has none.
+fn read(alloc: Global, reply: &Message, what: &str, from: &str) -> Result<String, StepFault> {
+    match FetchPage::from_reply(alloc, offset(from)?, reply) {
+        Ok(page) => shown(alloc, what, page),
+        Err(fault) => Ok(format!(in alloc; "{fault:?}")?),
+    }
+}
+
+impl Replies {
+    /// No reply came yet.
+    pub fn new(alloc: Global) -> Self {
+        Replies { alloc, reply: None }
+    }
+
+    // This reply came.
+    fn comes(&mut self, reply: Message) -> Result<String, StepFault> {
+        self.reply = Some(reply);
+        Ok(nothing(self.alloc)?)
+    }
+}
+
+impl Subject for Replies {
+    fn begin(&mut self) -> Result<(), StepFault> {
+        self.reply = None;
+        Ok(())
+    }
+
+    fn answer(&mut self, texts: &Texts, words: &[&str]) -> Result<String, StepFault> {
+        match words {
+            ["fetched", fields @ ..] => {
+                let reply = fetch_reply(self.alloc, texts, fields)?;
+                self.comes(reply)
+            }
+            ["left"] => self.comes(leave_reply()),
+            [what, from] => match &self.reply {
+                Some(reply) => read(self.alloc, reply, what, from),
+                None => Err(StepFault::Unknown),
+            },
+            _ => Err(StepFault::Unknown),
+        }
+    }
+}

@@ -1,0 +1,117 @@
+//! What is sent to a partition: batches of records and markers.
+use crate::words::{count, epoch_of_coordinator, held, outcome};
+use kx_batch::{BatchBuilder, BuildFault};
+use kx_cases::{Runs, StepFault, Texts};
+use kx_log::{FaultStore, MemStore};
+use kx_partition::{Partition, Produced};
+use kx_wire::Raised;
+use std::alloc::{AllocError, Global};
+
+/// A partition on a store that is made to fail.
+pub type Kept = Partition<FaultStore<MemStore>>;
+
+// The answer to a batch.
+fn produced(
+    alloc: Global,
+    kept: &mut Kept,
+    batch: &[u8],
+    is_verified: bool,
+) -> Result<String, AllocError> {
+    let answer = kept.produce(batch, is_verified)?;
+    format!(in alloc; "{answer:?}")
+}
+
+// The answer to the batch of this number, where its offset may be that number.
+fn numbered(
+    alloc: Global,
+    kept: &mut Kept,
+    batch: &[u8],
+    number: usize,
+) -> Result<String, AllocError> {
+    match kept.produce(batch, true)? {
+        Produced::Appended(offset) if offset.unsigned_abs() == number as u64 => {
+            String::from_str(alloc, "Appended(NUMBER)")
+        }
+        answer => format!(in alloc; "{answer:?}"),
+    }
+}
+
+// The answers to each front of some bytes, but not to all of them.
+fn fronts(alloc: Global, kept: &mut Kept, bytes: &[u8]) -> Result<String, AllocError> {
+    let mut runs = Runs::new(alloc);
+    for len in 0..bytes.len() {
+        runs.push(len, produced(alloc, kept, &bytes[..len], true)?)?;
+    }
+    runs.finish()
+}
+
+// The answers to the same batch, so many times.
+fn repeat(
+    alloc: Global,
+    kept: &mut Kept,
+    times: usize,
+    batch: &[u8],
+) -> Result<String, AllocError> {
+    let mut runs = Runs::new(alloc);
+    for number in 0..times {
+        runs.push(number, numbered(alloc, kept, batch, number)?)?;
+    }
+    runs.finish()
+}
+
+// The first batch of a producer's transaction: one record with an empty value.
+fn first_of_txn(alloc: Global, id: i64) -> Result<Vec<u8>, BuildFault> {
+    let mut builder = BatchBuilder::new(alloc, 0x10, id, 0, 0);
+    builder.push(None, Some(&[]), &[])?;
+    builder.finish()
+}
+
+// The answers to the first batches of the producers 0, 1, 2 ..
+fn open_txns(alloc: Global, kept: &mut Kept, producers: u16) -> Result<String, AllocError> {
+    let mut runs = Runs::new(alloc);
+    for id in 0..producers {
+        let Ok(batch) = first_of_txn(alloc, i64::from(id)) else {
+            return Err(AllocError);
+        };
+        let number = usize::from(id);
+        runs.push(number, numbered(alloc, kept, batch.as_slice(), number)?)?;
+    }
+    runs.finish()
+}
+
+// The answer to a marker: `marker ID EPOCH COORDINATOR OUTCOME`.
+fn marked(alloc: Global, kept: &mut Kept, words: &[&str]) -> Result<String, StepFault> {
+    let [_, id, epoch, coordinator, how] = words else {
+        return Err(StepFault::Unknown);
+    };
+    let Ok(ended) = Raised::try_from(held(id, epoch)?) else {
+        return Err(StepFault::Unknown);
+    };
+    let code = kept.marker(ended, epoch_of_coordinator(coordinator)?, outcome(how)?)?;
+    Ok(format!(in alloc; "{code:?}")?)
+}
+
+/// Takes a step that sends something.
+pub fn sent(
+    alloc: Global,
+    kept: &mut Kept,
+    texts: &Texts,
+    words: &[&str],
+) -> Result<String, StepFault> {
+    match words {
+        ["produce", batch] => Ok(produced(alloc, kept, texts.bytes(batch)?.as_slice(), true)?),
+        ["unverified", batch] => {
+            Ok(produced(alloc, kept, texts.bytes(batch)?.as_slice(), false)?)
+        }
+        ["fronts", bytes] => Ok(fronts(alloc, kept, texts.bytes(bytes)?.as_slice())?),
+        ["repeat", times, batch] => {
+            let times = count(times)?;
+            Ok(repeat(alloc, kept, times, texts.bytes(batch)?.as_slice())?)
+        }
+        ["open_txns", producers] => match producers.parse::<u16>() {
+            Ok(producers) => Ok(open_txns(alloc, kept, producers)?),
+            Err(_) => Err(StepFault::Unknown),
+        },
+        _ => marked(alloc, kept, words),
+    }
+}

@@ -1,0 +1,48 @@
+use Rattle.std.proofs.Common.{◌≡◌, ◌++◌, ◌-◌, ℕ, List, [], length, Ok, Err, refl, sym, ap, ◌∙◌}
+use Rattle.std.proofs.Common.{subst, arith}
+use Rattle.std.specs.Io.KnownBytes.{Appends}
+use Rattle.std.proofs.lemmas.Grind.{common_steps}
+use Rattle.kx_text.specs.Dump.{Dumps}
+use Rattle.kx_text.specs.declared.dump.DumpFault.TheVariants as dump_fault
+use Rattle.kx_text.proofs.Dumping.{starts, goes_on, ends, stops, only_whole, only_stops}
+use Rattle.kx_text.proofs.dump.dump_batches.Goals as goal
+
+pub loop-rest-init : goal.loop-rest-init
+loop-rest-init g c = starts c.args.bytes.now (g.W.Write.contents c.args.writer.now)
+
+pub loop-rest-preserved : goal.loop-rest-preserved
+loop-rest-preserved g c =
+    goes_on c.args.bytes.now c.loop-rest.rest.now c.in-Ok.behind.now c.in-Ok.batch
+    (g.W.Write.contents c.args.writer.now) (g.W.Write.contents c.loop-rest.writer)
+    (g.W.Write.contents c.write_batch.new.writer) c.loop-rest.invariant
+    c.in-Ok.ensures.exact c.in-Ok.ensures.found.1 c.in_ok-write_batch-in-Ok.ensures
+
+pub returns-in-Err : goal.returns-in-Err
+returns-in-Err g c =
+    let bytes = c.args.bytes.now in
+    let old = g.W.Write.contents c.args.writer.now in
+    let mid = g.W.Write.contents c.loop-rest.writer in
+    let new = g.W.Write.contents c.write_fault.new.writer in
+    let rest = c.loop-rest.rest.now in
+    let place = length bytes - length rest in
+    let dumps = stops bytes rest place c.in-Err.fault old mid new c.loop-rest.invariant refl
+    (grind (arith, common_steps)) c.in-Err.ensures.exact c.in_ok-write_fault-in-Err.ensures in
+    let r = Err (dump_fault.Batch place c.in-Err.fault) in
+    record {
+      written = dumps;
+      whole = only_whole bytes old new r dumps;
+      stops = only_stops bytes old new r dumps;
+    }
+
+pub returns : goal.returns
+returns g c =
+    let bytes = c.args.bytes.now in
+    let old = g.W.Write.contents c.args.writer.now in
+    let new = g.W.Write.contents c.loop-rest.writer in
+    let dumps = ends bytes c.loop-rest.rest.now old new c.loop-rest.invariant
+    (grind (arith, common_steps)) in
+    record {
+      written = dumps;
+      whole = only_whole bytes old new (Ok tt) dumps;
+      stops = only_stops bytes old new (Ok tt) dumps;
+    }

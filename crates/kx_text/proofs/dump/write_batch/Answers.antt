@@ -1,0 +1,48 @@
+use Rattle.std.proofs.Common.{◌≡◌, ◌++◌, ℕ, ℤ, List, [], sym, ap, ◌∙◌, subst, to_z, of_z, w64}
+use Rattle.std.proofs.lemmas.Int.{to_z-of_z}
+use Rattle.std.specs.Prelude.{flat_map}
+use Rattle.std.specs.Io.KnownBytes.{Appends}
+use Rattle.kx_batch.specs.Record.{Record}
+use Rattle.kx_text.specs.Dump.{batch_line, batch_text_of, record_line}
+use Rattle.kx_text.proofs.Writes.{IsBegun, begins, goes_on, ends, appends_nothing}
+use Rattle.kx_text.proofs.dump.write_batch.Goals as goal
+
+pub loop-record-init : goal.loop-record-init
+loop-record-init g c =
+    let batch = c.args.batch.now.batch in
+    let line = record_line batch.base_offset in
+    let old = g.W.Write.contents c.args.writer.now in
+    let mid = g.W.Write.contents c.write_head.new.writer in
+    let whole = batch_text_of batch in
+    let e = c.into_iter-record-iterator.ensures.into_iter_gives
+    ∙ c.records-record-items.ensures.value in
+    subst (λ (rs : List Record). IsBegun old mid (flat_map line rs) whole) (sym e)
+    (goes_on old old mid (batch_line batch) (flat_map line batch.records) whole
+    (begins old whole) c.in_ok-write_head.ensures)
+
+pub loop-record-preserved : goal.loop-record-preserved
+loop-record-preserved g c =
+    let batch = c.args.batch.now.batch in
+    let line = record_line batch.base_offset in
+    let old = g.W.Write.contents c.args.writer.now in
+    let mid = g.W.Write.contents c.loop-record.writer in
+    let new = g.W.Write.contents c.write_record.new.writer in
+    let whole = batch_text_of batch in
+    goes_on old mid new (line c.in-Some.record) (flat_map line c.next.new.self) whole
+    (subst (λ (rs : List Record). IsBegun old mid (flat_map line rs) whole)
+    c.in-Some.ensures.steps c.loop-record.invariant)
+    (subst (λ (b : ℤ). Appends mid new (record_line b c.in-Some.record))
+    (to_z-of_z w64 c.base_offset.result (record { sfits = c.base_offset.type_inv })
+    ∙ c.base_offset.ensures.value) c.in_ok-write_record.ensures)
+
+pub returns : goal.returns
+returns g c =
+    let batch = c.args.batch.now.batch in
+    let line = record_line batch.base_offset in
+    let old = g.W.Write.contents c.args.writer.now in
+    let new = g.W.Write.contents c.loop-record.writer in
+    let whole = batch_text_of batch in
+    ends old new new [] whole
+    (subst (λ (rs : List Record). IsBegun old new (flat_map line rs) whole)
+    c.in-None.ensures.steps.0 c.loop-record.invariant)
+    (appends_nothing new)

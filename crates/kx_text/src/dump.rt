@@ -1,0 +1,215 @@
+//! The dump: what is printed of a file of record batches, for those who look into a log.
+ghost use Rattle.std.specs.Prelude.{◌≡◌, ◌≤◌, ◌<◌, ◌*◌, ◌⊎◌, ℕ, List, [], length, drop};
+ghost use Rattle.std.specs.Prelude.{◌++◌, Err, IsOkUnless, OnOk, codes, option_map, take};
+ghost use Rattle.std.specs.Fmt.{signed_decimal};
+ghost use Rattle.std.specs.Io.KnownBytes.{Appends};
+ghost use Rattle.kx_batch.specs.Batch.{Spelled, batch_at};
+ghost use Rattle.kx_text.specs.Dump.{AreBatches, Dumps, batch_line, batch_text_of, fault_line};
+ghost use Rattle.kx_text.specs.Dump.{fault_name, field_text, hex_of, kind_of, producer_text};
+ghost use Rattle.kx_text.specs.Dump.{record_line};
+ghost use Rattle.kx_text.specs.declared.dump.DumpFault.TheVariants as dump_fault;
+
+use crate::answers::offset_of;
+use kx_batch::{BatchFault, BatchView, RecordView};
+use kx_wire::Outcome;
+use std::io;
+use std::io::Write;
+use thiserror::Error;
+
+/// Why a dump ends before the end of its file.
+#[derive(Clone, Copy, Debug, PartialEq, Eq, Error)]
+pub enum DumpFault {
+    /// The writer failed. What of the text was written isn't known: a failed write doesn't say.
+    #[error("the dump cannot be written")]
+    Write,
+    /// The bytes from this place on, counted from the start of the file, are no batch, for this
+    /// reason. The text of the batches in front of it was written, and then `fault PLACE NAME`.
+    #[error("no batch at byte {0}: {1}")]
+    Batch(usize, BatchFault),
+    /// Memory ran out before anything was written. A dump asks for none itself, so `dump_batches`
+    /// never answers it.
+    #[error("out of memory")]
+    Memory,
+}
+
+impl From<io::Error> for DumpFault {
+    ghost from_gives = { λ _ fault. fault ≡ dump_fault.Write };
+
+    fn from(_failed: io::Error) -> DumpFault {
+        DumpFault::Write
+    }
+}
+
+const DIGITS: &[u8; 16] = b"0123456789abcdef";
+
+// How many bytes become digits at a time.
+const PART: usize = 64;
+
+// Puts the digits of a part to the front of a buffer.
+fn put_digits(part: &[u8], buffer: &mut [u8; 128])
+    requires { length part.now ≤ 64 }
+    ensures { take (2 * length part.now) buffer.new ≡ hex_of part.now }
+{
+    for i in 0..part.len() {
+        let byte = part[i];
+        buffer[2 * i] = DIGITS[(byte / 16) as usize];
+        buffer[2 * i + 1] = DIGITS[(byte % 16) as usize];
+    }
+}
+
+// Writes two digits for each byte, a part at a time: a call for each byte would take longer.
+fn write_hex<W: Write>(writer: &mut W, bytes: &[u8]) -> io::Result<()>
+    ensures { OnOk result (Appends (W.contents writer.old) (W.contents writer.new)
+        (hex_of bytes.now)) }
+{
+    let mut buffer = [0; 2 * PART];
+    for part in bytes.chunks(PART) {
+        put_digits(part, &mut buffer);
+        writer.write_all(&buffer[..2 * part.len()])?;
+    }
+    Ok(())
+}
+
+// Writes a key or a value.
+fn write_field<W: Write>(writer: &mut W, field: Option<&[u8]>) -> io::Result<()>
+    ensures { OnOk result (Appends (W.contents writer.old) (W.contents writer.new)
+        (field_text (option_map (λ s. s.now) field.entry))) }
+{
+    match field {
+        None => writer.write_all(b"null"),
+        Some([]) => writer.write_all(b"-"),
+        Some(bytes) => write_hex(writer, bytes),
+    }
+}
+
+// Writes what stands in front of a record's key.
+fn write_offset<W: Write>(writer: &mut W, offset: i128) -> io::Result<()>
+    ensures { OnOk result (Appends (W.contents writer.old) (W.contents writer.new)
+        (codes "record " ++ signed_decimal offset ++ codes " ")) }
+{
+    write!(writer, "record {offset} ")
+}
+
+// Writes a record as a line.
+fn write_record<W: Write>(writer: &mut W, base: i64, shown: &RecordView<'_>) -> io::Result<()>
+    ensures { OnOk result (Appends (W.contents writer.old) (W.contents writer.new)
+        (record_line base shown.now)) }
+{
+    let offset = offset_of(base, shown.offset_delta());
+    write_offset(writer, offset)?;
+    write_field(writer, shown.key())?;
+    writer.write_all(b" ")?;
+    write_field(writer, shown.value())?;
+    writer.write_all(b"\n")
+}
+
+// What a batch is for: first what its marker says, then its attributes.
+fn kind_of(batch: &BatchView<'_>) -> &'static str
+    ensures { result.now ≡ kind_of batch.now.batch }
+{
+    match batch.end_marker() {
+        Some((Outcome::Commit, _)) => "commit",
+        Some((Outcome::Abort, _)) => "abort",
+        None if batch.is_control() => "control",
+        None if batch.is_transactional() => "txn",
+        None => "plain",
+    }
+}
+
+// Writes who wrote a batch.
+fn write_producer<W: Write>(writer: &mut W, batch: &BatchView<'_>) -> io::Result<()>
+    ensures { OnOk result (Appends (W.contents writer.old) (W.contents writer.new)
+        (producer_text batch.now.batch)) }
+{
+    let id = batch.producer_id();
+    let epoch = batch.producer_epoch();
+    let sequence = batch.base_sequence();
+    write!(writer, "{id} {epoch} {sequence}")
+}
+
+// Writes the line in front of a batch's records.
+fn write_head<W: Write>(writer: &mut W, batch: &BatchView<'_>) -> io::Result<()>
+    ensures { OnOk result (Appends (W.contents writer.old) (W.contents writer.new)
+        (batch_line batch.now.batch)) }
+{
+    let offset = batch.base_offset();
+    let count = batch.records().len();
+    let kind = kind_of(batch);
+    write!(writer, "batch {offset} {count} ")?;
+    write_producer(writer, batch)?;
+    writeln!(writer, " {kind}")
+}
+
+// Writes a batch's line and those of its records.
+fn write_batch<W: Write>(writer: &mut W, batch: &BatchView<'_>) -> io::Result<()>
+    ensures { OnOk result (Appends (W.contents writer.old) (W.contents writer.new)
+        (batch_text_of batch.now.batch)) }
+{
+    write_head(writer, batch)?;
+    for record in batch.records() {
+        write_record(writer, batch.base_offset(), &record)?;
+    }
+    Ok(())
+}
+
+fn fault_name(fault: BatchFault) -> &'static str
+    ensures { result.now ≡ fault_name fault }
+{
+    match fault {
+        BatchFault::Short => "Short",
+        BatchFault::Magic => "Magic",
+        BatchFault::Length => "Length",
+        BatchFault::Crc => "Crc",
+        BatchFault::Compressed => "Compressed",
+        BatchFault::Records => "Records",
+        BatchFault::TooLarge => "TooLarge",
+    }
+}
+
+// Writes where no batch stands, and why.
+fn write_fault<W: Write>(writer: &mut W, place: usize, fault: BatchFault) -> io::Result<()>
+    ensures { OnOk result (Appends (W.contents writer.old) (W.contents writer.new)
+        (fault_line place fault)) }
+{
+    let name = fault_name(fault);
+    writeln!(writer, "fault {place} {name}")
+}
+
+/// Writes what is printed of a file of record batches: for each a line `batch OFFSET COUNT ID EPOCH
+/// SEQ KIND`, where KIND is `commit`, `abort`, `control`, `txn` or `plain`, and for each of its
+/// records a line `record OFFSET KEY VALUE` in hexadecimal, with `null` for null and `-` for empty;
+/// up to the end or the first place where no batch stands, of which it writes `fault PLACE NAME`.
+/// It goes over the bytes once, takes no memory and doesn't flush the writer.
+///
+/// # Errors
+///
+/// Those of [`DumpFault`], which says what was written by then. [`DumpFault::Write`] comes only
+/// from the writer, and of what was written by then std says nothing.
+pub fn dump_batches<W: Write>(bytes: &[u8], writer: &mut W) -> Result<(), DumpFault>
+    // What was written, and of which batches.
+    ensures written { Dumps bytes.now (W.contents writer.old) (W.contents writer.new) result }
+    // Batches up to the end are no fault.
+    ensures whole { (batches : List Spelled) → AreBatches batches bytes.now []
+        → IsOkUnless result dump_fault.Write }
+    // The first place without a batch is the fault.
+    ensures stops { (batches : List Spelled) (place : ℕ) (fault : BatchFault)
+        → place < length bytes.now → AreBatches batches bytes.now (drop place bytes.now)
+        → batch_at (drop place bytes.now) ≡ Err fault
+        → (result ≡ Err (dump_fault.Batch place fault)) ⊎ (result ≡ Err dump_fault.Write) }
+{
+    let mut rest = bytes;
+    while !rest.is_empty() {
+        let place = bytes.len() - rest.len();
+        match BatchView::read(rest) {
+            Ok((batch, behind)) => {
+                write_batch(writer, &batch)?;
+                rest = behind;
+            }
+            Err(fault) => {
+                write_fault(writer, place, fault)?;
+                return Err(DumpFault::Batch(place, fault));
+            }
+        }
+    }
+    Ok(())
+}
