@@ -8,10 +8,10 @@ ghost use Rattle.kx_txnlog.specs.State.{state_of};
 ghost use Rattle.kx_coord.specs.Answers.{IsAnswer, IsNextId, is_settled};
 
 use crate::add::{is, is_old, refused_first};
-use crate::answer::{Answer, held_after, refuses, repeats, writes};
+use crate::answer::{Answer, held_after, own_pair, refuses, repeats, writes};
 use crate::rows::{Fresh, LAST_EPOCH};
 use kx_txnlog::{Cause, Row, State};
-use kx_wire::{Epoch, ErrorCode, Outcome, ProducerId};
+use kx_wire::{Epoch, ErrorCode, Held, Outcome, ProducerId};
 use std::alloc::AllocError;
 
 // Whether a state is one with this outcome decided.
@@ -40,6 +40,17 @@ fn ends(row: &Row, id: ProducerId, epoch: Epoch) -> bool
             (is_own && own > 0 && own - 1 == number)
                 || (number == LAST_EPOCH && is_previous && own == 0)
         }
+    }
+}
+
+// What an end is answered when it is asked again: while the markers are on their way the id and epoch
+// of the transaction after, and else the row's own.
+fn ended_as(row: &Row) -> Held
+    ensures { result ≡ model.ended_as (row_of row.now) (row_of row.now).state }
+{
+    match row.state {
+        State::Prepare(_) => held_after(row),
+        State::Empty | State::Ongoing | State::Complete(_) => own_pair(row),
     }
 }
 
@@ -85,7 +96,7 @@ impl Fresh {
         }
         if ends(row, id, epoch) {
             if has_outcome(outcome, row.state) {
-                return Ok(repeats(held_after(row)));
+                return Ok(repeats(ended_as(row)));
             }
             return Ok(refuses(ErrorCode::InvalidTxnState));
         }

@@ -1,11 +1,12 @@
 -- What a client holds, and ends the transaction of, it was handed.
-use Rattle.std.proofs.Common.{◌≡◌, ℕ, ◌+◌, false, not, List, [], ◌∷◌, ◌++◌}
-use Rattle.std.proofs.Common.{filter}
+use Rattle.std.proofs.Common.{◌≡◌, ℕ, ◌+◌, true, false, not, List, [], ◌∷◌, ◌++◌}
+use Rattle.std.proofs.Common.{ap, arith, filter}
 use Rattle.std.proofs.Common.{Option, Some, None, Contains, All, refl, sym, subst}
 use Rattle.std.proofs.Common.{IfSome}
 use Rattle.std.specs.Bool.{⊤}
 use Rattle.std.specs.List.{list_any}
-use Rattle.std.proofs.lemmas.Bool.{cond_both}
+use Rattle.std.proofs.lemmas.Bool.{and_parts, cond_both}
+use Rattle.std.proofs.lemmas.Bool.Decides.{nat_tests}
 use Rattle.std.proofs.lemmas.List.Elements.{All-cons, All-filter, All-nil, All-push, All-weaker}
 use Rattle.kx_wire.specs.Receiver.{receiver_of}
 use Rattle.kx_wire.specs.declared.code.ErrorCode.{ErrorCode}
@@ -13,6 +14,7 @@ use Rattle.kx_wire.specs.declared.code.ErrorCode.TheVariants as code
 use Rattle.kx_wire.specs.declared.message.Held.{Held}
 use Rattle.kx_wire.specs.declared.message.Message.{Message}
 use Rattle.kx_wire.specs.declared.message.Message.TheVariants as msg
+use Rattle.kx_wire.specs.declared.message.Node.{Node}
 use Rattle.kx_wire.specs.declared.message.Node.TheVariants as node
 use Rattle.kx_wire.specs.declared.outcome.Outcome.{Outcome}
 use Rattle.kx_wire.specs.declared.outcome.Outcome.TheVariants.{Abort, Commit}
@@ -23,11 +25,26 @@ use Rattle.kx_model.specs.Client.{Begin, Send, JoinGroup, LeaveGroup, SendOffset
 use Rattle.kx_model.specs.Client.{asks, command, does, is_init, leaves, refusals, sends, sends_end}
 use Rattle.kx_model.specs.Client.{sends_offsets, value_records}
 use Rattle.kx_model.specs.Replies.{Meaning, Done, Waits, Aborts, Fails, holding, is_answer_to}
-use Rattle.kx_model.specs.Replies.{is_awaited, learns, meaning, offsets_meaning, take_reply, told}
+use Rattle.kx_model.specs.Replies.{is_awaited, is_to_client, learns, meaning, offsets_meaning}
+use Rattle.kx_model.specs.Replies.{take_reply, told}
 use Rattle.kx_model.specs.World.{World}
 use Rattle.kx_headline.proofs.EventDoes.{ClientTurn, commands, hears}
 use Rattle.kx_laws.proofs.Lists.{if_some_more}
 use Rattle.kx_headline.proofs.SentKinds.{unless_does}
+
+-- a reply that is awaited goes to the client, and answers what waits there
+pub awaited_here : (c : Client) (m : Message) → is_awaited c m ≡ true
+    → (receiver_of m ≡ node.Client c.number) × (list_any (is_answer_to m) c.waiting ≡ true)
+awaited_here c m e =
+    let parts = and_parts (is_to_client c.number (receiver_of m))
+    (list_any (is_answer_to m) c.waiting) e in
+    (own (receiver_of m) parts.0, parts.1)
+  where
+    own : (n : Node) → is_to_client c.number n ≡ true → n ≡ node.Client c.number
+    own (node.Client client) e =
+        let same : client ≡ c.number = grind (arith, nat_tests, e) in ap node.Client same
+    own node.Coordinator e = absurd cc
+    own (node.Partition partition) e = absurd cc
 
 -- a reply of code 0 gave the client this id and epoch
 pub data Handed (sent : List Message) (client : ℕ) (held : Held) : Type 0 where
@@ -253,10 +270,10 @@ module _ (sent : List Message) (c : Client) (own : HoldsOwn sent c) where
           learns_own (offsets_meaning x) answered (λ e. (holds, same))
       told_own other m to = (own, refl)
 
-  pub reply_holds : (m : Message) → Contains sent m → receiver_of m ≡ node.Client c.number
+  pub reply_holds : (m : Message) → Contains sent m
       → HoldsOwn sent (take_reply c m) × ((take_reply c m).number ≡ c.number)
   unfolding take_reply
-  reply_holds m there to =
+  reply_holds m there =
       let answered : Client =
       record c { waiting = filter (λ x. not (is_answer_to m x)) c.waiting } in
       cond_both (is_awaited c m) (told c answered m) c
@@ -265,7 +282,7 @@ module _ (sent : List Message) (c : Client) (own : HoldsOwn sent c) where
         held = own.held;
         waiting = All-filter (λ x. not (is_answer_to m x)) (IsEntitled sent) c.waiting
             own.waiting;
-      }) m there to)
+      }) m there (awaited_here c m e).0)
       (λ e. (own, refl))
 
 -- what a client holds and hands out in its turn
@@ -274,5 +291,6 @@ pub turn_holds : (w : World) (c after : Client) (messages : List Message) → Ho
     → HoldsOwn w.sent after × (after.number ≡ c.number) × All (IsEntitled w.sent) messages
 turn_holds w c after messages own (commands what d ms fits e) =
     command_holds w.sent c own what after messages e
-turn_holds w c after messages own (hears m there to) =
-    let h = reply_holds w.sent c own m there to in (h.0, h.1, All-nil (IsEntitled w.sent))
+turn_holds w c after messages own (hears m there) =
+    let h = reply_holds w.sent c own m there in (h.0, h.1, All-nil (IsEntitled w.sent))
+turn_holds w c after messages own ClientTurn.passes = (own, refl, All-nil (IsEntitled w.sent))

@@ -20,6 +20,7 @@ use Rattle.kx_model.specs.Replies.{Aborts, Done, Fails, Meaning, Waits, correlat
 use Rattle.kx_model.specs.Replies.{is_answer_to, is_awaited, learns, meaning, offsets_meaning}
 use Rattle.kx_model.specs.Replies.{take_reply, told}
 use Rattle.kx_headline.proofs.ClientAsks.{is_a_batch}
+use Rattle.kx_headline.proofs.ClientHolds.{awaited_here}
 use Rattle.kx_headline.proofs.ClientRequests.{Answered, Carries, HasEnded, IsAwaited, IsIts, IsUpTo}
 use Rattle.kx_headline.proofs.ClientRequests.{IsWithin, Knows, Load, is_batch, is_offsets, older_id}
 use Rattle.kx_headline.proofs.ClientRequests.{same_id}
@@ -272,7 +273,7 @@ same_held a b e = cc
 
 module _ (sent : List Message) (c : Client) (k : Knows sent c) (m : Message) where
   -- a pair for a client that held none, which asked for it
-  first_pair : (held : Held) → kind_of m ≡ 2 → is_awaited c m ≡ true
+  first_pair : (held : Held) → kind_of m ≡ 2 → list_any (is_answer_to m) c.waiting ≡ true
       → Knows sent (holding (answered_client sent c k m) (Some held))
   first_pair held kind awaited =
       let (x, there, is) = any_holds (is_answer_to m) c.waiting awaited in
@@ -322,7 +323,7 @@ module _ (sent : List Message) (c : Client) (k : Knows sent c) (m : Message) whe
 
   -- the pair after a transaction that ended
   module _ (correlation : ℕ) (held : Option Held) (kind : kind_of m ≡ 4)
-      (number : correlation_of m ≡ correlation) (awaited : is_awaited c m ≡ true)
+      (number : correlation_of m ≡ correlation) (awaited : list_any (is_answer_to m) c.waiting ≡ true)
       (raises : Raises sent c.number correlation held) where
     abbrev next : Held
     next = raises.given
@@ -472,7 +473,7 @@ module _ (sent : List Message) (c : Client) (k : Knows sent c)
       (λ q. absurd (not18 (omega (arith, p.0, q)))) (batch_kind x is)
 
   told_knows : (m : Message) → Contains sent m → receiver_of m ≡ node.Client c.number
-      → is_awaited c m ≡ true → Knows sent (told c (answered_client sent c k m) m)
+      → list_any (is_answer_to m) c.waiting ≡ true → Knows sent (told c (answered_client sent c k m) m)
   told_knows (msg.InitReply client i x held) there to awaited =
       let m = msg.InitReply client i x held in
       learns_knows sent c k m (meaning x) (holding (answered_client sent c k m) held)
@@ -544,9 +545,8 @@ module _ (sent : List Message) (c : Client) (k : Knows sent c)
       (k.offsets_inside y w (kind_offsets y (omega (arith, p.0))), λ f. omega (arith, f)))
   told_knows other there to awaited = k
 
-  pub reply_knows : (m : Message) → Contains sent m → receiver_of m ≡ node.Client c.number
-      → Knows sent (take_reply c m)
+  pub reply_knows : (m : Message) → Contains sent m → Knows sent (take_reply c m)
   unfolding take_reply
-  reply_knows m there to =
+  reply_knows m there =
       cond_both (is_awaited c m) (told c (answered_client sent c k m) m) c (Knows sent)
-      (λ e. told_knows m there to e) (λ e. k)
+      (λ e. told_knows m there (awaited_here c m e).0 (awaited_here c m e).1) (λ e. k)

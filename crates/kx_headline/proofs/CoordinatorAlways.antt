@@ -12,8 +12,8 @@ use Rattle.kx_model.specs.CoordinatorNode.{Coordinated, notes_of}
 use Rattle.kx_model.specs.Headline.{Always}
 use Rattle.kx_model.specs.World.{World, notes, start, with_client, with_coordinator}
 use Rattle.kx_headline.proofs.CoordinatorDoes.{CoordinatorOk, CoordinatorDoes, Out, Says}
-use Rattle.kx_headline.proofs.CoordinatorDoes.{does_ok, expires_does, ok_later, reminds_does}
-use Rattle.kx_headline.proofs.CoordinatorDoes.{restarts_does, says_later, takes_does}
+use Rattle.kx_headline.proofs.CoordinatorDoes.{does_ok, expires_does, ok_later, passes_does}
+use Rattle.kx_headline.proofs.CoordinatorDoes.{reminds_does, restarts_does, says_later, takes_does}
 use Rattle.kx_headline.proofs.CoordinatorGrows
 use Rattle.kx_headline.proofs.CoordinatorGrows.{Grows, History, history_sound, note_grows}
 use Rattle.kx_headline.proofs.CoordinatorSound.{Sound}
@@ -54,12 +54,12 @@ clients_say sent log m SentKinds.leave = tt
 -- what the coordinator does in its turn
 pub turn_does : (w : World) (s : Coordinated) → CoordinatorOk w.sent w.coordinator
     → CoordinatorTurn w s → CoordinatorDoes w.sent w.coordinator s
-turn_does w s ok (CoordinatorTurn.takes store m c r) = takes_does w.sent w.coordinator ok store m
-    c
+turn_does w s ok (CoordinatorTurn.takes store m c) = takes_does w.sent w.coordinator ok store m c
 turn_does w s ok (expires_now now store) = expires_does w.sent w.coordinator ok now store
 turn_does w s ok reminds_now = reminds_does w.sent w.coordinator ok
-turn_does w s ok (CoordinatorTurn.restarts how) =
-    restarts_does w.sent w.coordinator ok w.clock how
+turn_does w s ok (CoordinatorTurn.restarts now how) =
+    restarts_does w.sent w.coordinator ok now how
+turn_does w s ok CoordinatorTurn.passes = passes_does w.sent w.coordinator ok
 
 -- more is sent
 up : (sent messages : List Message) (m : Message) → Contains sent m

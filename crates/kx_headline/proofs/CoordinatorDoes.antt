@@ -29,12 +29,12 @@ use Rattle.kx_model.specs.CoordinatorNode.{expires_row, has_no_id, is_appended, 
 use Rattle.kx_model.specs.CoordinatorNode.{on_marker_reply, on_settled, opened, opens, reminds}
 use Rattle.kx_model.specs.CoordinatorNode.{replies, writes}
 use Rattle.kx_model.specs.Disk.{Store, Works, Fails, Reopening, Reopens, CannotRead}
-use Rattle.kx_model.specs.Disk.{CannotWrite, is_written, left_behind, reread, works}
+use Rattle.kx_model.specs.Disk.{CannotWrite, CannotLoad, is_written, left_behind, reread, works}
 use Rattle.kx_model.specs.Markers.{Answered, Settled, Ignored, Noted, Completes}
 use Rattle.kx_model.specs.Markers.{expire, greatest_epoch, is_answered, marker_message}
 use Rattle.kx_model.specs.Markers.{markers_after, markers_in, markers_of}
 use Rattle.kx_model.specs.Markers.{reopen, settle, without_row}
-use Rattle.kx_model.specs.Requests.{Answer, add, end_txn, held_after, init, own_pair}
+use Rattle.kx_model.specs.Requests.{Answer, add, end_txn, init, own_pair}
 use Rattle.kx_headline.proofs.CoordinatorFollows
 use Rattle.kx_headline.proofs.CoordinatorFollows.{Follows}
 use Rattle.kx_headline.proofs.CoordinatorGrows.{Next, Grows, none, more, History, grows_later}
@@ -43,7 +43,7 @@ use Rattle.kx_headline.proofs.CoordinatorGrows.{next_later, reread_grows}
 use Rattle.kx_headline.proofs.CoordinatorRows.{row_of-found}
 use Rattle.kx_headline.proofs.CoordinatorSound.{Sound}
 use Rattle.kx_headline.proofs.CoordinatorTables.{Does, InitSays, owned, allotted, EndSays, ended}
-use Rattle.kx_headline.proofs.CoordinatorTables.{Listed, IsReplied, SettleDoes}
+use Rattle.kx_headline.proofs.CoordinatorTables.{Gives, Listed, IsReplied, SettleDoes}
 use Rattle.kx_headline.proofs.CoordinatorTables.{writes_row, add_does, end_does, expire_follows}
 use Rattle.kx_headline.proofs.CoordinatorTables.{init_does, log_after, noting_replied, rows_last}
 use Rattle.kx_headline.proofs.CoordinatorTables.{settle_does}
@@ -78,7 +78,7 @@ pub record GivesNext (sent : List Message) (log : List Note) (client correlation
   pub row : Row
   pub written : Contains log (Written row)
   pub its_end : ends ending.id ending.epoch row ≡ true
-  pub given : held ≡ held_after row
+  pub given : Gives row held
 
 -- what a message says for good of the coordinator's log
 abbrev pub Says : List Message → List Note → Message → Type 0
@@ -279,6 +279,7 @@ module _ (sent : List Message) (co : Coordinator) (ok : CoordinatorOk sent co) w
   left_next Works note n = tt
   left_next (Fails true) note n = n
   left_next (Fails false) note n = tt
+  left_next CannotLoad note n = tt
 
   -- the coordinator after an append: whether its ids are used up, and whether it was written
   abbrev after_append : ℕ → Store → Note → List Message → List Message → Bool → Bool → Coordinated
@@ -309,6 +310,7 @@ module _ (sent : List Message) (co : Coordinator) (ok : CoordinatorOk sent co) w
       nothing_left true store e = absurd cc
       nothing_left false Works e = tt
       nothing_left false (Fails whole) e = absurd cc
+      nothing_left false CannotLoad e = tt
 
       by : (spent : Bool) → has_no_id note ≡ spent → (written : Bool)
           → is_written co.disk store ≡ written
@@ -411,7 +413,7 @@ module _ (sent : List Message) (co : Coordinator) (ok : CoordinatorOk sent co) w
       by : (entry : Option Note) (held : Option Held) → EndSays (notes_of co) ending entry held
           → Out 0 sent (notes_of co) (log_after (notes_of co) entry)
           (msg.EndReply client correlation code.NoError held)
-      by _ x (ended entry r there its_end) = record {
+      by _ x (ended entry r given there its_end gives) = record {
         says = record {
           txn = txn;
           ending = ending;
@@ -420,7 +422,7 @@ module _ (sent : List Message) (co : Coordinator) (ok : CoordinatorOk sent co) w
           row = r;
           written = there;
           its_end = its_end;
-          given = refl;
+          given = gives;
         };
         kind = end_reply;
         is_new = tt;
@@ -510,6 +512,9 @@ module _ (sent : List Message) (co : Coordinator) (ok : CoordinatorOk sent co) w
   takes_does store (msg.MarkerReply partition txn held c) m =
       marker_reply_does store (record { txn = txn; held = held; partition = partition }) c m
   takes_does store other m = still 0 co.clock [] (silent 0 (notes_of co))
+
+  pub passes_does : CoordinatorDoes sent co (co, [])
+  passes_does = still 0 co.clock [] (silent 0 (notes_of co))
 
   pub expires_does : (now : ℕ) (store : Store) → CoordinatorDoes sent co (expires co now store)
   expires_does now store = by (expire (notes_of co) now) (expire_follows sent (notes_of co) now)

@@ -33,7 +33,7 @@ use Rattle.kx_model.specs.Markers.{is_answered, is_overdue, is_overdue_in, notin
 use Rattle.kx_model.specs.Markers.{settle, settle_at, settle_in}
 use Rattle.kx_model.specs.Requests.{Answer, add, add_at, add_in, asked_again, completed}
 use Rattle.kx_model.specs.Requests.{end_at, end_in, end_row, end_txn, fences_owner, first_use}
-use Rattle.kx_model.specs.Requests.{has_outcome, held_after, init, init_at, init_row, is_old}
+use Rattle.kx_model.specs.Requests.{ended_as, has_outcome, held_after, init, init_at, init_row, is_old}
 use Rattle.kx_model.specs.Requests.{is_own}
 use Rattle.kx_model.specs.Requests.{is_prepared, newcomer, nothing_sent, or_answer, own_pair}
 use Rattle.kx_model.specs.Requests.{prepared, refused_first, refuses, repeats, writes, with_added}
@@ -274,10 +274,21 @@ module _ (sent : List Message) (log : List Note) (clock : ℕ) (held : Held) (pa
 
 ------ a client ends its transaction
 
+-- the pair that a row gives whoever ended the transaction before it: its own, or the next one
+pub data Gives (r : Row) : Held → Type 0 where
+  gives_own : Gives r (own_pair r)
+  gives_next : Gives r (held_after r)
+
 -- a row of the log ends the transaction of this pair, and gives the one after it
 pub data EndSays (log : List Note) (held : Held) : Option Note → Option Held → Type 0 where
-  ended : (note : Option Note) (r : Row) → Contains (log_after log note) (Written r)
-      → ends held.id held.epoch r ≡ true → EndSays log held note (Some (held_after r))
+  ended : (note : Option Note) (r : Row) (given : Held) → Contains (log_after log note) (Written r)
+      → ends held.id held.epoch r ≡ true → Gives r given → EndSays log held note (Some given)
+
+ended_gives : (r : Row) (st : State) → Gives r (ended_as r st)
+ended_gives r Empty = gives_own
+ended_gives r Ongoing = gives_own
+ended_gives r (Prepare outcome) = gives_next
+ended_gives r (Complete outcome) = gives_own
 
 -- a row that is raised ends the transaction of the one before
 raised_ends : (log : List Note) (s r : Row) → Raised log s r → s.epoch ≤ 32766
@@ -309,10 +320,11 @@ module _ (sent : List Message) (log : List Note) (sound : Sound log) (client cor
       follows = gives_up r client correlation found resting
           (subst (λ h. Contains sent (msg.EndTxn client correlation r.txn h Abort)) own m);
       says = λ e. ended (Some (Written (given_up log r))) (given_up log r)
+          (held_after (given_up log r))
           (Contains-push log (Written (given_up log r)))
           (subst (λ h. ends h.id h.epoch (given_up log r) ≡ true) (sym own)
           (raised_ends log r (given_up log r) (is_raised log r (Complete Abort) ByEnd)
-          ((sound.shape r its_row).resting (not_prepare r.state resting)) refl));
+          ((sound.shape r its_row).resting (not_prepare r.state resting)) refl)) gives_next;
     }
 
     nothing : (o : Outcome) → held ≡ own_pair r → IsSettled r.state
@@ -327,10 +339,10 @@ module _ (sent : List Message) (log : List Note) (sound : Sound log) (client cor
       follows = prepares r outcome ByEnd found going (by_end outcome client correlation
           (subst (λ h. Contains sent (msg.EndTxn client correlation r.txn h outcome)) own m));
       says = λ e. ended (Some (Written (prepared log r outcome ByEnd)))
-          (prepared log r outcome ByEnd)
+          (prepared log r outcome ByEnd) (held_after (prepared log r outcome ByEnd))
           (Contains-push log (Written (prepared log r outcome ByEnd)))
           (ends_own held.id held.epoch (prepared log r outcome ByEnd)
-          (sym (ap (λ h. h.id) own)) (ap (λ h. h.epoch + 1) (sym own)) refl);
+          (sym (ap (λ h. h.id) own)) (ap (λ h. h.epoch + 1) (sym own)) refl) gives_next;
     }
 
     in_does : (st : State) → r.state ≡ st → held ≡ own_pair r
@@ -341,16 +353,22 @@ module _ (sent : List Message) (log : List Note) (sound : Sound log) (client cor
     in_does (Complete o) e own = nothing outcome own (subst IsSettled (sym e) (complete o)) m
 
     repeats_it : ends held.id held.epoch r ≡ true → EndDoes
-        (cond (has_outcome outcome r.state) (repeats (held_after r)) (refuses InvalidTxnState))
+        (cond (has_outcome outcome r.state) (repeats (ended_as r r.state))
+        (refuses InvalidTxnState))
     repeats_it done =
-        cond_both (has_outcome outcome r.state) (repeats (held_after r)) (refuses InvalidTxnState)
-        EndDoes (λ e. record { follows = tt; says = λ e. ended None r its_row done })
+        cond_both (has_outcome outcome r.state) (repeats (ended_as r r.state))
+        (refuses InvalidTxnState) EndDoes
+        (λ e. record {
+          follows = tt;
+          says = λ e. ended None r (ended_as r r.state) its_row done (ended_gives r r.state);
+        })
         (λ e. refused InvalidTxnState (λ e. cc))
 
     end_row_does : refused_first r held ≡ None → EndDoes (end_row log r held outcome)
     end_row_does first =
         let again : Answer =
-        cond (has_outcome outcome r.state) (repeats (held_after r)) (refuses InvalidTxnState) in
+        cond (has_outcome outcome r.state) (repeats (ended_as r r.state))
+        (refuses InvalidTxnState) in
         let last : Answer = end_in log r outcome r.state in
         cond_both (ends held.id held.epoch r) again
         (cond (is_old r held) (refuses ProducerFenced) last) EndDoes repeats_it

@@ -3,32 +3,33 @@
 -- holds.
 use Rattle.std.proofs.Common.{◌≡◌, ◌≢◌, ℕ, ◌++◌, max, Bool, true, false, cond, List, []}
 use Rattle.std.proofs.Common.{◌∷◌}
-use Rattle.std.proofs.Common.{Option, Some, None, ◌==◌, Contains, All, refl, sym, ap, arith}
+use Rattle.std.proofs.Common.{Option, Some, None, ◌==◌, Contains, All, refl, ap, arith}
 use Rattle.std.proofs.Common.{slice_get, IfSome, ◌∙◌}
+use Rattle.std.proofs.lemmas.Bool.{cond_both}
 use Rattle.std.proofs.lemmas.Bool.Decides.{nat_tests}
 use Rattle.std.proofs.lemmas.List.Elements.{All-contains_itself, All-head, All-tail}
 use Rattle.kx_varint.specs.Text.{IsBytes}
 use Rattle.kx_wire.specs.Message.{IsU32}
 use Rattle.kx_wire.specs.Ranges.{IsName, IsTimeout, offsets_partition}
-use Rattle.kx_wire.specs.Receiver.{receiver_of}
 use Rattle.kx_wire.specs.declared.message.Message.{Message}
 use Rattle.kx_wire.specs.declared.message.Node.{Node}
 use Rattle.kx_wire.specs.declared.message.Node.TheVariants as node
 use Rattle.kx_model.specs.Client.{Client, Command, Commanded, Declines, Does, command, new_client}
 use Rattle.kx_model.specs.CoordinatorNode.{Coordinated, coordinator_restarts, coordinator_takes}
 use Rattle.kx_model.specs.CoordinatorNode.{expires, reminds}
-use Rattle.kx_model.specs.Disk.{Reopening, Store}
+use Rattle.kx_model.specs.Disk.{Reopening, Store, reopening}
 use Rattle.kx_model.specs.Groups.{judge_drop}
 use Rattle.kx_model.specs.Headline.{Always}
-use Rattle.kx_model.specs.PartitionNode.{Partition, Served, changed, entries_of}
+use Rattle.kx_model.specs.PartitionNode.{Partition, Served, changed, entries_of, node_takes}
 use Rattle.kx_model.specs.PartitionNode.{partition_restarts, puts}
 use Rattle.kx_model.specs.Replies.{take_reply}
-use Rattle.kx_model.specs.World.{Event, World, Deliver, Make, Do, Expire, Remind, Drop, Put}
-use Rattle.kx_model.specs.World.{RestartCoordinator, RestartPartition, IsCommand, IsEvent}
-use Rattle.kx_model.specs.World.{IsSchedule, client_at, commanded, data_partition_at, delivered}
-use Rattle.kx_model.specs.World.{does, is_new, node_takes, partition_at, plain_text, puts_at}
-use Rattle.kx_model.specs.World.{restarts_at, run, start, step, to_client, to_node, to_partition}
-use Rattle.kx_model.specs.World.{with_client, with_coordinator, with_partition}
+use Rattle.kx_model.specs.Step.{Input, Comes, Commands, Expires, Reminds, Drops, Puts, Restarts}
+use Rattle.kx_model.specs.Step.{client_step, commanded, coordinator_step, partition_step}
+use Rattle.kx_model.specs.Step.{plain_text}
+use Rattle.kx_model.specs.World.{Event, World, Make, Deliver, Hand, IsCommand, IsEvent, IsInput}
+use Rattle.kx_model.specs.World.{IsSchedule, at_client, at_coordinator, at_partition, client_at}
+use Rattle.kx_model.specs.World.{delivered, handed, handed_no_message, is_new, partition_at, run}
+use Rattle.kx_model.specs.World.{start, step, with_client, with_coordinator, with_partition}
 use Rattle.kx_laws.proofs.Lists.{All-slice_get}
 use Rattle.kx_laws.proofs.Membership.{find_tells}
 
@@ -36,17 +37,17 @@ use Rattle.kx_laws.proofs.Membership.{find_tells}
 
 -- what the coordinator does in its turn
 pub data CoordinatorTurn (w : World) : Coordinated → Type 0 where
-  takes : (store : Store) (m : Message) → Contains w.sent m → receiver_of m ≡ node.Coordinator
+  takes : (store : Store) (m : Message) → Contains w.sent m
       → CoordinatorTurn w (coordinator_takes w.coordinator store m)
   expires_now : (now : ℕ) (store : Store) → CoordinatorTurn w (expires w.coordinator now store)
   reminds_now : CoordinatorTurn w (reminds w.coordinator)
-  restarts : (how : Reopening)
-      → CoordinatorTurn w (coordinator_restarts w.coordinator w.clock how)
+  restarts : (now : ℕ) (how : Reopening)
+      → CoordinatorTurn w (coordinator_restarts w.coordinator now how)
+  passes : CoordinatorTurn w (w.coordinator, [])
 
 -- what the partition of this number does in its turn
 pub data PartitionTurn (w : World) (number : ℕ) (p : Partition) : Served → Type 0 where
   takes : (store : Store) (m : Message) → Contains w.sent m
-      → receiver_of m ≡ node.Partition number
       → PartitionTurn w number p (node_takes number p store m)
   drops : (group : List ℕ) (member : ℕ) (store : Store) → number ≡ offsets_partition
       → IsName group → IsU32 member
@@ -56,13 +57,14 @@ pub data PartitionTurn (w : World) (number : ℕ) (p : Partition) : Served → T
       → number ≢ offsets_partition → All IsBytes (value ∷ values)
       → PartitionTurn w number p ((puts p store (plain_text (value ∷ values))).partition, [])
   restarts : (how : Reopening) → PartitionTurn w number p (partition_restarts p how, [])
+  passes : PartitionTurn w number p (p, [])
 
 -- what a client does in its turn: the client after it, and what it hands out
 pub data ClientTurn (w : World) (c : Client) : Client → List Message → Type 0 where
   commands : (what : Command) (after : Client) (messages : List Message) → IsCommand what
       → command c what ≡ Does after messages → ClientTurn w c after messages
-  hears : (m : Message) → Contains w.sent m → receiver_of m ≡ node.Client c.number
-      → ClientTurn w c (take_reply c m) []
+  hears : (m : Message) → Contains w.sent m → ClientTurn w c (take_reply c m) []
+  passes : ClientTurn w c c []
 
 -- one node's turn, and the world after it
 pub data Turn (w : World) : World → Type 0 where
@@ -86,76 +88,105 @@ its_number w number c e =
     let n : c.number ≡ number = grind (arith, nat_tests) in
     ap (client_at w) n ∙ e
 
+-- what is handed to a node: a message that was handed out, or anything else whose names, numbers
+-- and bytes are in their ranges
+abbrev IsHanded : World → Input → Type 0
+IsHanded w (Comes m) = Contains w.sent m
+IsHanded w input = IsInput input
+
 module _ (w : World) where
-  to_partition_is : (number : ℕ) (store : Store) (m : Message) → Contains w.sent m
-      → receiver_of m ≡ node.Partition number → (o : Option Partition)
-      → partition_at w number ≡ o → Turn w (to_partition w number store m o)
-  to_partition_is number store m c r None e = nobodys
-  to_partition_is number store m c r (Some p) e =
-      partitions number p (node_takes number p store m) e (PartitionTurn.takes store m c r)
-
-  to_client_is : (number : ℕ) (m : Message) → Contains w.sent m
-      → receiver_of m ≡ node.Client number → (o : Option Client)
-      → client_at w number ≡ o → Turn w (to_client w m o)
-  to_client_is number m c r None e = nobodys
-  to_client_is number m c r (Some client) e =
-      let (there, same) = find_tells (λ c. c.number == number) w.clients client e in
-      let n : client.number ≡ number = grind (arith, nat_tests) in
-      clients client (take_reply client m) [] (its_number w number client e)
-      (hears m c (r ∙ ap node.Client (sym n)))
-
-  to_node_is : (store : Store) (m : Message) → Contains w.sent m → (n : Node)
-      → receiver_of m ≡ n → Turn w (to_node w store m n)
-  to_node_is store m c node.Coordinator r =
+  coordinator_is : (store : Store) (input : Input) → IsHanded w input
+      → Turn w (at_coordinator w input (coordinator_step w.coordinator store input)).0
+  coordinator_is store (Comes m) c =
       coordinators w.clock (coordinator_takes w.coordinator store m)
-      (CoordinatorTurn.takes store m c r)
-  to_node_is store m c (node.Partition number) r =
-      to_partition_is number store m c r (partition_at w number) refl
-  to_node_is store m c (node.Client number) r =
-      to_client_is number m c r (client_at w number) refl
+      (CoordinatorTurn.takes store m c)
+  coordinator_is store (Expires now) fits =
+      coordinators (max w.clock now) (expires w.coordinator now store) (expires_now now store)
+  coordinator_is store Reminds fits = coordinators w.clock (reminds w.coordinator) reminds_now
+  coordinator_is store (Restarts now) fits =
+      coordinators w.clock (coordinator_restarts w.coordinator now (reopening store))
+      (CoordinatorTurn.restarts now (reopening store))
+  coordinator_is store (Commands what) fits =
+      coordinators w.clock (w.coordinator, []) CoordinatorTurn.passes
+  coordinator_is store (Drops group member) fits =
+      coordinators w.clock (w.coordinator, []) CoordinatorTurn.passes
+  coordinator_is store (Puts value more) fits =
+      coordinators w.clock (w.coordinator, []) CoordinatorTurn.passes
 
-  delivered_is : (store : Store) (o : Option Message) → IfSome o (Contains w.sent)
-      → Turn w (delivered w store o)
-  delivered_is store None c = nobodys
-  delivered_is store (Some m) c = to_node_is store m c (receiver_of m) refl
+  partition_turns : (number : ℕ) (p : Partition) (store : Store) (input : Input)
+      → IsHanded w input
+      → let s = partition_step number p store input in
+      PartitionTurn w number p (s.state, s.messages)
+  partition_turns number p store (Comes m) c = PartitionTurn.takes store m c
+  partition_turns number p store (Drops group member) fits =
+      let t = changed p store (judge_drop (entries_of p) group member) in
+      cond_both (number == offsets_partition) t.partition p
+      (λ q. PartitionTurn w number p (q, []))
+      (λ e. drops group member store (grind (arith, nat_tests, e)) fits.0 fits.1)
+      (λ e. PartitionTurn.passes)
+  partition_turns number p store (Puts value more) fits =
+      let t = puts p store (plain_text (value ∷ more)) in
+      cond_both (number == offsets_partition) p t.partition
+      (λ q. PartitionTurn w number p (q, [])) (λ e. PartitionTurn.passes)
+      (λ e. puts_values value more store (grind (arith, nat_tests, e)) fits)
+  partition_turns number p store (Restarts now) fits = PartitionTurn.restarts (reopening store)
+  partition_turns number p store (Commands what) fits = PartitionTurn.passes
+  partition_turns number p store (Expires now) fits = PartitionTurn.passes
+  partition_turns number p store Reminds fits = PartitionTurn.passes
 
-  commanded_is : (c : Client) (what : Command) → client_at w c.number ≡ Some c → IsCommand what
-      → (done : Commanded) → command c what ≡ done → Turn w (commanded w done).0
-  commanded_is c what there fits (Declines fault) e = nobodys
-  commanded_is c what there fits (Does after messages) e =
-      clients c after messages there (commands what after messages fits e)
+  partition_is : (number : ℕ) (store : Store) (input : Input) → IsHanded w input
+      → (o : Option Partition) → partition_at w number ≡ o
+      → Turn w (at_partition w number store input o).0
+  partition_is number store input handed None e = nobodys
+  partition_is number store input handed (Some p) e =
+      let s = partition_step number p store input in
+      partitions number p (s.state, s.messages) e (partition_turns number p store input handed)
 
-  does_is : (number : ℕ) (what : Command) → IsCommand what → (o : Option Client)
-      → client_at w number ≡ o → Turn w (does w what o).0
-  does_is number what fits None e = nobodys
-  does_is number what fits (Some c) e =
-      commanded_is c what (its_number w number c e) fits (command c what) refl
+  commanded_turns : (c : Client) (what : Command) → IsCommand what → (done : Commanded)
+      → command c what ≡ done
+      → let s = commanded c done in ClientTurn w c s.state s.messages
+  commanded_turns c what fits (Declines fault) e = ClientTurn.passes
+  commanded_turns c what fits (Does after messages) e = commands what after messages fits e
 
-  data_partition : (number : ℕ) (p : Partition) → data_partition_at w number ≡ Some p
-      → (number ≢ offsets_partition) × (partition_at w number ≡ Some p)
-  data_partition number p e = at (number == offsets_partition) refl e
-    where
-      at : (b : Bool) → (number == offsets_partition) ≡ b
-          → cond b None (slice_get w.partitions number) ≡ Some p
-          → (number ≢ offsets_partition)
-          × (cond b (Some w.offsets) (slice_get w.partitions number) ≡ Some p)
-      at true f h = absurd cc
-      at false f h = (grind (arith, nat_tests), h)
+  client_turns : (c : Client) (input : Input) → IsHanded w input
+      → let s = client_step c input in ClientTurn w c s.state s.messages
+  client_turns c (Comes m) there = hears m there
+  client_turns c (Commands what) fits = commanded_turns c what fits (command c what) refl
+  client_turns c (Expires now) fits = ClientTurn.passes
+  client_turns c Reminds fits = ClientTurn.passes
+  client_turns c (Drops group member) fits = ClientTurn.passes
+  client_turns c (Puts value more) fits = ClientTurn.passes
+  client_turns c (Restarts now) fits = ClientTurn.passes
 
-  puts_at_is : (number : ℕ) (value : List ℕ) (values : List (List ℕ)) (store : Store)
-      → All IsBytes (value ∷ values) → (o : Option Partition) → data_partition_at w number ≡ o
-      → Turn w (puts_at w number (value ∷ values) store o).0
-  puts_at_is number value values store fits None e = nobodys
-  puts_at_is number value values store fits (Some p) e =
-      let there = data_partition number p e in
-      partitions number p ((puts p store (plain_text (value ∷ values))).partition, []) there.1
-      (puts_values value values store there.0 fits)
+  client_is : (number : ℕ) (input : Input) → IsHanded w input → (o : Option Client)
+      → client_at w number ≡ o → Turn w (at_client w input o).0
+  client_is number input handed None e = nobodys
+  client_is number input handed (Some c) e =
+      let s = client_step c input in
+      clients c s.state s.messages (its_number w number c e) (client_turns c input handed)
 
-  restarts_at_is : (number : ℕ) (how : Reopening) (o : Option Partition)
-      → partition_at w number ≡ o → Turn w (restarts_at w number how o).0
-  restarts_at_is number how None e = nobodys
-  restarts_at_is number how (Some p) e =
-      partitions number p (partition_restarts p how, []) e (PartitionTurn.restarts how)
+  handed_is : (to : Node) (store : Store) (input : Input) → IsHanded w input
+      → Turn w (handed w to store input).0
+  handed_is node.Coordinator store input is = coordinator_is store input is
+  handed_is (node.Partition number) store input is =
+      partition_is number store input is (partition_at w number) refl
+  handed_is (node.Client number) store input is =
+      client_is number input is (client_at w number) refl
+
+  delivered_is : (to : Node) (store : Store) (o : Option Message) → IfSome o (Contains w.sent)
+      → Turn w (delivered w to store o).0
+  delivered_is to store None c = nobodys
+  delivered_is to store (Some m) c = handed_is to store (Comes m) c
+
+  hand_is : (to : Node) (store : Store) (input : Input) → IsInput input
+      → Turn w (handed_no_message w to store input).0
+  hand_is to store (Comes m) fits = nobodys
+  hand_is to store (Commands what) fits = handed_is to store (Commands what) fits
+  hand_is to store (Expires now) fits = handed_is to store (Expires now) fits
+  hand_is to store Reminds fits = handed_is to store Reminds fits
+  hand_is to store (Drops group member) fits = handed_is to store (Drops group member) fits
+  hand_is to store (Puts value more) fits = handed_is to store (Puts value more) fits
+  hand_is to store (Restarts now) fits = handed_is to store (Restarts now) fits
 
   make_is : (number : ℕ) (txn : Option (List ℕ)) (timeout : ℕ) → IsU32 number
       → IfSome txn IsName → IsTimeout timeout
@@ -174,25 +205,11 @@ module _ (w : World) where
 
   pub step_is : (event : Event) → IsEvent event → Turn w (step w event).0
   unfolding step
-  step_is (Deliver which store) fits =
-      delivered_is store (slice_get w.sent which)
-      (All-slice_get (Contains w.sent) w.sent which (All-contains_itself w.sent))
   step_is (Make number txn timeout) fits = make_is number txn timeout fits.0 fits.1 fits.2
-  step_is (Do number what) fits = does_is number what fits (client_at w number) refl
-  step_is (Expire now store) fits =
-      coordinators (max w.clock now) (expires w.coordinator now store) (expires_now now store)
-  step_is Remind fits = coordinators w.clock (reminds w.coordinator) reminds_now
-  step_is (Drop group member store) fits =
-      partitions offsets_partition w.offsets
-      ((changed w.offsets store (judge_drop (entries_of w.offsets) group member)).partition, [])
-      refl (drops group member store refl fits.0 fits.1)
-  step_is (Put number value more store) fits =
-      puts_at_is number value more store fits (data_partition_at w number) refl
-  step_is (RestartCoordinator how) fits =
-      coordinators w.clock (coordinator_restarts w.coordinator w.clock how)
-      (CoordinatorTurn.restarts how)
-  step_is (RestartPartition number how) fits =
-      restarts_at_is number how (partition_at w number) refl
+  step_is (Deliver which to store) fits =
+      delivered_is to store (slice_get w.sent which)
+      (All-slice_get (Contains w.sent) w.sent which (All-contains_itself w.sent))
+  step_is (Hand to input store) fits = hand_is to store input fits
 
 ------ whole schedules
 

@@ -30,6 +30,7 @@ module _ (w : World) (stands : CoordinatorStands w) where
       let same_epoch : held.epoch ≡ r.epoch = ap (λ (h : Held). h.epoch) pair in
       record {
         id = omega (arith, below, ids, same_id);
+        raised = omega (arith, epoch.0, same_epoch);
         epoch = omega (arith, epoch.1, same_epoch);
         coordinator = record { sfits = omega (arith, marks.in_range) };
       }

@@ -18,7 +18,6 @@ use Rattle.kx_model.specs.Client.{Client, new_client}
 use Rattle.kx_model.specs.Coordinator.{Row, Note, Allot, Written, ends, next_id}
 use Rattle.kx_model.specs.CoordinatorNode.{Coordinated, notes_of}
 use Rattle.kx_model.specs.Headline.{Always, OneHolder}
-use Rattle.kx_model.specs.Requests.{held_after}
 use Rattle.kx_model.specs.World.{World, hands, holds, notes, same_pair, start, with_client}
 use Rattle.kx_model.specs.World.{run, with_coordinator, with_partition}
 use Rattle.kx_model.proofs.Notes.{next_id-push}
@@ -33,6 +32,7 @@ use Rattle.kx_headline.proofs.CoordinatorGrows.{Grows, History, none, more}
 use Rattle.kx_headline.proofs.CoordinatorGrows.{note_grows}
 use Rattle.kx_headline.proofs.CoordinatorRows.{Names, own, previous, next, above_own, ends_tells}
 use Rattle.kx_headline.proofs.CoordinatorRows.{Ends, one_higher, replaced}
+use Rattle.kx_headline.proofs.CoordinatorTables.{Gives, gives_own, gives_next}
 use Rattle.kx_headline.proofs.EventDoes.{CoordinatorTurn, Turn, nobodys, coordinators, partitions}
 use Rattle.kx_headline.proofs.EventDoes.{clients, making, always}
 use Rattle.kx_laws.proofs.Membership.{find_tells}
@@ -67,9 +67,10 @@ owned_below log client held (by_pair r c o p) =
     above_own log r held.id c (names_pair r held.id held.epoch p)
 owned_below log client held (by_id c) = allotted_below log held.id c
 
--- the pair after a row is one that the row gives
-gives_after : (r : Row) → Pairs r (held_after r).id (held_after r).epoch
-gives_after r = by r.next refl
+-- the pair that a row gives is one that it names
+gives_after : (r : Row) (held : Held) → Gives r held → Pairs r held.id held.epoch
+gives_after r held gives_own = has_now refl refl
+gives_after r held gives_next = by r.next refl
   where
     by : (n : Option ℕ) → r.next ≡ n → Pairs r (unwrap_or n r.id) (cond (is_some n) 0 r.epoch)
     by None e = has_now refl refl
@@ -200,7 +201,7 @@ module _ (w : World) (h : HoldersStand w) (s : Coordinated)
       g.asked in
       let o = ended_owner c g.ending (h.owned c g.ending entitled) g.row g.written g.its_end in
       by_pair g.row g.written o
-      (subst (λ x. Pairs g.row x.id x.epoch) (sym g.given) (gives_after g.row))
+      (gives_after g.row held g.given)
 
   owned_next : (c : ℕ) (held : Held) → Handed (w.sent ++ s.1) c held
       → Owned (notes_of s.0) c held
@@ -432,8 +433,7 @@ module _ (w : World) (h : HoldersStand w) where
       All-contains (Says w.sent (notes w)) w.sent (msg.EndReply c k code.NoError (Some held))
       h.stands.says there in
       unnamed history_now held.id allotted g.row g.written
-      (names_pair g.row held.id held.epoch
-      (subst (λ x. Pairs g.row x.id x.epoch) (sym g.given) (gives_after g.row)))
+      (names_pair g.row held.id held.epoch (gives_after g.row held g.given))
 
   allotted_one : (c d : ℕ) (held : Held) → Contains (notes w) (Allot held.id)
       → Handed w.sent c held → Handed w.sent d held → c ≡ d

@@ -25,16 +25,17 @@ use Rattle.kx_batch.specs.Batch.{batch_limit, batch_of}
 use Rattle.kx_batch.specs.Build.{batch_text, fields_text, made, whole_text}
 use Rattle.kx_batch.specs.Record.{Record}
 use Rattle.kx_model.specs.Disk.{GrowsTo, Reopening, Reopens, CannotRead, CannotWrite, Store, Works}
-use Rattle.kx_model.specs.Disk.{Fails, appended, is_written, left_behind, works}
+use Rattle.kx_model.specs.Disk.{Fails, CannotLoad, appended, is_written, left_behind, works}
 use Rattle.kx_model.specs.Groups.{Membership, Already, Refuses, Changes, judge_join, judge_leave}
 use Rattle.kx_model.specs.Groups.{membership_text, offset_fetch, record_of}
 use Rattle.kx_model.specs.Log.{Entry, Stored, end, entries}
 use Rattle.kx_model.specs.PartitionNode.{Partition, Served, answers_request, at_end}
 use Rattle.kx_model.specs.PartitionNode.{changed, data_takes, entries_of, marked_with, marker_of}
 use Rattle.kx_model.specs.PartitionNode.{offsets_takes, on_add_reply}
-use Rattle.kx_model.specs.PartitionNode.{fetch_reply, join_reply, on_request, parks}
+use Rattle.kx_model.specs.PartitionNode.{fetch_reply, join_reply, node_takes, on_request, parks}
 use Rattle.kx_model.specs.PartitionNode.{partition_restarts, partition_takes}
-use Rattle.kx_model.specs.PartitionNode.{passes_on, puts, reopened, resumes, taken}
+use Rattle.kx_model.specs.PartitionNode.{passes_on, puts, refused_produce, reopened, resumes}
+use Rattle.kx_model.specs.PartitionNode.{taken}
 use Rattle.kx_model.specs.Page.{Page, fetched}
 use Rattle.kx_model.specs.Produce.{Appends, Answers, MarkerVerdict, Verdict, Next, Duplicate}
 use Rattle.kx_model.specs.Produce.{Unverified, Refused, judge_marker, judge_text, stored_at}
@@ -42,7 +43,6 @@ use Rattle.kx_model.specs.Produce.{text_of}
 use Rattle.kx_model.specs.Verification.{Parked, Request, is_for, is_full, judge_request, pair_of}
 use Rattle.kx_model.specs.Verification.{parked_for, partition_of, passed_on, reply_to, request_of}
 use Rattle.kx_model.specs.Verification.{same_request, with_parked, without}
-use Rattle.kx_model.specs.World.{node_takes}
 use Rattle.kx_model.proofs.NodeSteps.{grows_on, same}
 use Rattle.kx_headline.proofs.Verdicts.{Tells, request_tells}
 
@@ -83,16 +83,16 @@ module _ (number : ℕ) (p : Partition) (input : Option Message) where
   -- how a request is judged: as it comes, or on the coordinator's yes to its pair
   pub data Judged (r : Request) : Bool → Type 0 where
     at_first : Judged r false
-    on_yes : (q : ℕ) (txn : List ℕ) (held : Held)
-        → input ≡ Some (msg.AddReply q txn held code.NoError) → pair_of r ≡ Some held
+    on_yes : (txn : List ℕ) (held : Held)
+        → input ≡ Some (msg.AddReply number txn held code.NoError) → pair_of r ≡ Some held
         → Judged r true
 
   -- the text that may be appended to a log
   pub data May (log : List Stored) : List ℕ → Type 0 where
     request : (r : Request) (verified : Bool) → Origin r → Judged r verified
         → judge_request (entries log) verified r ≡ Next → May log r.text
-    marker : (q : ℕ) (txn : List ℕ) (held : Held) (coordinator : ℤ) (outcome : Outcome)
-        → input ≡ Some (msg.WriteMarker q txn held coordinator outcome)
+    marker : (txn : List ℕ) (held : Held) (coordinator : ℤ) (outcome : Outcome)
+        → input ≡ Some (msg.WriteMarker number txn held coordinator outcome)
         → judge_marker (entries log) (marker_of held coordinator outcome) ≡ Appends
         → May log (text_of (marker_of held coordinator outcome))
     plain : (text : List ℕ) → HasNoProducer text → judge_text (entries log) true text ≡ Next
@@ -129,14 +129,14 @@ module _ (number : ℕ) (p : Partition) (input : Option Message) where
     asks : (m : Message) (r : Request) (txn : List ℕ) (held : Held) → input ≡ Some m
         → request_of m ≡ Some r → partition_of r.target ≡ number → r.txn ≡ Some txn
         → pair_of r ≡ Some held → Out log (msg.AddPartition txn held number)
-    marked : (q : ℕ) (txn : List ℕ) (held : Held) (coordinator : ℤ) (outcome : Outcome)
-        → input ≡ Some (msg.WriteMarker q txn held coordinator outcome)
+    marked : (txn : List ℕ) (held : Held) (coordinator : ℤ) (outcome : Outcome)
+        → input ≡ Some (msg.WriteMarker number txn held coordinator outcome)
         → judge_marker (entries p.disk.kept) (marker_of held coordinator outcome) ≡ Appends
         → GrowsTo (p.disk.kept
         ++ behind p.disk.kept (text_of (marker_of held coordinator outcome)) ∷ []) log
         → Out log (msg.MarkerReply number txn held code.NoError)
-    unmarked : (q : ℕ) (txn : List ℕ) (held : Held) (coordinator : ℤ) (outcome : Outcome)
-        (c : ErrorCode) → input ≡ Some (msg.WriteMarker q txn held coordinator outcome)
+    unmarked : (txn : List ℕ) (held : Held) (coordinator : ℤ) (outcome : Outcome)
+        (c : ErrorCode) → input ≡ Some (msg.WriteMarker number txn held coordinator outcome)
         → (c ≡ code.NoError → judge_marker (entries p.disk.kept)
         (marker_of held coordinator outcome) ≡ Answers code.NoError)
         → Out log (msg.MarkerReply number txn held c)
@@ -179,12 +179,12 @@ module _ (number : ℕ) (p : Partition) (input : Option Message) where
   out_later log later g x (elsewhere client correlation partition) =
       elsewhere client correlation partition
   out_later log later g x (asks m r txn held i e n t h) = asks m r txn held i e n t h
-  out_later log later g x (marked q txn held coordinator outcome i j h) =
-      marked q txn held coordinator outcome i j
+  out_later log later g x (marked txn held coordinator outcome i j h) =
+      marked txn held coordinator outcome i j
       (grows_on (p.disk.kept
       ++ behind p.disk.kept (text_of (marker_of held coordinator outcome)) ∷ []) log later h g)
-  out_later log later g x (unmarked q txn held coordinator outcome c i h) =
-      unmarked q txn held coordinator outcome c i h
+  out_later log later g x (unmarked txn held coordinator outcome c i h) =
+      unmarked txn held coordinator outcome c i h
   out_later log later g x (reads y h) = reads y h
 
   ------ an append
@@ -202,6 +202,7 @@ module _ (number : ℕ) (p : Partition) (input : Option Message) where
   appended_hidden q text st may false Works = gone
   appended_hidden q text st may false (Fails true) = left text may
   appended_hidden q text st may false (Fails false) = gone
+  appended_hidden q text st may false CannotLoad = gone
 
   appended_state : (q : Partition) (store : Store) (text : List ℕ) → State q
       → May q.disk.kept text → State (with_text q store text)
@@ -345,10 +346,10 @@ module _ (number : ℕ) (p : Partition) (input : Option Message) where
   others_wait : (held : Held) → State p → All Waits (without p.parked held)
   others_wait held st = All-filter (λ x. not (is_for held x)) Waits p.parked st.parked
 
-  on_yes_does : (store : Store) (n : ℕ) (txn : List ℕ) (held : Held) → State p
-      → input ≡ Some (msg.AddReply n txn held code.NoError)
+  on_yes_does : (store : Store) (txn : List ℕ) (held : Held) → State p
+      → input ≡ Some (msg.AddReply number txn held code.NoError)
       → Does p (on_add_reply number p store held code.NoError)
-  on_yes_does store n txn held st i =
+  on_yes_does store txn held st i =
       let d = resumes_does (record p { parked = without p.parked held }) store
       (parked_for p.parked held)
       (record { log = st.log; hidden = st.hidden; parked = others_wait held st }) waiting in
@@ -357,7 +358,7 @@ module _ (number : ℕ) (p : Partition) (input : Option Message) where
       resumed : (x : Parked) → Waits x → is_for held x ≡ true → Resumes x
       resumed x w h = record {
         origin = w.origin;
-        judged = on_yes n txn held i (w.paired ∙ ap Some (same_held held x h));
+        judged = on_yes txn held i (w.paired ∙ ap Some (same_held held x h));
       }
 
       waiting : All Resumes (parked_for p.parked held)
@@ -380,38 +381,38 @@ module _ (number : ℕ) (p : Partition) (input : Option Message) where
         (parked_for p.parked held) (All-filter (is_for held) Waits p.parked st.parked));
   }
 
-  on_reply_does : (store : Store) (n : ℕ) (txn : List ℕ) (held : Held) (c : ErrorCode) → State p
-      → input ≡ Some (msg.AddReply n txn held c) → Does p (on_add_reply number p store held c)
-  on_reply_does store n txn held code.NoError st i = on_yes_does store n txn held st i
-  on_reply_does store n txn held c st i = on_no_does store held c st (λ e. cc)
+  on_reply_does : (store : Store) (txn : List ℕ) (held : Held) (c : ErrorCode) → State p
+      → input ≡ Some (msg.AddReply number txn held c) → Does p (on_add_reply number p store held c)
+  on_reply_does store txn held code.NoError st i = on_yes_does store txn held st i
+  on_reply_does store txn held c st i = on_no_does store held c st (λ e. cc)
 
   ------ markers
 
-  on_marker_does : (store : Store) (n : ℕ) (txn : List ℕ) (held : Held) (coordinator : ℤ)
+  on_marker_does : (store : Store) (txn : List ℕ) (held : Held) (coordinator : ℤ)
       (outcome : Outcome) (v : MarkerVerdict) → State p
-      → input ≡ Some (msg.WriteMarker n txn held coordinator outcome)
+      → input ≡ Some (msg.WriteMarker number txn held coordinator outcome)
       → judge_marker (entries_of p) (marker_of held coordinator outcome) ≡ v
       → Does p (
         (marked_with p store (marker_of held coordinator outcome) v).partition,
         msg.MarkerReply number txn held
             (marked_with p store (marker_of held coordinator outcome) v).code ∷ [],
       )
-  on_marker_does store n txn held coordinator outcome (Answers c) st i j =
+  on_marker_does store txn held coordinator outcome (Answers c) st i j =
       says p (msg.MarkerReply number txn held c) st
-      (unmarked n txn held coordinator outcome c i (λ e. j ∙ ap Answers e))
-  on_marker_does store n txn held coordinator outcome Appends st i j =
+      (unmarked txn held coordinator outcome c i (λ e. j ∙ ap Answers e))
+  on_marker_does store txn held coordinator outcome Appends st i j =
       let log = p.disk.kept in
       let text = text_of (marker_of held coordinator outcome) in
       let later = log ++ behind log text ∷ [] in
       record {
-        state = appended_state p store text st (marker n txn held coordinator outcome i j);
+        state = appended_state p store text st (marker txn held coordinator outcome i j);
         grows = appended_grows p store text;
         out = by_written (is_written p.disk store) log later
             (λ after c offset. All (Out after) (msg.MarkerReply number txn held c ∷ [])) (at_end p)
             (one later (msg.MarkerReply number txn held code.NoError)
-            (marked n txn held coordinator outcome i j (same later)))
+            (marked txn held coordinator outcome i j (same later)))
             (one log (msg.MarkerReply number txn held code.KafkaStorageError)
-            (unmarked n txn held coordinator outcome code.KafkaStorageError i
+            (unmarked txn held coordinator outcome code.KafkaStorageError i
             (λ e. absurd (storage_fails e))));
       }
 
@@ -492,17 +493,30 @@ module _ (number : ℕ) (p : Partition) (store : Store) (paired : All IsPaired p
   abbrev before : (m : Message) → State number p (Some m) p
   before m = was number p (Some m) paired
 
+  is_here : (n : ℕ) → (n == number) ≡ true → n ≡ number
+  is_here n e = grind (arith, nat_tests, e)
+
   takes_does : (m : Message) → DoesWith m (partition_takes number p store m)
   takes_does (msg.AddReply n txn held c) =
       let m = msg.AddReply n txn held c in
-      on_reply_does number p (Some m) store n txn held c (before m) refl
+      cond_both (n == number) _ _ (DoesWith m)
+      (λ e. on_reply_does number p (Some m) store txn held c (before m)
+      (ap (λ x. Some (msg.AddReply x txn held c)) (is_here n e)))
+      (λ e. silent number p (Some m) p (before m))
   takes_does (msg.WriteMarker n txn held coordinator outcome) =
       let m = msg.WriteMarker n txn held coordinator outcome in
-      on_marker_does number p (Some m) store n txn held coordinator outcome
-      (judge_marker (entries_of p) (marker_of held coordinator outcome)) (before m) refl refl
+      cond_both (n == number) _ _ (DoesWith m)
+      (λ e. on_marker_does number p (Some m) store txn held coordinator outcome
+      (judge_marker (entries_of p) (marker_of held coordinator outcome)) (before m)
+      (ap (λ x. Some (msg.WriteMarker x txn held coordinator outcome)) (is_here n e)) refl)
+      (λ e. silent number p (Some m) p (before m))
   takes_does (msg.Fetch client correlation n from room committed) =
       let m = msg.Fetch client correlation n from room committed in
-      fetch_does m client correlation (fetched p.disk.kept from (min room batch_limit) committed)
+      let none = fetch_reply client correlation n (Err code.UnknownTopicOrPartition) in
+      cond_both (n == number) _ _ (DoesWith m)
+      (λ e. fetch_does m client correlation
+      (fetched p.disk.kept from (min room batch_limit) committed))
+      (λ e. says number p (Some m) p none (before m) (reads none tt))
     where
       fetch_does : (m : Message) (client correlation : ℕ) (r : Result Page ErrorCode)
           → DoesWith m (p, fetch_reply client correlation number r ∷ [])
@@ -564,6 +578,12 @@ module _ (p : Partition) (store : Store) (paired : All IsPaired p.parked) where
       let a = offset_fetch (entries_of p) group partition stable in
       let reply = msg.OffsetFetchReply client correlation a.code a.offset in
       says offsets_partition p (Some m) p reply (at_offsets m) (reads reply tt)
+  offsets_takes_does (msg.Produce client correlation txn partition text) =
+      let m = msg.Produce client correlation txn partition text in
+      cond_both (partition == offsets_partition) _ _ (OffsetsDoes m)
+      (λ e. silent offsets_partition p (Some m) p (at_offsets m))
+      (λ e. says offsets_partition p (Some m) p (refused_produce client correlation partition)
+      (at_offsets m) (elsewhere client correlation partition))
   offsets_takes_does m = takes_does offsets_partition p store paired m
 
 -- a partition does no more than this with a message

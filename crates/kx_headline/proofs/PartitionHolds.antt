@@ -6,14 +6,12 @@ use Rattle.std.proofs.Common.{cond, pos}
 use Rattle.std.specs.Prelude.{not}
 use Rattle.std.specs.Ordering.{int_eq}
 use Rattle.std.proofs.lemmas.List.Elements.{All-contains, All-weaker}
-use Rattle.kx_wire.specs.Receiver.{receiver_of}
 use Rattle.kx_wire.specs.declared.code.ErrorCode.{ErrorCode}
 use Rattle.kx_wire.specs.declared.code.ErrorCode.TheVariants.{IllegalGeneration, NoError}
 use Rattle.kx_wire.specs.declared.code.ErrorCode.TheVariants.{UnknownMemberId}
 use Rattle.kx_wire.specs.declared.message.Held.{Held}
 use Rattle.kx_wire.specs.declared.message.Message.{Message}
 use Rattle.kx_wire.specs.declared.message.Message.TheVariants as msg
-use Rattle.kx_wire.specs.declared.message.Node.TheVariants as node
 use Rattle.kx_wire.specs.declared.outcome.Outcome.{Outcome}
 use Rattle.kx_model.specs.Log.{Entry, MarkerFits, Stored, entries}
 use Rattle.kx_model.specs.PartitionNode.{Partition, marker_of}
@@ -122,31 +120,23 @@ module _ (sent later : List Message) (number : ℕ)
 
 ------ each step keeps it
 
--- a message that comes is one that was handed out, to this partition
-pub data Comes (sent : List Message) (number : ℕ) : Option Message → Type 0 where
-  no_message : Comes sent number None
-  message : (m : Message) → Contains sent m → receiver_of m ≡ node.Partition number
-      → Comes sent number (Some m)
+-- a message that comes is one that was handed out
+pub data Comes (sent : List Message) : Option Message → Type 0 where
+  no_message : Comes sent None
+  message : (m : Message) → Contains sent m → Comes sent (Some m)
 
 module _ (sent : List Message) (number : ℕ) (p : Partition) (input : Option Message)
-    (holds : PartitionHolds sent number p) (comes : Comes sent number input) where
-  pub handed_out : (m : Message) → input ≡ Some m
-      → Contains sent m × (receiver_of m ≡ node.Partition number)
+    (holds : PartitionHolds sent number p) (comes : Comes sent input) where
+  pub handed_out : (m : Message) → input ≡ Some m → Contains sent m
   handed_out m e = by input comes e
     where
-      by : (o : Option Message) → Comes sent number o → o ≡ Some m
-          → Contains sent m × (receiver_of m ≡ node.Partition number)
+      by : (o : Option Message) → Comes sent o → o ≡ Some m → Contains sent m
       by o no_message e = absurd cc
-      by o (message n c r) e =
-          let same : n ≡ m = cc in
-          subst (λ x. Contains sent x × (receiver_of x ≡ node.Partition number)) same (c, r)
-
-  same_number : (a b : ℕ) → node.Partition a ≡ node.Partition b → a ≡ b
-  same_number a b e = cc
+      by o (message n c) e = let same : n ≡ m = cc in subst (Contains sent) same c
 
   pub origin_asked : (r : Request) → does.Origin number p input r → WasAsked sent number r
   origin_asked r (does.came m i e n) =
-      record { message = m; handed = (handed_out m i).0; is = e; here = n }
+      record { message = m; handed = handed_out m i; is = e; here = n }
   origin_asked r (does.waited x c e) =
       subst (WasAsked sent number) e
       (All-contains (Waiting sent number) p.parked x holds.parked c).request
@@ -154,21 +144,16 @@ module _ (sent : List Message) (number : ℕ) (p : Partition) (input : Option Me
   judged_listed : (r : Request) (verified : Bool) → does.Judged number p input r verified
       → IsListed sent number r verified
   judged_listed r verified does.at_first = unlisted
-  judged_listed r verified (does.on_yes q txn held i e) =
-      let h = handed_out (msg.AddReply q txn held NoError) i in
-      listed txn held
-      (subst (λ n. Contains sent (msg.AddReply n txn held NoError)) (same_number q number h.1) h.0)
-      e
+  judged_listed r verified (does.on_yes txn held i e) =
+      listed txn held (handed_out (msg.AddReply number txn held NoError) i) e
 
   may_justified : (log : List Stored) (text : List ℕ) → does.May number p input log text
       → Justified sent number log text
   may_justified log text (does.request r verified o j e) =
       asked r verified (origin_asked r o) (judged_listed r verified j) e
-  may_justified log text (does.marker q txn held coordinator outcome i e) =
-      let h = handed_out (msg.WriteMarker q txn held coordinator outcome) i in
+  may_justified log text (does.marker txn held coordinator outcome i e) =
       ended txn held coordinator outcome
-      (subst (λ n. Contains sent (msg.WriteMarker n txn held coordinator outcome))
-      (same_number q number h.1) h.0) e
+      (handed_out (msg.WriteMarker number txn held coordinator outcome) i) e
   may_justified log text (does.plain text' n e) = unowned text' n e
 
   found_built : (o : Option Stored) (stored : Stored) → Left sent number p.disk.kept o

@@ -167,7 +167,7 @@ answered_reached log m e =
 ------ what a step promises
 
 module _ (sent : List Message) (number : ℕ) (p : Partition) (input : Option Message)
-    (holds : PartitionHolds sent number p) (comes : Comes sent number input)
+    (holds : PartitionHolds sent number p) (comes : Comes sent input)
     (fit : MarkersFit sent) where
   done_stored : (log : List Stored) (r : Request) (earlier : List Stored) (verified : Bool)
       → does.Origin number p input r → judge_request (entries earlier) verified r ≡ Next
@@ -209,17 +209,17 @@ module _ (sent : List Message) (number : ℕ) (p : Partition) (input : Option Me
             (ap (judge_entry (entries earlier) verified) (sym is) ∙ read.judged));
       }
 
-  marked_reached : (log : List Stored) (q : ℕ) (txn : List ℕ) (held : Held) (coordinator : ℤ)
-      (outcome : Outcome) → input ≡ Some (msg.WriteMarker q txn held coordinator outcome)
+  marked_reached : (log : List Stored) (txn : List ℕ) (held : Held) (coordinator : ℤ)
+      (outcome : Outcome) → input ≡ Some (msg.WriteMarker number txn held coordinator outcome)
       → judge_marker (entries p.disk.kept) (marker_of held coordinator outcome) ≡ Appends
       → GrowsTo (p.disk.kept
       ++ behind p.disk.kept (text_of (marker_of held coordinator outcome)) ∷ []) log
       → AtLeast held.epoch (epoch_of (entries log) held.id)
-  marked_reached log q txn held coordinator outcome i j g =
+  marked_reached log txn held coordinator outcome i j g =
       let m = marker_of held coordinator outcome in
-      let handed = (handed_out sent number p input holds comes
-      (msg.WriteMarker q txn held coordinator outcome) i).0 in
-      let is = marker_is p.disk.kept m (fit q txn held coordinator outcome handed) j in
+      let there = handed_out sent number p input holds comes
+      (msg.WriteMarker number txn held coordinator outcome) i in
+      let is = marker_is p.disk.kept m (fit number txn held coordinator outcome there) j in
       reaches (entries log) (Control m) held.id held.epoch
       (subst (Contains (entries log)) is
       (last_there p.disk.kept log (behind p.disk.kept (text_of m)) g))
@@ -238,9 +238,9 @@ module _ (sent : List Message) (number : ℕ) (p : Partition) (input : Option Me
       refusal_promises sent number log r c (negsuc 0) r.target n
   out_promises log grows m (does.elsewhere client correlation partition) = tt
   out_promises log grows m (does.asks x r txn held i e n t h) = tt
-  out_promises log grows m (does.marked q txn held coordinator outcome i j g) =
-      (refl, marked_reached log q txn held coordinator outcome i j g)
-  out_promises log grows m (does.unmarked q txn held coordinator outcome c i j) =
+  out_promises log grows m (does.marked txn held coordinator outcome i j g) =
+      (refl, marked_reached log txn held coordinator outcome i j g)
+  out_promises log grows m (does.unmarked txn held coordinator outcome c i j) =
       marker_promises sent number log txn held c
       (λ e. reached_stays p.disk.kept log held.id held.epoch grows
       (answered_reached (entries p.disk.kept) (marker_of held coordinator outcome) (j e)))

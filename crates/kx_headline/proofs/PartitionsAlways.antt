@@ -20,10 +20,11 @@ use Rattle.kx_model.specs.Groups.{judge_drop}
 use Rattle.kx_model.specs.Headline.{Always}
 use Rattle.kx_model.specs.Log.{entries}
 use Rattle.kx_model.specs.PartitionNode.{Partition, Served, changed, empty_partition, entries_of}
-use Rattle.kx_model.specs.PartitionNode.{partition_restarts, puts}
+use Rattle.kx_model.specs.PartitionNode.{node_takes, partition_restarts, puts}
 use Rattle.kx_model.specs.Producers.{epoch_of}
-use Rattle.kx_model.specs.World.{World, entries_at, log_at, log_in, node_takes, notes, partition_at}
-use Rattle.kx_model.specs.World.{plain_text, start, with_client, with_coordinator, with_partition}
+use Rattle.kx_model.specs.Step.{plain_text}
+use Rattle.kx_model.specs.World.{World, entries_at, log_at, log_in, notes, partition_at, start}
+use Rattle.kx_model.specs.World.{with_client, with_coordinator, with_partition}
 use Rattle.kx_model.proofs.NodeSteps.{same}
 use Rattle.kx_model.proofs.Schedules.{placed_with}
 use Rattle.kx_headline.proofs.CoordinatorAlways.{CoordinatorStands, stands_first, stands_next}
@@ -31,7 +32,7 @@ use Rattle.kx_headline.proofs.CoordinatorAlways.{turn_does}
 use Rattle.kx_headline.proofs.CoordinatorDoes
 use Rattle.kx_headline.proofs.CoordinatorDoes.{IsCoordinators, Out}
 use Rattle.kx_headline.proofs.EventDoes.{PartitionTurn, Turn, always, clients, coordinators, drops}
-use Rattle.kx_headline.proofs.EventDoes.{making, nobodys, partitions, puts_values, restarts, takes}
+use Rattle.kx_headline.proofs.EventDoes.{making, nobodys, partitions, puts_values, restarts}
 use Rattle.kx_laws.proofs.Membership.{find_tells}
 use Rattle.kx_laws.proofs.LogRules.{AtLeast}
 use Rattle.kx_headline.proofs.MarkersFit.{markers_fit}
@@ -82,13 +83,13 @@ module _ (w : World) (number : ℕ) (p : Partition) (fit : MarkersFit w.sent)
   as_it_was = was number p None paired
 
   turn_holds : (s : Served) → PartitionTurn w number p s → TurnHolds s
-  turn_holds s (takes store m c r) =
+  turn_holds s (PartitionTurn.takes store m c) =
       let d = node_does number p store m paired in
       let served = node_takes number p store m in
       record {
-        after = state_holds w.sent number p (Some m) before (message m c r) served.0 d.state;
+        after = state_holds w.sent number p (Some m) before (message m c) served.0 d.state;
         grows = d.grows;
-        promises = step_promises w.sent number p (Some m) before (message m c r) fit served d;
+        promises = step_promises w.sent number p (Some m) before (message m c) fit served d;
       }
   turn_holds s (drops group member store at a b) =
       let d = changed_does number p None p store (judge_drop (entries_of p) group member)
@@ -117,6 +118,11 @@ module _ (w : World) (number : ℕ) (p : Partition) (fit : MarkersFit w.sent)
         grows = d.grows;
         promises = All-nil (Promises w.sent number _);
       }
+  turn_holds s PartitionTurn.passes = record {
+    after = before;
+    grows = same p.disk.kept;
+    promises = All-nil (Promises w.sent number _);
+  }
 
 ------ a later world
 

@@ -16,7 +16,6 @@ use Rattle.kx_wire.specs.declared.outcome.Outcome.TheVariants.{Commit}
 use Rattle.kx_model.specs.Client.{Client, new_client}
 use Rattle.kx_model.specs.Coordinator.{Complete, Empty, Ongoing, Prepare, Row, State}
 use Rattle.kx_model.specs.Coordinator.{Written, ends, next_id}
-use Rattle.kx_model.specs.Requests.{held_after}
 use Rattle.kx_model.specs.Headline.{Always}
 use Rattle.kx_model.specs.CoordinatorNode.{notes_of}
 use Rattle.kx_model.specs.World.{World, is_new, notes, start, with_client, with_coordinator}
@@ -36,6 +35,7 @@ use Rattle.kx_headline.proofs.CoordinatorGrows.{history_in_range}
 use Rattle.kx_headline.proofs.CoordinatorRows.{Ends, Names, above_own, ends_tells, next, one_higher}
 use Rattle.kx_headline.proofs.CoordinatorRows.{own, replaced}
 use Rattle.kx_headline.proofs.CoordinatorSound.{Shape}
+use Rattle.kx_headline.proofs.CoordinatorTables.{Gives, gives_own, gives_next}
 use Rattle.kx_headline.proofs.EventDoes.{ClientTurn, Turn, always}
 use Rattle.kx_headline.proofs.EventDoes.{clients, commands, coordinators, hears, making, nobodys}
 use Rattle.kx_headline.proofs.EventDoes.{partitions}
@@ -78,8 +78,10 @@ module _ (w : World) (stands : CoordinatorStands w) where
     epoch = let low = low_epoch r there in omega (arith, low, e);
   }
 
-  after_fits : (r : Row) → Contains (notes w) (Written r) → HeldFits (held_after r)
-  after_fits r there = by r.next refl
+  after_fits : (r : Row) → Contains (notes w) (Written r) → (held : Held) → Gives r held
+      → HeldFits held
+  after_fits r there held gives_own = named_fits r there r.id r.epoch (own refl) (omega arith)
+  after_fits r there held gives_next = by r.next refl
     where
       by : (n : Option ℕ) → r.next ≡ n → HeldFits (record {
         id = unwrap_or n r.id;
@@ -102,12 +104,17 @@ module _ (w : World) (stands : CoordinatorStands w) where
   handed_fits c held (by_end k there) =
       let g : GivesNext w.sent (notes w) c k held =
       says (msg.EndReply c k code.NoError (Some held)) there in
-      subst HeldFits (sym g.given) (after_fits g.row g.written)
+      after_fits g.row g.written held g.given
 
   -- the pair after a row that ends a transaction is above the transaction's
   above_ended : (id epoch : ℕ) (r : Row) → Contains (notes w) (Written r) → Ends id epoch r
-      → IsBelow (record { id = id; epoch = epoch }) (held_after r)
-  above_ended id epoch r there ends = by r.next refl ends
+      → (held : Held) → Gives r held → IsBelow (record { id = id; epoch = epoch }) held
+  above_ended id epoch r there (one_higher a b d) held gives_own =
+      earlier_epoch (sym a) (omega (arith, b))
+  above_ended id epoch r there (replaced a b d f) held gives_own =
+      let low = ((stands_sound stands).shape r there).previous_below id b in
+      earlier_id (omega (arith, low))
+  above_ended id epoch r there ends held gives_next = by r.next refl ends
     where
       shape : Shape r
       shape = (stands_sound stands).shape r there
@@ -138,9 +145,8 @@ module _ (w : World) (stands : CoordinatorStands w) where
         ending = g.ending;
         outcome = g.outcome;
         asked = g.asked;
-        below = subst (IsBelow g.ending) (sym g.given)
-            (above_ended g.ending.id g.ending.epoch g.row g.written
-            (ends_tells g.ending.id g.ending.epoch g.row g.its_end));
+        below = above_ended g.ending.id g.ending.epoch g.row g.written
+            (ends_tells g.ending.id g.ending.epoch g.row g.its_end) held g.given;
       }
 
 ------ what nobody's client sent
@@ -332,10 +338,15 @@ module _ (w : World) (h : RequestsStand w) where
       (λ held there. handed_fits w h.holders.stands c.number held
       (subst (λ o. IfSome o (Handed w.sent c.number)) there mine.held))
       one_load what after messages e
-  turn_moves c after messages k mine number (hears m there to) = record {
+  turn_moves c after messages k mine number (hears m there) = record {
     number = number;
     knows = subst (λ l. Knows l after) (sym (append-nil w.sent))
-        (reply_knows w.sent c k (raised w h.holders.stands c.number) m there to);
+        (reply_knows w.sent c k (raised w h.holders.stands c.number) m there);
+    out = λ x none. absurd (no_element x none);
+  }
+  turn_moves c after messages k mine number ClientTurn.passes = record {
+    number = number;
+    knows = subst (λ l. Knows l c) (sym (append-nil w.sent)) k;
     out = λ x none. absurd (no_element x none);
   }
 

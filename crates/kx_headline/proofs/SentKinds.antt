@@ -137,11 +137,14 @@ join_sends client correlation group log other = joined
 partition_sends : (number : ℕ) (p : Partition) (store : Store) (m : Message)
     → ArePartitions (partition_takes number p store m).1
 partition_sends number p store (msg.AddReply partition txn held code) =
-    add_reply_sends number p store held code
+    cond_both (partition == number) _ _ (λ (s : Served). ArePartitions s.1)
+    (λ e. add_reply_sends number p store held code) (λ e. All-nil IsPartitions)
 partition_sends number p store (msg.WriteMarker partition txn held coordinator outcome) =
-    one _ marked
+    cond_both (partition == number) _ _ (λ (s : Served). ArePartitions s.1)
+    (λ e. one _ marked) (λ e. All-nil IsPartitions)
 partition_sends number p store (msg.Fetch client correlation partition from room committed) =
-    one _ (fetch_sends client correlation number _)
+    cond_both (partition == number) _ _ (λ (s : Served). ArePartitions s.1)
+    (λ e. one _ (fetch_sends client correlation number _)) (λ e. one _ fetch)
 partition_sends number p store m = All-nil IsPartitions
 
 data_sends : (number : ℕ) (p : Partition) (store : Store) (m : Message)
@@ -167,18 +170,22 @@ offsets_sends p store (msg.Join client correlation group) =
 offsets_sends p store (msg.Leave client correlation group) = one _ left
 offsets_sends p store (msg.OffsetFetch client correlation group partition stable) =
     one _ offset_there
+offsets_sends p store (msg.Produce client correlation txn partition text) =
+    cond_both (partition == offsets_partition) _ _ (λ (s : Served). ArePartitions s.1)
+    (λ e. All-nil IsPartitions) (λ e. one _ produced)
 offsets_sends p store m = partition_sends offsets_partition p store m
 
 -- a partition's turn hands out messages of its kinds
 pub turn_sends : (w : World) (number : ℕ) (p : Partition) (s : Served)
     → PartitionTurn w number p s → All IsPartitions s.1
-turn_sends w number p s (takes store m c r) =
+turn_sends w number p s (takes store m c) =
     cond_both (number == offsets_partition) (offsets_takes p store m)
     (data_takes number p store m) (λ (s : Served). ArePartitions s.1)
     (λ e. offsets_sends p store m) (λ e. data_sends number p store m)
 turn_sends w number p s (drops group member store e a b) = All-nil IsPartitions
 turn_sends w number p s (puts_values value values store e fits) = All-nil IsPartitions
 turn_sends w number p s (restarts how) = All-nil IsPartitions
+turn_sends w number p s PartitionTurn.passes = All-nil IsPartitions
 
 ------ clients
 
@@ -329,4 +336,5 @@ pub client_sends : (w : World) (c after : Client) (messages : List Message)
     → ClientTurn w c after messages → WaitsForOwn c → WaitsForOwn after × All IsClients messages
 client_sends w c after messages (commands what d ms fits e) h =
     command_sends c what after messages h e
-client_sends w c after messages (hears m there r) h = (reply_waits c m h, All-nil IsClients)
+client_sends w c after messages (hears m there) h = (reply_waits c m h, All-nil IsClients)
+client_sends w c after messages ClientTurn.passes h = (h, All-nil IsClients)
