@@ -58,9 +58,27 @@ fn message(alloc: Global, bytes: &[u8]) -> Result<String, StepFault> {
     Ok(format!(in alloc; "{message}")?)
 }
 
+// The fields of a Join or of an EndReply, by name.
 fn fields(alloc: Global, bytes: &[u8]) -> Result<String, StepFault> {
-    let message = message_of(alloc, bytes)?;
-    Ok(format!(in alloc; "{message:?}")?)
+    match message_of(alloc, bytes)? {
+        Message::Join {
+            client,
+            correlation,
+            group,
+        } => {
+            Ok(format!(in alloc; "Join client {client} correlation {correlation} group {group}")?)
+        }
+        Message::EndReply {
+            client,
+            correlation,
+            code,
+            held: Some(held),
+        } => {
+            let by = format!(in alloc; "EndReply client {client} correlation {correlation}")?;
+            Ok(format!(in alloc; "{by} code {code} id {} epoch {}", held.id, held.epoch)?)
+        }
+        _ => Err(StepFault::Unknown),
+    }
 }
 
 // The next number of a linear congruential generator, by its high bits.
