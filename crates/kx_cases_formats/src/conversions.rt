@@ -8,7 +8,7 @@ ghost use Rattle.std.specs.BTreeMap as tree;
 ghost use Rattle.std.specs.HashMap as table;
 ghost use Rattle.kx_wire.specs.Ranges.{IsDataPartition, IsTimeout, offsets_partition};
 ghost use Rattle.kx_wire.specs.Ranges.{partition_text};
-ghost use Rattle.kx_wire.specs.declared.fault.ValueFault.{ValueFault};
+ghost use Rattle.kx_message.specs.declared.fault.ValueFault.{ValueFault};
 
 use kx_wire::{
     Epoch, ErrorCode, GroupId, Outcome, PartitionId, ProducerId, Timeout, TxnId, ValueFault,
