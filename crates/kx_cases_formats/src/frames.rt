@@ -60,7 +60,8 @@ fn message(alloc: Global, bytes: &[u8]) -> Result<String, StepFault> {
 
 // The fields of a Join or of an EndReply, by name.
 fn fields(alloc: Global, bytes: &[u8]) -> Result<String, StepFault> {
-    match message_of(alloc, bytes)? {
+    let message = message_of(alloc, bytes)?;
+    match &message {
         Message::Join {
             client,
             correlation,
