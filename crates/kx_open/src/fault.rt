@@ -1,5 +1,6 @@
 //! Why a transaction can't begin.
 ghost use Rattle.std.specs.Prelude.{◌≡◌};
+ghost use Rattle.kx_open.specs.Faults.{number_of};
 ghost use Rattle.kx_open.specs.declared.fault.BeginFault.{BeginFault};
 
 use crate::open::OpenTxn;
@@ -15,6 +16,15 @@ pub enum BeginFault {
     /// Memory ran out.
     #[error("out of memory")]
     Memory = 2,
+}
+
+impl BeginFault {
+    /// The number of the fault, 1 to 2.
+    pub fn number(self) -> u8
+        ensures { result ≡ number_of self }
+    {
+        self as u8
+    }
 }
 
 /// Want of memory is [`BeginFault::Memory`].

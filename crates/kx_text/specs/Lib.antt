@@ -3,3 +3,4 @@ pub mod Command
 pub mod World
 pub mod Script
 pub mod Dump
+pub mod Faults

@@ -7,6 +7,7 @@ ghost use Rattle.kx_batch.specs.Batch.{Spelled, batch_at};
 ghost use Rattle.kx_text.specs.Dump.{AreBatches, Dumps, batch_line, batch_text_of, fault_line};
 ghost use Rattle.kx_text.specs.Dump.{fault_name, field_text, hex_of, kind_of, producer_text};
 ghost use Rattle.kx_text.specs.Dump.{record_line};
+ghost use Rattle.kx_text.specs.Faults.{dump_fault_number};
 ghost use Rattle.kx_text.specs.declared.dump.DumpFault.TheVariants as dump_fault;
 
 use crate::answers::offset_of;
@@ -30,6 +31,20 @@ pub enum DumpFault {
     /// never answers it.
     #[error("out of memory")]
     Memory,
+}
+
+impl DumpFault {
+    /// The number of the fault, by which another program knows it: `Write` 1, `Batch` 2, whichever
+    /// place and reason, and `Memory` 3.
+    pub fn number(self) -> u8
+        ensures { result ≡ dump_fault_number self }
+    {
+        match self {
+            DumpFault::Write => 1,
+            DumpFault::Batch(_, _) => 2,
+            DumpFault::Memory => 3,
+        }
+    }
 }
 
 impl From<io::Error> for DumpFault {

@@ -1,4 +1,6 @@
 //! Why a script ends before its last line.
+ghost use Rattle.std.specs.Prelude.{◌≡◌};
+ghost use Rattle.kx_text.specs.Faults.{script_fault_number};
 
 use thiserror::Error;
 
@@ -20,4 +22,19 @@ pub enum ScriptFault {
     /// the lines before were written, and nothing else.
     #[error("out of memory")]
     Memory,
+}
+
+impl ScriptFault {
+    /// The number of the fault, by which another program knows it: `Read` 1, `Write` 2, `BadLine`
+    /// 3, whichever line, and `Memory` 4.
+    pub fn number(self) -> u8
+        ensures { result ≡ script_fault_number self }
+    {
+        match self {
+            ScriptFault::Read => 1,
+            ScriptFault::Write => 2,
+            ScriptFault::BadLine(_) => 3,
+            ScriptFault::Memory => 4,
+        }
+    }
 }

@@ -1,3 +1,4 @@
 pub mod BigEndian
 pub mod Text
 pub mod Varint
+pub mod Faults

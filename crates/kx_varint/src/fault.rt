@@ -1,4 +1,7 @@
 //! Why no number stands at the front of some bytes.
+ghost use Rattle.std.specs.Prelude.{◌≡◌};
+ghost use Rattle.kx_varint.specs.Faults.{number_of};
+
 use thiserror::Error;
 
 /// Why no number stands at the front of the bytes. Reading changes nothing, whatever it answers.
@@ -11,4 +14,13 @@ pub enum VarFault {
     /// range.
     #[error("the number is too long")]
     TooLong = 2,
+}
+
+impl VarFault {
+    /// The number of the fault, 1 to 2.
+    pub fn number(self) -> u8
+        ensures { result ≡ number_of self }
+    {
+        self as u8
+    }
 }
