@@ -1,6 +1,7 @@
 pub mod Prints
 pub mod Ranges
 pub mod Codes
+pub mod Copies
 pub mod Names
 pub mod Receiver
 pub mod Fields

@@ -25,7 +25,7 @@ pub record IsHeld (held : Held) : Type 0 where
   pub id : IsProducerId held.id
   pub epoch : IsEpoch held.epoch
 
--- the epoch of a marker is 1 or more
+-- the epoch of a marker, and of the answer to it, is 1 or more
 pub record IsMarker (held : Held) : Type 0 where
   pub ids : IsHeld held
   pub some : 1 ≤ held.epoch
@@ -70,7 +70,7 @@ IsMessage (msg.AddReply partition txn held code) = IsPartition partition × IsNa
 IsMessage (msg.WriteMarker partition txn held coordinator outcome) =
     IsPartition partition × IsName txn × IsMarker held × FitsSigned w32 coordinator
 IsMessage (msg.MarkerReply partition txn held code) =
-    IsPartition partition × IsName txn × IsHeld held
+    IsPartition partition × IsName txn × IsMarker held
 IsMessage (msg.Fetch client correlation partition from max committed) =
     IsCaller client correlation × IsPartition partition × FitsSigned w64 from × IsU32 max
 IsMessage (msg.FetchReply client correlation partition code next lso end aborted batches) =

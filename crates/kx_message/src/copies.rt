@@ -1,12 +1,15 @@
 //! Copies of messages. A copy takes memory only where a message carries bytes or a list.
 ghost use Rattle.std.specs.Prelude.{◌≡◌};
+ghost use Rattle.kx_message.specs.Copies.{HoldsNoList};
 
 use crate::message::Message;
 use std::alloc::AllocError;
 
-/// A copy of the message, or want of memory.
+/// A copy of the message, or want of memory, which a message without bytes and lists never meets.
 impl Clone for Message {
     ghost is_clone = { λ message copy. copy ≡ message };
+
+    ghost is_infallible = { HoldsNoList };
 
     fn clone(&self) -> Result<Self, AllocError> {
         match self {

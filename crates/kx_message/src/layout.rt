@@ -47,7 +47,9 @@ fn optional_len(txn: Option<TxnId>) -> usize
     }
 }
 
-/// How many bytes the fields of a message take in its frame.
+/// How many bytes the fields of a message take in its frame. The message has room in one
+/// (`HasRoom`): the batches and the aborted transactions that it carries are fewer than 2,097,152
+/// bytes and transactions, as in any message that [`Message::fits`], and in any without them.
 pub fn fields_len(message: &Message) -> usize
     requires { HasRoom message.now }
     ensures { result ≡ size_of message.now }

@@ -19,8 +19,8 @@ pub struct Held {
     pub epoch: Epoch,
 }
 
-/// What a transaction marker carries: the producer's id, and the epoch of the transaction raised by
-/// one, so 1 to 32767 (KIP-890).
+/// What a transaction marker carries, and the answer to it repeats: the producer's id, and the epoch
+/// of the transaction raised by one, so 1 to 32767 (KIP-890).
 #[derive(Clone, Copy, Debug, PartialEq, Eq)]
 pub struct Raised(Held);
 
@@ -144,11 +144,11 @@ pub enum Message {
         coordinator_epoch: i32,
         outcome: Outcome,
     },
-    /// Answers `WriteMarker`.
+    /// Answers `WriteMarker`, with the marker's id and epoch.
     MarkerReply {
         partition: PartitionId,
         txn: TxnId,
-        held: Held,
+        held: Raised,
         code: ErrorCode,
     },
     /// Reads records from an offset on, up to `max` bytes, of committed transactions alone or of

@@ -7,4 +7,5 @@ pub mod FieldLaws
 pub mod Messages
 pub mod FrameLaws
 pub mod Feeding
+pub mod Growing
 pub mod Streams

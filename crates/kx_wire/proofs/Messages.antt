@@ -105,7 +105,7 @@ write_marker_takes =
 marker_reply_takes : OfKind 10 marker_reply_at
 unfolding marker_reply_at
 marker_reply_takes =
-    field partition_exact (λ partition f0. field name_exact (λ txn f1. field held_exact (λ held
+    field partition_exact (λ partition f0. field name_exact (λ txn f1. field marker_exact (λ held
     f2. field code_exact (λ code f3. done (msg.MarkerReply partition txn held code) (
       (f0, f1, f2),
       refl,
@@ -368,7 +368,7 @@ marker_reply_again : (partition : ℕ) (txn : List ℕ) (held : Held) (code : Er
 unfolding marker_reply_at
 marker_reply_again partition txn held code h =
     spelled (then_again _ partition_exact partition h.0 (then_again _ name_exact txn h.1
-    (then_again _ held_exact held h.2 (last_again _ code_exact code tt done_again)))) (simp
+    (then_again _ marker_exact held h.2 (last_again _ code_exact code tt done_again)))) (simp
     append_assoc)
 
 fetch_again : (client correlation : ℕ) (partition : ℕ) (from : ℤ) (max : ℕ) (committed : Bool) →

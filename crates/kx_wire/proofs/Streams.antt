@@ -92,7 +92,7 @@ bad_stays x y f fits e = front_stays x y f (unsigned w32 x) fits refl e
 abbrev frames_of : List Message → List ℕ
 frames_of = flat_map frame_text
 
-nothing : frame_at [] ≡ More
+pub nothing : frame_at [] ≡ More
 unfolding frame_at unsigned
 nothing = refl
 

@@ -10,6 +10,8 @@ pub use Rattle.kx_message.specs.Values
 pub use Rattle.kx_message.specs.Message
 pub mod Reading
 pub mod Gives
+pub mod Faults
 pub mod Frames
+pub mod Growing
 pub mod Held
 pub mod Pieces

@@ -199,7 +199,7 @@ unfoldable pub marker_reply_at : Reader Message
 marker_reply_at = do
   partition ← partition_at
   txn ← name_at
-  held ← held_at
+  held ← marker_at
   code ← code_at
   gives (msg.MarkerReply partition txn held code)
 

@@ -1,5 +1,6 @@
 //! What the reader of frames refuses.
 ghost use Rattle.std.specs.Prelude.{◌≡◌};
+ghost use Rattle.kx_wire.specs.Faults.{number_of};
 ghost use Rattle.kx_wire.specs.declared.fault.FrameFault.{FrameFault};
 
 use std::alloc::AllocError;
@@ -23,6 +24,15 @@ pub enum FrameFault {
     /// Memory ran out.
     #[error("out of memory")]
     Memory = 5,
+}
+
+impl FrameFault {
+    /// The number of the fault, 1 to 5.
+    pub fn number(self) -> u8
+        ensures { result ≡ number_of self }
+    {
+        self as u8
+    }
 }
 
 /// Want of memory is [`FrameFault::Memory`].

@@ -1,9 +1,10 @@
 //! A stream of frames, in whatever pieces it comes.
 ghost use Rattle.std.specs.Prelude.{◌≡◌, ◌<◌, ◌≤◌, ◌+◌, ◌++◌, ℕ, List, [], length, drop, true};
-ghost use Rattle.std.specs.Prelude.{IfOk, MatchResult};
+ghost use Rattle.std.specs.Prelude.{◌≢◌, IfOk, IfErr, MatchResult, Ok, Err};
 ghost use Rattle.std.specs.Prelude.{MatchOption, OnErr};
 ghost use Rattle.kx_wire.specs.Frames.{Whole, More, Faults, of_length, frame_at, Splits};
 ghost use Rattle.kx_wire.specs.Frames.{Reads, Ends, Fed, answer_of};
+ghost use Rattle.kx_wire.specs.Growing.{MayTake, MayTakeFront, MayWant};
 ghost use Rattle.kx_wire.specs.Pieces.{joined, Comes};
 ghost use Rattle.std.specs.List.{flat_map, AllByRecursion};
 ghost use Rattle.kx_message.specs.Sizes.{longest_frame};
@@ -11,6 +12,7 @@ ghost use Rattle.kx_message.specs.Fields.{frame_text};
 ghost use Rattle.kx_message.specs.Message.{IsSendable};
 ghost use Rattle.kx_varint.specs.Text.{IsBytes};
 ghost use Rattle.kx_message.specs.declared.message.Message.{Message};
+ghost use Rattle.kx_wire.specs.declared.fault.FrameFault.{FrameFault};
 
 use crate::fault::FrameFault;
 use crate::reading::{is_kind, read_message};
@@ -21,10 +23,12 @@ use std::marker::Model;
 // The message of a frame, by its length and the bytes behind the length.
 fn of_length(alloc: Global, len: usize, rest: &[u8]) -> Result<Option<Message>, FrameFault>
     requires { 0 < len }
-    ensures { MatchResult result
+    ensures read { MatchResult result
         (λ o. MatchOption o (of_length len rest.now ≡ More)
         (λ m. (of_length len rest.now ≡ Whole m (drop len rest.now)) × (len ≤ length rest.now)))
         (λ fault. Faults fault (of_length len rest.now)) }
+    ensures memory { IfErr result (λ fault. fault ≡ FrameFault.Memory
+        → MayTake (of_length len rest.now) rest.now) }
 {
     let Some((kind, fields)) = rest.split_first() else {
         return Ok(None);
@@ -42,11 +46,12 @@ fn of_length(alloc: Global, len: usize, rest: &[u8]) -> Result<Option<Message>, 
 // The message at the front, and how many bytes its frame takes; None where more is needed.
 #[tactic(auto, unfolding(crate::specs::Frames::frame_at, kx_message::specs::Reader::unsigned))]
 fn front(alloc: Global, bytes: &[u8]) -> Result<Option<(Message, usize)>, FrameFault>
-    ensures { MatchResult result
+    ensures read { MatchResult result
         (λ o. MatchOption o (frame_at bytes.now ≡ More)
         (λ x. (frame_at bytes.now ≡ Whole x.0 (drop x.1 bytes.now)) × (0 < x.1)
         × (x.1 ≤ length bytes.now)))
         (λ fault. Faults fault (frame_at bytes.now)) }
+    ensures memory { IfErr result (λ fault. fault ≡ FrameFault.Memory → MayTakeFront bytes.now) }
 {
     let Ok((len, rest)) = kx_varint::read_u32(bytes) else {
         return Ok(None);
@@ -77,6 +82,8 @@ fn scan(alloc: Global, bytes: &[u8]) -> Result<Scanned, AllocError>
     ensures splits { IfOk result (λ s. Splits bytes.now s.messages.items (drop s.used bytes.now)) }
     ensures ends { IfOk result (λ s. Ends s.fault (frame_at (drop s.used bytes.now))) }
     ensures within { IfOk result (λ s. s.used ≤ length bytes.now) }
+    ensures some { IfOk result (λ s. s.used ≢ 0 → MayTakeFront bytes.now) }
+    ensures err { OnErr result (MayTakeFront bytes.now) }
 {
     let mut messages = Vec::new(alloc);
     let mut used = 0;
@@ -99,9 +106,21 @@ fn scan(alloc: Global, bytes: &[u8]) -> Result<Scanned, AllocError>
     }
 }
 
-// Takes a piece: what is held is then the rest behind the messages, where no fault stands there. A
-// piece behind nothing is read where it stands, and only its rest is copied, if it may go on.
+// Takes the first bytes out, so that what stands behind them is left.
+fn drop_front(held: &mut Vec<u8>, used: usize)
+    requires { used ≤ length held.old.items }
+    ensures { held.new.items ≡ drop used held.old.items }
+{
+    let left = held.len() - used;
+    held.copy_within(used.., 0);
+    held.truncate(left);
+}
+
+// Takes a piece that isn't empty: what is held is then the rest behind the messages, and nothing
+// where a fault stands there. A piece behind nothing is read where it stands, and only its rest is
+// copied, if it may go on.
 fn take_piece(held: &mut Vec<u8>, piece: &[u8]) -> Result<Scanned, AllocError>
+    requires { piece.now ≢ [] }
     ensures splits { IfOk result (λ s. Splits (held.old.items ++ piece.now) s.messages.items
         (drop s.used (held.old.items ++ piece.now))) }
     ensures ends { IfOk result (λ s.
@@ -109,6 +128,7 @@ fn take_piece(held: &mut Vec<u8>, piece: &[u8]) -> Result<Scanned, AllocError>
     ensures rest { IfOk result (λ s. s.fault ≡ None
         → held.new.items ≡ drop s.used (held.old.items ++ piece.now)) }
     ensures err { OnErr result (held.new.items ≡ held.old.items) }
+    ensures memory { OnErr result (MayWant held.old.items piece.now) }
 {
     let alloc = *held.allocator();
     if held.is_empty() {
@@ -124,14 +144,11 @@ fn take_piece(held: &mut Vec<u8>, piece: &[u8]) -> Result<Scanned, AllocError>
         held.truncate(before);
         return Err(AllocError);
     };
-    if found.used == 0 || found.fault.is_some() {
-        return Ok(found);
+    if found.fault.is_some() {
+        *held = Vec::new(alloc);
+    } else {
+        drop_front(held, found.used);
     }
-    let Ok(rest) = Vec::from_slice(alloc, &held[found.used..]) else {
-        held.truncate(before);
-        return Err(AllocError);
-    };
-    *held = rest;
     Ok(found)
 }
 
@@ -154,9 +171,11 @@ impl Model for Frames {
 
     ghost Value = { Stream };
 
-    ghost use Rattle.kx_wire.specs.Held.{stream_of};
+    ghost use Rattle.kx_wire.specs.Held.{stream_of, HoldsLess};
 
     ghost view = { λ frames. stream_of frames.state frames.held.items };
+
+    ghost invariant = { λ frames. HoldsLess frames.state frames.held.items };
 }
 
 impl Frames {
@@ -178,9 +197,15 @@ impl Frames {
     /// [`FrameFault::TooLong`], [`FrameFault::Kind`] and [`FrameFault::Field`] where no frame of a
     /// message comes next, at once where no message comes before it in the piece, and else at the
     /// next call, even of an empty piece. From then on every call answers [`FrameFault::Failed`].
-    /// At [`FrameFault::Memory`] nothing of the piece was taken, and it can be fed again.
+    /// At [`FrameFault::Memory`] nothing of the piece was taken, and it can be fed again. Memory is
+    /// wanted to put a piece behind bytes that are held; where nothing is held, to give messages, to
+    /// read the fields of a message with bytes or a list, and to hold back less than a frame.
     pub fn feed(&mut self, piece: &[u8]) -> Result<Vec<Message>, FrameFault>
-        ensures { Fed self.old piece.now (answer_of result) self.new }
+        ensures fed { Fed self.old piece.now (answer_of result) self.new }
+        ensures nothing { (held : List ℕ) → self.old ≡ Reads held → piece.now ≡ []
+            → (answer_of result ≡ Ok []) × (self.new ≡ self.old) }
+        ensures memory { (held : List ℕ) → self.old ≡ Reads held
+            → answer_of result ≡ Err FrameFault.Memory → MayWant held piece.now }
     {
         match self.state {
             State::Failed => Err(FrameFault::Failed),
@@ -188,6 +213,7 @@ impl Frames {
                 self.state = State::Failed;
                 Err(fault)
             }
+            State::Reading if piece.is_empty() => Ok(Vec::new(*self.held.allocator())),
             State::Reading => {
                 let Ok(found) = take_piece(&mut self.held, piece) else {
                     return Err(FrameFault::Memory);

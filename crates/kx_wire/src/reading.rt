@@ -1,6 +1,6 @@
 //! Reading a message, kind by kind, from the fields of its frame.
 ghost use Rattle.std.specs.Prelude.{◌≡◌, true, None, Some, MatchOption, MatchResult, IfOk};
-ghost use Rattle.std.specs.Prelude.{length};
+ghost use Rattle.std.specs.Prelude.{length, IfErr};
 ghost use Rattle.kx_message.specs.Reader.{repeated, whole};
 ghost use Rattle.kx_wire.specs.Reading.{init_producer_id_at, init_reply_at, end_txn_at};
 ghost use Rattle.kx_wire.specs.Reading.{end_reply_at, produce_at, produce_reply_at};
@@ -12,6 +12,8 @@ ghost use Rattle.kx_wire.specs.Reading.{offset_fetch_reply_at, offset_at, aborte
 ghost use Rattle.kx_wire.specs.Reading.{offsets_at, aborted_at, bytes_at, fields_at, is_kind};
 ghost use Rattle.kx_wire.specs.Reading.{IsSmall};
 ghost use Rattle.kx_wire.specs.Gives.{Refuses};
+ghost use Rattle.kx_wire.specs.Growing.{IsCarrier};
+ghost use Rattle.kx_wire.specs.declared.fault.FrameFault.{FrameFault};
 
 use crate::fault::FrameFault;
 use crate::fields::Fields;
@@ -160,7 +162,7 @@ fn marker_reply(fields: &mut Fields) -> Option<Message>
 {
     let partition = fields.partition()?;
     let txn = fields.txn()?;
-    let held = fields.held()?;
+    let held = fields.marker()?;
     let code = fields.code()?;
     Some(Message::MarkerReply {
         partition,
@@ -472,9 +474,10 @@ fn small_message(kind: u8, fields: &mut Fields) -> Option<Message>
 
 fn message_of(alloc: Global, kind: u8, fields: &mut Fields) -> Result<Message, FrameFault>
     requires { is_kind kind ≡ true }
-    ensures { MatchResult result
+    ensures read { MatchResult result
         (λ x. fields_at kind fields.old.rest.now ≡ Some (x, fields.new.rest.now))
         (λ fault. Refuses fault (fields_at kind fields.old.rest.now)) }
+    ensures memory { IfErr result (λ fault. fault ≡ FrameFault.Memory → IsCarrier kind) }
 {
     match kind {
         5 => produce(alloc, fields),
@@ -487,8 +490,9 @@ fn message_of(alloc: Global, kind: u8, fields: &mut Fields) -> Result<Message, F
 /// The message of a kind whose fields are these bytes, all of them.
 pub(crate) fn read_message(alloc: Global, kind: u8, fields: &[u8]) -> Result<Message, FrameFault>
     requires { is_kind kind ≡ true }
-    ensures { MatchResult result (λ x. whole (fields_at kind fields.now) ≡ Some x)
+    ensures read { MatchResult result (λ x. whole (fields_at kind fields.now) ≡ Some x)
         (λ fault. Refuses fault (whole (fields_at kind fields.now))) }
+    ensures memory { IfErr result (λ fault. fault ≡ FrameFault.Memory → IsCarrier kind) }
 {
     let mut left = Fields::new(fields);
     let message = message_of(alloc, kind, &mut left)?;

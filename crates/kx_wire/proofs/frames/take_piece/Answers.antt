@@ -1,21 +1,26 @@
-use Rattle.std.proofs.Common.{arith}
+use Rattle.std.proofs.Common.{◌≡◌, ℕ, [], ap, ◌∙◌, arith}
+use Rattle.std.specs.Global.{Vec}
 use Rattle.std.proofs.lemmas.Grind.{common_steps}
+use Rattle.kx_wire.proofs.Growing.{only_rest, none_some}
 use Rattle.kx_wire.proofs.frames.take_piece.Goals as goal
+use Rattle.kx_wire.proofs.frames.take_piece.Goals.{then-is_none+in_ok-extend_from_slice, else-is_none}
 
 pub returns-then-is_empty-clause-splits : goal.returns-then-is_empty-clause-splits
 returns-then-is_empty-clause-splits c = grind (arith, common_steps)
 
+pub returns-then-is_empty-clause-rest : goal.returns-then-is_empty-clause-rest
+returns-then-is_empty-clause-rest c none =
+    let nothing : c.args.held.now.items ≡ [] = grind (arith, common_steps) in
+    elim c.if-is_none.branch [
+      | then-is_none+in_ok-extend_from_slice w ↦
+          ap (λ (v : Vec ℕ). v.items) w.held-is
+          ∙ w.in_ok-extend_from_slice.ensures.items
+          ∙ only_rest c.args.held.now.items c.args.piece.now c.in_ok-found.found.used nothing
+      | else-is_none w ↦ absurd (none_some c.in_ok-found.found.fault none w.if-is_none.ensures)
+    ]
+
 pub returns-then-is_empty-clause-ends : goal.returns-then-is_empty-clause-ends
 returns-then-is_empty-clause-ends c = grind (arith, common_steps)
-
-pub returns-then-found-eq0-clause-splits : goal.returns-then-found-eq0-clause-splits
-returns-then-found-eq0-clause-splits c = grind (arith, common_steps)
-
-pub returns-then-found-eq0-clause-ends : goal.returns-then-found-eq0-clause-ends
-returns-then-found-eq0-clause-ends c = grind (arith, common_steps)
-
-pub returns-then-found-eq0-clause-rest : goal.returns-then-found-eq0-clause-rest
-returns-then-found-eq0-clause-rest c = grind (arith, common_steps)
 
 pub returns-clause-splits : goal.returns-clause-splits
 returns-clause-splits c = grind (arith, common_steps)
