@@ -1,10 +1,12 @@
 -- No page shows a record of a transaction that doesn't commit.
-use Rattle.std.proofs.Common.{◌≡◌, ◌⊎◌, inl, inr, ⊎_elim, ℕ, ◌+◌, ◌≤◌, ◌<◌, Bool, true, false}
+use Rattle.std.proofs.Common.{◌≡◌, ◌⊎◌, inl, inr, ⊎_elim, ℕ, ◌+◌, pos, ◌≤ℤ◌, ◌<ℤ◌, Bool}
+use Rattle.std.proofs.Common.{true, false}
 use Rattle.std.proofs.Common.{◌||◌, cond, List, [], ◌∷◌, ◌++◌, length, Option, Some}
 use Rattle.std.proofs.Common.{None, Contains, refl, sym, ap, ◌∙◌, subst, arith}
-use Rattle.std.specs.Prelude.{◌≢◌, nat_lt, not}
+use Rattle.std.specs.Prelude.{◌≢◌, int_lt, not}
 use Rattle.std.specs.List.{flat_map}
 use Rattle.std.specs.Option.{option_map_or}
+use Rattle.std.proofs.lemmas.Int.{ints}
 use Rattle.std.proofs.lemmas.List.Sums.{sum_by-cons}
 use Rattle.kx_wire.specs.declared.outcome.Outcome.{Outcome}
 use Rattle.kx_wire.specs.declared.outcome.Outcome.TheVariants.{Abort, Commit}
@@ -53,25 +55,26 @@ stands_at n (entry ∷ log) p c =
     (cons_cases (record { offset = n; item = entry }) p (placed_from (n + width entry) log) c)
 
 between_holds : (low high : ℕ) (records : List Shown) (s : Shown) → Between low high records
-    → Contains records s → (low ≤ s.offset) × (s.offset < high)
+    → Contains records s → (pos low ≤ℤ s.offset) × (s.offset <ℤ pos high)
 between_holds low high [] s b c = absurd (no_element s c)
 between_holds low high (r ∷ records) s b c =
-    ⊎_elim (λ e. subst (λ (x : Shown). (low ≤ x.offset) × (x.offset < high)) e (b.0, b.1))
+    ⊎_elim
+    (λ e. subst (λ (x : Shown). (pos low ≤ℤ x.offset) × (x.offset <ℤ pos high)) e (b.0, b.1))
     (between_holds low high records s b.2) (cons_cases r s records c)
 
 nothing_stands : (commits : ℕ → ℕ → Bool) (offset : ℕ) (d : Sequenced)
     → d.transactional ≡ true → commits d.id d.epoch ≡ false
     → standing commits offset (Data d) ≡ []
 nothing_stands commits offset d t none =
-    ap (λ b. cond (not b || commits d.id d.epoch) (numbered offset d.records) []) t
-    ∙ ap (λ b. cond b (numbered offset d.records) []) none
+    ap (λ b. cond (not b || commits d.id d.epoch) (numbered (pos offset) d.records) []) t
+    ∙ ap (λ b. cond b (numbered (pos offset) d.records) []) none
 
 -- a record that stands isn't among those of a batch whose transaction doesn't commit
 apart : (commits : ℕ → ℕ → Bool) (log : List Entry) (offset : ℕ) (d : Sequenced) (s : Shown)
     → d.transactional ≡ true → commits d.id d.epoch ≡ false
     → Contains (placed log) (record { offset = offset; item = Data d })
     → Contains (flat_map (λ p. standing commits p.offset p.item) (placed log)) s
-    → (s.offset < offset) ⊎ (offset + length d.records ≤ s.offset)
+    → (s.offset <ℤ pos offset) ⊎ (pos (offset + length d.records) ≤ℤ s.offset)
 apart commits log offset d s t none there shown =
     let h = flat_map_holds (λ (p : Placed Entry). standing commits p.offset p.item) (placed log) s
     shown in
@@ -83,19 +86,20 @@ apart commits log offset d s t none there shown =
   where
     by : StandsAt 0 log (record { offset = offset; item = Data d }) → (p : Placed Entry)
         → StandsAt 0 log p → Contains (standing commits p.offset p.item) s
-        → (p.offset ≤ s.offset) × (s.offset < p.offset + width p.item)
-        → (s.offset < offset) ⊎ (offset + length d.records ≤ s.offset)
+        → (pos p.offset ≤ℤ s.offset) × (s.offset <ℤ pos (p.offset + width p.item))
+        → (s.offset <ℤ pos offset) ⊎ (pos (offset + length d.records) ≤ℤ s.offset)
     by b p a c within =
         at (beside a.before a.after b.before b.after p.item (Data d) (sym a.parts ∙ b.parts))
       where
         at : Beside a.before a.after b.before b.after p.item (Data d)
-            → (s.offset < offset) ⊎ (offset + length d.records ≤ s.offset)
+            → (s.offset <ℤ pos offset) ⊎ (pos (offset + length d.records) ≤ℤ s.offset)
         at (same_place q e r) =
             absurd (no_element s (subst (λ l. Contains l s)
             (ap (standing commits p.offset) e ∙ nothing_stands commits p.offset d t none) c))
         at (later between q r) =
             inl (omega (
               arith,
+              ints,
               a.offset,
               b.offset,
               within.1,
@@ -105,6 +109,7 @@ apart commits log offset d s t none there shown =
         at (earlier between q r) =
             inr (omega (
               arith,
+              ints,
               a.offset,
               b.offset,
               within.0,
@@ -125,7 +130,7 @@ pub not_shown : (w : World) → PartitionsHold w → MarkersFit w.sent → HasOn
     → Contains (placed (entries_at w q)) (record { offset = offset; item = Data d })
     → d.id ≡ id → d.epoch ≡ epoch → d.transactional ≡ true
     → Contains (committed_records (page (log_at w q) from room true)) s
-    → (s.offset < offset) ⊎ (offset + length d.records ≤ s.offset)
+    → (s.offset <ℤ pos offset) ⊎ (pos (offset + length d.records) ≤ℤ s.offset)
 unfolding visible page
 not_shown w all fit one id epoch differs q from room offset d s there i e t shown =
     let log = entries_at w q in
@@ -135,6 +140,6 @@ not_shown w all fit one id epoch differs q from room offset d s there i e t show
     ∙ not_commit (decision (notes w) id epoch) differs in
     let seen = filter_holds (in_page from next) (visible log (commits (notes w))) s
     (subst (λ l. Contains l s) (gives_visible w all fit one q from room) shown) in
-    let stable = filter_holds (λ (r : Shown). nat_lt r.offset (last_stable_offset log))
+    let stable = filter_holds (λ (r : Shown). int_lt r.offset (pos (last_stable_offset log)))
     (flat_map (λ p. standing (commits (notes w)) p.offset p.item) (placed log)) s seen.0 in
     apart (commits (notes w)) log offset d s t none there stable.0

@@ -3,8 +3,8 @@
 -- follow decisions, and open transactions are owed their markers.
 use Rattle.std.proofs.Common.{ℕ, List, Option, Some, None, Contains, refl, subst}
 use Rattle.std.proofs.Common.{IfSome, ⊎_elim}
-use Rattle.kx_model.specs.Headline.{Always, GetsExactlyVisible, HasOneOutcome, MarkersAgree}
-use Rattle.kx_model.specs.Headline.{NothingCommits}
+use Rattle.kx_model.specs.Headline.{Always, FetchedGivesVisible, GetsExactlyVisible}
+use Rattle.kx_model.specs.Headline.{HasOneOutcome, MarkersAgree, NothingCommits}
 use Rattle.kx_model.specs.Headline.{OffsetsWithTheirTransaction, OpenIsOwed}
 use Rattle.kx_model.specs.Log.{Control, Stored, entries, entry_of}
 use Rattle.kx_wire.specs.declared.code.ErrorCode.TheVariants.{NoError}
@@ -17,7 +17,7 @@ use Rattle.kx_headline.proofs.PartitionsAlways.{PartitionsStand, Promised, parti
 use Rattle.kx_headline.proofs.Fencing.{fenced_never, no_commit_marker}
 use Rattle.kx_headline.proofs.NothingShown.{not_shown}
 use Rattle.kx_laws.specs.Grown.{IsGrown}
-use Rattle.kx_headline.proofs.WorldReaders.{gives_visible, grown_at}
+use Rattle.kx_headline.proofs.WorldReaders.{fetch_gives_visible, gives_visible, grown_at}
 use Rattle.kx_headline.proofs.LogCauses.{MarkerCause, marker_came}
 use Rattle.kx_headline.proofs.MarkersFit.{markers_fit}
 use Rattle.kx_laws.proofs.Membership.{no_element}
@@ -79,6 +79,12 @@ readers_get_what_is_visible count events fits q from room within =
     let w = run events (start count) in
     let h = partitions_stand_always count events fits in
     gives_visible w h.holds (markers_fit w h.coordinator) (one_outcome w h) q from room
+
+pub fetches_get_what_is_visible : FetchedGivesVisible
+fetches_get_what_is_visible count events fits q room from got e =
+    let w = run events (start count) in
+    let h = partitions_stand_always count events fits in
+    fetch_gives_visible w h.holds (markers_fit w h.coordinator) (one_outcome w h) q room from got e
 
 pub nothing_commits : NothingCommits
 nothing_commits count events fits id epoch fenced =

@@ -1,6 +1,5 @@
 pub mod Fetching
 pub mod Pages
-pub mod Readers
 pub mod OpenTxns
 pub mod Judging
 pub mod Following

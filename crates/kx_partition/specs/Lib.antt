@@ -5,3 +5,4 @@ pub mod Sent
 pub mod Kept
 pub mod Answer
 pub mod Opening
+pub mod Faults

@@ -1,5 +1,6 @@
 //! Why there is no page.
 ghost use Rattle.std.specs.Prelude.{◌≡◌};
+ghost use Rattle.kx_partition.specs.Faults.{number_of};
 ghost use Rattle.kx_partition.specs.declared.fault.FetchFault.TheVariants as fetch;
 ghost use Rattle.kx_partition.specs.declared.fault.ReplyFault.{ReplyFault};
 ghost use Rattle.kx_partition.specs.declared.fault.ReplyFault.TheVariants.{Bytes, Memory};
@@ -18,6 +19,18 @@ pub enum FetchFault {
     /// Memory ran out. Only a page that names aborted transactions asks for memory.
     #[error("out of memory")]
     Memory,
+}
+
+impl FetchFault {
+    /// The number of the fault, 1 to 2.
+    pub fn number(self) -> u8
+        ensures { result ≡ number_of self }
+    {
+        match self {
+            FetchFault::Refused(_) => 1,
+            FetchFault::Memory => 2,
+        }
+    }
 }
 
 /// Why a message has no page.

@@ -98,7 +98,7 @@ batch_lines from batch =
 
 -- records with their offsets
 abbrev pub shown_lines : List Shown → List ℕ
-shown_lines records = flat_map (λ s. value_line (pos s.offset) s.shown.value) records
+shown_lines records = flat_map (λ s. value_line s.offset s.shown.value) records
 
 -- the records of a page that a fetch shows: all from an offset on, or the committed ones
 abbrev pub page_lines : ℤ → Mode → Page → List ℕ

@@ -3,8 +3,7 @@ ghost use Rattle.std.specs.Prelude.{◌≡◌, ◌++◌, Some, IfSome, IsOk, Mat
 ghost use Rattle.kx_text.specs.declared.command.Command.TheVariants as command;
 ghost use Rattle.kx_text.specs.declared.fault.ScriptFault.TheVariants as fault;
 ghost use Rattle.std.specs.Io.KnownBytes.{Appends};
-ghost use Rattle.kx_model.specs.Page.{Page};
-ghost use Rattle.kx_partition.specs.Page.{fetched_of};
+ghost use Rattle.kx_model.specs.Page.{Page, fetched_of};
 ghost use Rattle.kx_text.specs.Script.{Answered, Ends, LeavesWriter, Performed, ReadsLine};
 ghost use Rattle.kx_text.specs.World.{page_lines, page_text};
 

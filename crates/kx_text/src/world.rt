@@ -3,7 +3,8 @@ ghost use Rattle.std.specs.Prelude.{◌≡◌, ◌<◌, [], true, false, length,
 ghost use Rattle.std.specs.Prelude.{OnErr, MatchResult, Ok, slice_index_or, slice_set};
 ghost use Rattle.kx_batch.specs.Build.{batch_text};
 ghost use Rattle.kx_model.specs.Log.{end, entries};
-ghost use Rattle.kx_partition.specs.Fetch.{FetchRefuses, answer_to};
+ghost use Rattle.kx_model.specs.Page.{answer_to};
+ghost use Rattle.kx_partition.specs.Fetch.{FetchRefuses};
 ghost use Rattle.kx_text.specs.World.{BuildsBatch, NeverFails, batch_of, is_committed, is_over};
 ghost use Rattle.kx_text.specs.World.{put, told};
 

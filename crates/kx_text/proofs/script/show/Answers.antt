@@ -3,8 +3,7 @@ use Rattle.std.specs.Int.{w64}
 use Rattle.std.specs.Io.KnownBytes.{Appends}
 use Rattle.std.proofs.lemmas.Int.{to_z-of_z}
 use Rattle.std.proofs.lemmas.Result.{on_ok_weaker}
-use Rattle.kx_model.specs.Page.{Page}
-use Rattle.kx_partition.specs.Page.{Fetched, fetched_of}
+use Rattle.kx_model.specs.Page.{Fetched, Page, fetched_of}
 use Rattle.kx_text.specs.World.{end_text, page_lines, page_text}
 use Rattle.kx_text.proofs.Performing.{says}
 use Rattle.kx_text.proofs.Writes.{appends_both}

@@ -4,10 +4,8 @@ use Rattle.std.specs.Int.{w64}
 use Rattle.std.specs.Io.KnownBytes.{Appends}
 use Rattle.std.proofs.lemmas.Int.{to_z-of_z}
 use Rattle.std.proofs.lemmas.Result.{on_ok_weaker}
-use Rattle.kx_model.specs.Page.{Page}
-use Rattle.kx_model.specs.Reading.{Shown}
-use Rattle.kx_partition.specs.Page.{Fetched, committed_of, fetched_of}
-use Rattle.kx_partition.proofs.Readers.{committed_same}
+use Rattle.kx_model.specs.Page.{Fetched, Page, fetched_of}
+use Rattle.kx_model.specs.Reading.{Shown, committed_of}
 use Rattle.kx_text.specs.World.{batch_lines, page_lines, shown_lines}
 use Rattle.kx_text.specs.declared.command.Mode.{Mode}
 use Rattle.kx_text.proofs.Performing.{says}
@@ -43,4 +41,4 @@ returns-in-Ok g c =
     (λ a shown e. subst (λ (mode : Mode). Appends old new (page_lines from mode shown))
     (sym c.in-Committed.is)
     (subst (λ (records : List Shown). Appends old new (shown_lines records))
-    (c.in-Ok.ensures ∙ ap committed_of e ∙ committed_same shown) a)) c.write_committed.ensures)
+    (c.in-Ok.ensures ∙ ap committed_of e) a)) c.write_committed.ensures)

@@ -5,7 +5,8 @@ use Rattle.std.proofs.lemmas.Int.{to_z-of_z}
 use Rattle.std.proofs.lemmas.List.{get_or-map, length-map}
 use Rattle.kx_model.specs.Log.{Stored}
 use Rattle.kx_log.specs.LogState.{LogState}
-use Rattle.kx_partition.specs.Fetch.{FetchRefuses, answer_to}
+use Rattle.kx_model.specs.Page.{answer_to}
+use Rattle.kx_partition.specs.Fetch.{FetchRefuses}
 use Rattle.kx_text.proofs.Worlds.{batches_of}
 use Rattle.kx_text.proofs.world.World.fetch.Goals as goal
 
