@@ -3,4 +3,5 @@ pub mod Following
 pub mod HandedOut
 pub mod Reopening
 pub mod NotedTables
+pub mod NotedCounts
 pub mod Completing

@@ -12,7 +12,7 @@ use Rattle.kx_model.specs.Markers.{Answered, same_answered}
 use Rattle.kx_coord.specs.Noted.{answered_by, is_marker}
 use Rattle.kx_coord.specs.declared.noted.AnsweredMarker.{AnsweredMarker}
 
-and_four : (a b c d : Bool) → (((a && b) && c) && d) ≡ (a && ((b && c) && d))
+pub and_four : (a b c d : Bool) → (((a && b) && c) && d) ≡ (a && ((b && c) && d))
 and_four true b c d = refl
 and_four false b c d = refl
 
@@ -25,7 +25,7 @@ and_none true = refl
 and_none false = refl
 
 -- whether an answer is among those of a transactional id
-abbrev is_for : Answered → AnsweredMarker → Bool
+abbrev pub is_for : Answered → AnsweredMarker → Bool
 is_for a = is_marker a.held.id a.held.epoch a.partition
 
 pub among : (a : Answered) (t : List ℕ) (ms : List AnsweredMarker)
@@ -103,7 +103,7 @@ module _ {V : Type 0} (items : V → List AnsweredMarker) where
   items_at None = []
   items_at (Some v) = items v
 
-  is_at_items : (a : Answered) (o : Option V) → is_at items a o ≡ list_any (is_for a) (items_at o)
+  pub is_at_items : (a : Answered) (o : Option V) → is_at items a o ≡ list_any (is_for a) (items_at o)
   is_at_items a None = refl
   is_at_items a (Some v) = refl
 

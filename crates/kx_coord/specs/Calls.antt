@@ -16,6 +16,7 @@ use Rattle.kx_model.specs.Requests.{Answer}
 use Rattle.kx_txnlog.specs.Layout.{entry_text}
 use Rattle.kx_txnlog.specs.LogState.{AppendBreaks, IsAppendedTo, LogState}
 use Rattle.kx_txnlog.specs.Opening.{IsDamaged, IsOpened}
+use Rattle.kx_txnlog.specs.Ranges.{IsEntry}
 use Rattle.kx_coord.specs.CoordinatorState.{CoordinatorState}
 use Rattle.kx_coord.specs.Noted.{SameAnswered}
 
@@ -131,6 +132,7 @@ pub record OpenBreaks (old new : StoreState) : Type 0 where
   pub read : LogState
   pub note : Note
   pub reads : Reads old read note
+  pub ranges : IsEntry note
   pub store : AppendFailed (entry_text note) read.store new
 
 -- why a coordinator isn't opened, and what is left of the store

@@ -1,5 +1,5 @@
 -- Markers that were answered, kept by transactional id.
-use Rattle.std.specs.Prelude.{◌≡◌, ◌==◌, ◌&&◌, List, ℕ, Bool}
+use Rattle.std.specs.Prelude.{◌≡◌, ◌≤◌, ◌==◌, ◌&&◌, List, ℕ, Bool, filter, length}
 use Rattle.std.specs.List.{list_any}
 use Rattle.kx_model.specs.Markers.{Answered, same_answered}
 use Rattle.kx_coord.specs.declared.noted.AnsweredMarker.{AnsweredMarker}
@@ -16,6 +16,11 @@ abbrev pub is_marker : ℕ → ℕ → ℕ → AnsweredMarker → Bool
 is_marker id epoch partition marker =
     id == marker.id && epoch == marker.epoch && partition == marker.partition
 
--- the same markers were answered, whatever their order
+-- each is kept once at most
+abbrev pub KeptOnce : List Answered → Type 0
+KeptOnce xs = (a : Answered) → length (filter (same_answered a) xs) ≤ 1
+
+-- the same markers were answered, whatever their order, and none of the first list is kept twice
 pub record SameAnswered (xs ys : List Answered) : Type 0 where
   pub same : (a : Answered) → list_any (same_answered a) xs ≡ list_any (same_answered a) ys
+  pub once : KeptOnce xs

@@ -1,6 +1,6 @@
 //! Time: a transaction that has lasted too long is aborted.
 ghost use Rattle.std.specs.Prelude.{◌≡◌, map, find, is_some, true, None, Some, IfOk};
-ghost use Rattle.std.specs.Prelude.{IfSome, OnErr, MatchOption};
+ghost use Rattle.std.specs.Prelude.{false, IfSome, OnErr, MatchOption};
 ghost use Rattle.kx_model.specs.Coordinator as model;
 ghost use Rattle.kx_model.specs.Coordinator.{Ongoing};
 ghost use Rattle.kx_model.specs.Markers.{expire, is_overdue, markers_of};
@@ -69,14 +69,19 @@ impl<S: Store> Coordinator<S> {
     ///
     /// # Errors
     ///
-    /// Only for want of memory, and where a transaction has lasted too long; then the coordinator
-    /// is as before.
+    /// Only for want of memory, and where a transaction has lasted too long and the coordinator
+    /// isn't closed; then it is as before.
     pub fn expire(&mut self, now: u64) -> Result<Vec<Message>, AllocError>
         ensures ok { IfOk result (λ handed. Expires self.old self.new now handed.items) }
         ensures err { OnErr result ((self.new ≡ self.old)
-            × (is_some (expire self.old.log.notes now) ≡ true)) }
+            × (is_some (expire self.old.log.notes now) ≡ true)
+            × (self.old.log.closed ≡ false)) }
     {
         let clock = self.clock.max(now);
+        if self.log.is_closed() {
+            self.clock = clock;
+            return Ok(Vec::new(self.alloc));
+        }
         let Some(row) = self.expired(now)? else {
             self.clock = clock;
             return Ok(Vec::new(self.alloc));

@@ -1,6 +1,6 @@
 //! The markers that were answered.
 ghost use Rattle.std.specs.Prelude.{◌∷◌, ◌++◌, IfOk};
-ghost use Rattle.std.specs.Prelude.{◌≡◌, OnErr, OnOk, filter, not, bytes_eq, []};
+ghost use Rattle.std.specs.Prelude.{◌≡◌, OnErr, OnOk, false, filter, not, bytes_eq, []};
 ghost use Rattle.std.specs.List.{list_any};
 ghost use Rattle.kx_model.specs.Markers.{noting, same_answered};
 ghost use Rattle.kx_coord.specs.Noted.{SameAnswered, answered, is_marker};
@@ -35,11 +35,12 @@ impl Model for NotedMarkers {
 
     ghost use Rattle.std.specs.Prelude.{bytes_eq};
     ghost use Rattle.indexmap.specs.IndexMap.{IsUnique};
-    ghost use Rattle.kx_coord.specs.Noted.{answered_by};
+    ghost use Rattle.kx_coord.specs.Noted.{KeptOnce, answered_by};
 
     ghost view = { λ n. flat_map (λ e. map (answered_by e.0) e.1.items) n.by_txn.entries };
 
-    ghost invariant = { λ n. IsUnique bytes_eq n.by_txn };
+    ghost invariant = { λ n. IsUnique bytes_eq n.by_txn
+        × KeptOnce (flat_map (λ e. map (answered_by e.0) e.1.items) n.by_txn.entries) };
 }
 
 // Whether it is the answer to the marker of this id and epoch to the partition.
@@ -109,7 +110,7 @@ impl NotedMarkers {
     ///
     /// # Errors
     ///
-    /// Only for want of memory; then they are as before.
+    /// Only for want of memory, and where it wasn't noted before; then they are as before.
     pub(crate) fn note(
         &mut self,
         txn: TxnId,
@@ -120,6 +121,8 @@ impl NotedMarkers {
         ensures ok { OnOk result (SameAnswered self.new
             (noting self.old (answered txn id epoch partition))) }
         ensures err { OnErr result (self.new ≡ self.old) }
+        ensures refused { OnErr result
+            (list_any (same_answered (answered txn id epoch partition)) self.old ≡ false) }
     {
         if self.contains(txn, id, epoch, partition) {
             return Ok(());

@@ -1,10 +1,10 @@
 //! The replies to markers: each is noted, and with the last one of a row the row is complete.
-ghost use Rattle.std.specs.Prelude.{◌≡◌, ◌==◌, ◌&&◌, ◌||◌, [], true, IfOk, OnErr, MatchResult};
+ghost use Rattle.std.specs.Prelude.{◌≡◌, ◌==◌, ◌&&◌, ◌||◌, [], false, IfOk, OnErr, MatchResult};
 ghost use Rattle.std.specs.List.{list_all, list_any};
 ghost use Rattle.kx_model.specs.Markers.{answered_at, same_answered, settle};
 ghost use Rattle.kx_txnlog.specs.Entry.{row_of};
 ghost use Rattle.kx_coord.specs.Calls.{CompletesRow, Settles};
-ghost use Rattle.kx_coord.specs.Deciding.{IsSettled, is_of_use};
+ghost use Rattle.kx_coord.specs.Deciding.{IsSettled, WantsMemory};
 ghost use Rattle.kx_wire.specs.declared.code.ErrorCode.TheVariants as error;
 ghost use Rattle.kx_coord.specs.Noted.{answered};
 
@@ -73,7 +73,7 @@ impl<S: Store> Coordinator<S> {
     // Appends the row that is complete, and forgets the answers to its markers.
     fn complete(&mut self, row: Row) -> Result<(), AllocError>
         ensures { MatchResult result (λ done. CompletesRow self.old self.new (row_of row))
-            (λ refused. self.new ≡ self.old) }
+            (λ refused. (self.new ≡ self.old) × (self.old.log.closed ≡ false)) }
     {
         let txn = row.txn;
         if !self.append(Entry::Row(row))? {
@@ -88,8 +88,8 @@ impl<S: Store> Coordinator<S> {
     ///
     /// # Errors
     ///
-    /// Only for want of memory, and where the reply is noted or completes its row; then the
-    /// coordinator is as before.
+    /// Only for want of memory, and where the reply is noted for the first time, or completes its
+    /// row and the coordinator isn't closed; then the coordinator is as before.
     pub fn marker_reply(
         &mut self,
         partition: PartitionId,
@@ -103,8 +103,9 @@ impl<S: Store> Coordinator<S> {
             (λ refused. self.new ≡ self.old) }
         ensures handed { IfOk result (λ handed. handed.items ≡ []) }
         ensures refused { OnErr result ((code ≡ error.NoError)
-            × (is_of_use (settle self.old.log.notes self.old.answered
-            (record { txn = txn; held = held; partition = partition })) ≡ true)) }
+            × WantsMemory self.old (record { txn = txn; held = held; partition = partition })
+            (settle self.old.log.notes self.old.answered
+            (record { txn = txn; held = held; partition = partition }))) }
     {
         let handed = Vec::new(self.alloc);
         if code != ErrorCode::NoError {

@@ -11,7 +11,7 @@ returns-in-None c =
     let a = answered c.args.txn c.args.id c.args.epoch c.args.partition in
     let found = sym c.get.ensures.value ∙ ap option_copied c.in-None.is in
     sym (ap (list_any (same_answered a)) (sym c.self.view_is)
-    ∙ looked_up (λ v. v.items) a c.self.inside.by_txn.entries c.self.invariant
+    ∙ looked_up (λ v. v.items) a c.self.inside.by_txn.entries c.self.invariant.0
     ∙ ap (is_at (λ v. v.items) a) found)
 
 pub returns-in-Some : goal.returns-in-Some
@@ -21,5 +21,5 @@ returns-in-Some c =
     c.has_marker.ensures
     ∙ ap (list_any (is_marker c.args.id c.args.epoch c.args.partition)) c.as_slice.ensures.value
     ∙ sym (ap (list_any (same_answered a)) (sym c.self.view_is)
-    ∙ looked_up (λ v. v.items) a c.self.inside.by_txn.entries c.self.invariant
+    ∙ looked_up (λ v. v.items) a c.self.inside.by_txn.entries c.self.invariant.0
     ∙ ap (is_at (λ v. v.items) a) found)
