@@ -1,4 +1,5 @@
 //! The lines of a file of cases.
+ghost use Rattle.kx_cases.specs.Lines.{Says};
 
 /// What a line says.
 #[derive(Clone, Copy)]
@@ -16,7 +17,9 @@ pub enum Line<'a> {
 }
 
 /// What a line of a file of cases says.
-pub fn read_line(line: &str) -> Line<'_> {
+pub fn read_line(line: &str) -> Line<'_>
+    ensures { Says line.now result }
+{
     if line.is_empty() || line.starts_with('#') {
         return Line::Nothing;
     }

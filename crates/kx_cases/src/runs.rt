@@ -1,5 +1,9 @@
 //! Answers to many inputs in a row, told by where they change.
+ghost use Rattle.std.specs.Prelude.{◌≡◌, IfOk, OnErr, OnOk, string_bytes};
+ghost use Rattle.kx_cases.specs.Runs.{no_runs, pushed, written};
+
 use std::alloc::{AllocError, Global};
+use std::marker::Model;
 
 /// Answers to inputs that are numbered in a row, as `0..67 Short; 68 1`: each answer once, with the
 /// first and the last number that it was given for.
@@ -11,9 +15,27 @@ pub struct Runs {
     answer: Option<String>,
 }
 
+impl Model for Runs {
+    ghost use Rattle.std.specs.Prelude.{option_map, string_bytes};
+    ghost use Rattle.kx_cases.specs.Runs as runs;
+
+    ghost Value = { runs.Runs };
+
+    ghost view = { λ r. record {
+      text = string_bytes r.text;
+      run = option_map (λ a. record {
+        first = r.first;
+        last = r.last;
+        answer = string_bytes a;
+      }) r.answer;
+    } };
+}
+
 impl Runs {
     /// No answer yet.
-    pub fn new(alloc: Global) -> Self {
+    pub fn new(alloc: Global) -> Self
+        ensures { result ≡ no_runs }
+    {
         Runs {
             text: String::new(alloc),
             first: 0,
@@ -23,7 +45,10 @@ impl Runs {
     }
 
     // Writes the answers that are alike and come last.
-    fn close(&mut self) -> Result<(), AllocError> {
+    fn close(&mut self) -> Result<(), AllocError>
+        ensures ok { OnOk result (self.new.text ≡ written self.old.text self.old.run) }
+        ensures run { self.new.run ≡ self.old.run }
+    {
         let Some(answer) = &self.answer else {
             return Ok(());
         };
@@ -36,8 +61,13 @@ impl Runs {
         }
     }
 
-    /// The answer to the input of this number, which comes behind those before it.
-    pub fn push(&mut self, number: usize, answer: String) -> Result<(), AllocError> {
+    /// The answer to the input of this number, which comes behind those before it. Without memory
+    /// it isn't kept, and what was written of those before it isn't known.
+    pub fn push(&mut self, number: usize, answer: String) -> Result<(), AllocError>
+        ensures ok { OnOk result (self.new ≡
+            pushed self.old.text self.old.run number (string_bytes answer)) }
+        ensures memory { OnErr result (self.new.run ≡ self.old.run) }
+    {
         if let Some(before) = &self.answer
             && before.as_str() == answer.as_str()
         {
@@ -52,7 +82,9 @@ impl Runs {
     }
 
     /// All of them.
-    pub fn finish(self) -> Result<String, AllocError> {
+    pub fn finish(self) -> Result<String, AllocError>
+        ensures { IfOk result (λ text. string_bytes text ≡ written self.text self.run) }
+    {
         let mut runs = self;
         runs.close()?;
         Ok(runs.text)

@@ -1,9 +1,15 @@
 //! Trying the cases of a file, and telling of each whether its answers came.
+ghost use Rattle.std.specs.Prelude.{◌≡◌, ◌≢◌, ◌+◌, ◌-◌, ◌^◌, ◌≤◌, ◌↔◌, ℕ, List, Option};
+ghost use Rattle.std.specs.Prelude.{None, Some, IfNone, IfOk, IfSome, OnErr, OnOk, min};
+ghost use Rattle.std.specs.Prelude.{option_map, string_bytes};
+ghost use Rattle.std.specs.Option.{IsNone};
+ghost use Rattle.kx_cases.specs.Tally.{IsRight, IsWithin, IsWrong, Judged, answer_of, ended};
+
 use crate::fault::StepFault;
 use crate::lines::{Line, read_line};
 use crate::subject::Subject;
 use crate::texts::Texts;
-use std::alloc::Global;
+use std::alloc::{AllocError, Global};
 use std::io;
 
 /// How many cases were tried, and how many of them failed.
@@ -17,15 +23,21 @@ pub struct Tally {
 
 impl Tally {
     /// No case was tried.
-    pub fn none() -> Self {
+    pub fn none() -> Self
+        ensures tried { result.tried ≡ 0 }
+        ensures failed { result.failed ≡ 0 }
+    {
         Tally {
             tried: 0,
             failed: 0,
         }
     }
 
-    /// The cases of both.
-    pub fn and(self, other: Tally) -> Self {
+    /// The cases of both; a number that doesn't fit stays at the greatest.
+    pub fn and(self, other: Tally) -> Self
+        ensures tried { result.tried ≡ min (self.tried + other.tried) (2 ^ 64 - 1) }
+        ensures failed { result.failed ≡ min (self.failed + other.failed) (2 ^ 64 - 1) }
+    {
         Tally {
             tried: self.tried.saturating_add(other.tried),
             failed: self.failed.saturating_add(other.failed),
@@ -49,8 +61,38 @@ struct Trial<'a> {
     tally: Tally,
 }
 
+// The answer, where it isn't the one that is wanted.
+fn differing(answer: String, want: &str) -> Option<String>
+    ensures alike { IfNone result (string_bytes answer ≡ want.now) }
+    ensures differs { IfSome result (λ given.
+        (given ≡ answer) × (string_bytes answer ≢ want.now)) }
+{
+    if answer.as_str() == want {
+        return None;
+    }
+    Some(answer)
+}
+
+// The answer, or why there is none, where it isn't the one that is wanted.
+fn other_answer(
+    alloc: Global,
+    given: Result<String, StepFault>,
+    want: &str,
+) -> Result<Option<String>, AllocError>
+    ensures { IfOk result (λ other. IsNone other ↔ (answer_of given ≡ Some want.now)) }
+{
+    match given {
+        Ok(answer) => Ok(differing(answer, want)),
+        Err(fault) => Ok(Some(format!(in alloc; "{fault}")?)),
+    }
+}
+
 impl<'a> Trial<'a> {
-    fn new(alloc: Global) -> Self {
+    fn new(alloc: Global) -> Self
+        ensures case { result.case ≡ None }
+        ensures tried { result.tally.tried ≡ 0 }
+        ensures failed { result.tally.failed ≡ 0 }
+    {
         Trial {
             alloc,
             texts: Texts::new(alloc),
@@ -60,7 +102,11 @@ impl<'a> Trial<'a> {
     }
 
     // The case that is being tried has come to its end.
-    fn end_case(&mut self, rt: &impl Print) -> io::Result<()> {
+    fn end_case(&mut self, rt: &impl Print) -> io::Result<()>
+        ensures case { self.new.case ≡ None }
+        ensures tally { self.new.tally ≡
+            ended (option_map (λ case. case.is_right) self.old.case) self.old.tally }
+    {
         let Some(case) = self.case.take() else {
             return Ok(());
         };
@@ -78,13 +124,13 @@ impl<'a> Trial<'a> {
         subject: &mut S,
         step: &str,
         want: &str,
-    ) -> io::Result<Option<String>> {
+    ) -> io::Result<Option<String>>
+        ensures { IfOk result (λ other. (given : Option (List ℕ))
+            × S.answers subject.old given × (IsNone other ↔ (given ≡ Some want.now))) }
+    {
         let words: Vec<&str> = step.split(' ').collect(self.alloc)?;
-        match subject.answer(&self.texts, words.as_slice()) {
-            Ok(answer) if answer.as_str() == want => Ok(None),
-            Ok(answer) => Ok(Some(answer)),
-            Err(fault) => Ok(Some(format!(in self.alloc; "{fault}")?)),
-        }
+        let given = subject.answer(&self.texts, words.as_slice());
+        Ok(other_answer(self.alloc, given, want)?)
     }
 
     // A case fails at the first step whose answer doesn't come; those behind it aren't taken.
@@ -94,20 +140,42 @@ impl<'a> Trial<'a> {
         subject: &mut S,
         step: &str,
         want: &str,
-    ) -> io::Result<()> {
+    ) -> io::Result<()>
+        ensures tally { self.new.tally ≡ self.old.tally }
+        ensures none { IfNone self.old.case (OnOk result (IsWrong self.new.case)) }
+        ensures wrong { IsWrong self.old.case → self.new.case ≡ self.old.case }
+        ensures judged { IsRight self.old.case → OnOk result ((given : Option (List ℕ))
+            × S.answers subject.old given
+            × Judged want.now given self.old.case self.new.case) }
+    {
         let Some(case) = self.case else {
             return self.fail(rt, step, "no case has begun");
         };
         if !case.is_right {
             return Ok(());
         }
-        match self.differs(subject, step, want)? {
+        let other = self.differs(subject, step, want)?;
+        self.judge(rt, step, other)
+    }
+
+    // The case goes on where the step gave no other answer than the one that is wanted.
+    fn judge(&mut self, rt: &impl Print, step: &str, other: Option<String>) -> io::Result<()>
+        ensures tally { self.new.tally ≡ self.old.tally }
+        ensures alike { IfNone other (self.new.case ≡ self.old.case) }
+        ensures differs { IfSome other (λ _. OnOk result (IsWrong self.new.case)) }
+    {
+        match other {
             None => Ok(()),
             Some(answer) => self.fail(rt, step, answer.as_str()),
         }
     }
 
-    fn fail(&mut self, rt: &impl Print, line: &str, why: &str) -> io::Result<()> {
+    // The case is wrong from here on.
+    fn fail(&mut self, rt: &impl Print, line: &str, why: &str) -> io::Result<()>
+        ensures tally { self.new.tally ≡ self.old.tally }
+        ensures wrong { OnOk result (IsWrong self.new.case) }
+        ensures unprinted { OnErr result (self.new.case ≡ self.old.case) }
+    {
         println!(rt; "{line} = {why}")?;
         let name = self.case.map_or("-", |case| case.name);
         self.case = Some(Running {
@@ -122,7 +190,9 @@ impl<'a> Trial<'a> {
         rt: &impl Print,
         subject: &mut S,
         line: &'a str,
-    ) -> io::Result<()> {
+    ) -> io::Result<()>
+        ensures { IsWithin self.old.tally → IsWithin self.new.tally }
+    {
         match read_line(line) {
             Line::Nothing => Ok(()),
             Line::Case(name) => {
@@ -152,7 +222,9 @@ pub fn try_cases<S: Subject>(
     rt: &(impl Print + AllocGlobal),
     subject: &mut S,
     text: &str,
-) -> io::Result<Tally> {
+) -> io::Result<Tally>
+    ensures { IfOk result (λ tally. tally.failed ≤ tally.tried) }
+{
     let mut trial = Trial::new(rt.alloc());
     for line in text.lines() {
         trial.take_line(rt, subject, line)?;

@@ -1,4 +1,9 @@
 //! How steps write values, and how answers tell them.
+ghost use Rattle.std.specs.Prelude.{◌≡◌, Result, Ok, Err, IfErr, IfNone, IfOk, IfSome};
+ghost use Rattle.std.specs.Prelude.{MatchResult, bytes_eq, codes, if◌then◌else◌, string_bytes};
+ghost use Rattle.kx_cases.specs.Telling.{bytes_text};
+ghost use Rattle.kx_cases.specs.declared.fault.StepFault.TheVariants as fault;
+
 use crate::fault::StepFault;
 use std::alloc::{AllocError, Global};
 use std::fmt::{Debug, Display};
@@ -8,6 +13,8 @@ use std::str::FromStr;
 pub fn value<T: FromStr>(word: &str) -> Result<T, StepFault>
 where
     T::Err: Drop,
+    ensures { (given : Result T T.Err) × T.from_str_gives word.now given
+        × MatchResult given (λ read. result ≡ Ok read) (λ _. result ≡ Err fault.Unknown) }
 {
     word.parse::<T>().map_err(|_| StepFault::Unknown)
 }
@@ -16,7 +23,12 @@ where
 pub fn told<T: Display + Drop, E: Debug + Drop>(
     alloc: Global,
     given: Result<T, E>,
-) -> Result<String, StepFault> {
+) -> Result<String, StepFault>
+    ensures value { IfOk given (λ value. IfSome (T.output value)
+        (λ bytes. IfOk result (λ text. string_bytes text ≡ bytes))) }
+    ensures fault { IfErr given (λ fault. IfSome (E.debug_output fault)
+        (λ bytes. IfOk result (λ text. string_bytes text ≡ bytes))) }
+{
     match given {
         Ok(value) => Ok(format!(in alloc; "{value}")?),
         Err(fault) => Ok(format!(in alloc; "{fault:?}")?),
@@ -24,10 +36,11 @@ pub fn told<T: Display + Drop, E: Debug + Drop>(
 }
 
 /// A value as it is printed, `none` where there is none.
-pub fn told_option<T: Display + Drop>(
-    alloc: Global,
-    option: Option<T>,
-) -> Result<String, StepFault> {
+pub fn told_option<T: Display + Drop>(alloc: Global, option: Option<T>) -> Result<String, StepFault>
+    ensures value { IfSome option (λ value. IfSome (T.output value)
+        (λ bytes. IfOk result (λ text. string_bytes text ≡ bytes))) }
+    ensures none { IfNone option (IfOk result (λ text. string_bytes text ≡ codes "none")) }
+{
     match option {
         Some(value) => Ok(format!(in alloc; "{value}")?),
         None => Ok(String::from_str(alloc, "none")?),
@@ -35,7 +48,10 @@ pub fn told_option<T: Display + Drop>(
 }
 
 /// `same` where the bytes are those that are wanted, else what they are.
-pub fn told_same(alloc: Global, bytes: &[u8], want: &[u8]) -> Result<String, AllocError> {
+pub fn told_same(alloc: Global, bytes: &[u8], want: &[u8]) -> Result<String, AllocError>
+    ensures { IfOk result (λ text. string_bytes text ≡
+        (if bytes_eq bytes.now want.now then codes "same" else bytes_text bytes.now)) }
+{
     if bytes == want {
         return String::from_str(alloc, "same");
     }
@@ -43,7 +59,9 @@ pub fn told_same(alloc: Global, bytes: &[u8], want: &[u8]) -> Result<String, All
 }
 
 /// Bytes in hexadecimal digits, `-` where there are none.
-pub fn told_bytes(alloc: Global, bytes: &[u8]) -> Result<String, AllocError> {
+pub fn told_bytes(alloc: Global, bytes: &[u8]) -> Result<String, AllocError>
+    ensures { IfOk result (λ text. string_bytes text ≡ bytes_text bytes.now) }
+{
     if bytes.is_empty() {
         return String::from_str(alloc, "-");
     }

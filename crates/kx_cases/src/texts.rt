@@ -1,7 +1,10 @@
 //! Bytes as files of cases write them.
+ghost use Rattle.std.specs.Prelude.{◌≡◌, [], OnErr};
+
 use crate::fault::StepFault;
 use std::alloc::{AllocError, Global};
 use std::collections::BTreeMap;
+use std::marker::Model;
 
 /// The bytes that have a name. Bytes are written as parts that are joined by `+`; a part is
 /// hexadecimal digits, or `$NAME` of bytes with a name, or `-` for none, and behind it changes, of
@@ -13,17 +16,30 @@ pub struct Texts {
     named: BTreeMap<String, Vec<u8>>,
 }
 
+impl Model for Texts {
+    ghost use Rattle.std.specs.Prelude.{ℕ, List, map, string_bytes};
+
+    ghost Value = { List (List ℕ × List ℕ) };
+
+    ghost view = { λ t. map (λ e. (string_bytes e.0, e.1.items)) t.named.entries };
+}
+
 impl Texts {
     /// No bytes have a name.
-    pub fn new(alloc: Global) -> Self {
+    pub fn new(alloc: Global) -> Self
+        ensures { result ≡ [] }
+    {
         Texts {
             alloc,
             named: BTreeMap::new(alloc),
         }
     }
 
-    /// The bytes have this name from here on.
-    pub fn name(&mut self, name: &str, bytes: &str) -> Result<(), StepFault> {
+    /// The bytes have this name from here on. Where they are refused, or there is no memory, the
+    /// names are as they were.
+    pub fn name(&mut self, name: &str, bytes: &str) -> Result<(), StepFault>
+        ensures refused { OnErr result (self.new ≡ self.old) }
+    {
         let bytes = self.bytes(bytes)?;
         let name = String::from_str(self.alloc, name)?;
         self.named.insert(name, bytes)?;
