@@ -7,7 +7,8 @@ Processor seconds, user and system, of each crate's proof, of building its progr
 compilers, and of its must-fail edits; then the whole run's, and how long it took. JOBS is how many
 checks may run side by side (RT_JOBS); with none it is as many as there are processors. What the
 gate itself says goes to gate.log. Each check is looked at every fifth of a second, so it may have
-run that much longer than is counted.
+run that much longer than is counted. Checks that others run meanwhile aren't counted, but make the
+figures greater.
 """
 import os
 import resource
@@ -19,8 +20,9 @@ TICKS = os.sysconf("SC_CLK_TCK")
 KINDS = ("proof", "builds", "edits")
 
 
-def looked_at(pid):
-    """Returns a check's crate, its kind and its processor seconds so far, or None of another process."""
+def looked_at(pid, session):
+    """Returns a check's crate, its kind and its processor seconds so far, or None of a process that
+    isn't a check of this session."""
     try:
         with open(f"/proc/{pid}/cmdline", "rb") as it:
             words = it.read().decode(errors="replace").split("\0")
@@ -28,6 +30,8 @@ def looked_at(pid):
             return None
         with open(f"/proc/{pid}/stat") as it:
             fields = it.read().rpartition(")")[2].split()
+        if int(fields[3]) != session:
+            return None
         folder = os.readlink(f"/proc/{pid}/cwd")
     except (OSError, IndexError):
         return None
@@ -43,10 +47,13 @@ def main():
         env["RT_JOBS"] = sys.argv[1]
     spent, started = {}, time.time()
     with open(f"{top}/gate.log", "wb") as log:
-        gate = subprocess.Popen(["rt", "ci"], cwd=top, env=env, stdout=log, stderr=subprocess.STDOUT)
+        gate = subprocess.Popen(
+            ["rt", "ci"], cwd=top, env=env, stdout=log, stderr=subprocess.STDOUT,
+            start_new_session=True,
+        )
         while gate.poll() is None:
             for pid in filter(str.isdigit, os.listdir("/proc")):
-                seen = looked_at(pid)
+                seen = looked_at(pid, gate.pid)
                 if seen:
                     # a process's number may come again: its seconds then begin anew
                     crate, kind, seconds = seen
