@@ -1,65 +1,61 @@
 //! The program. `kx_main sim` runs a script of commands over partitions held in memory; `kx_main
 //! dump FILE` prints the record batches that a file holds. What is read and printed is kx_text's;
-//! this is the door: arguments, streams, files and status.
+//! here are the arguments, streams and files, and which status each outcome ends with.
 #![tactic(auto)]
 
+use clap::error::ErrorKind as UsageFault;
 use clap::{Arg, ArgAction, Command};
-use kx_text::{DumpFault, ScriptFault, dump_batches, run_script};
+use kx_text::{DumpFault, Ending, ScriptFault, run_dump, run_sim};
 use std::alloc::{AllocError, Global};
-use std::io::{BufReader, BufWriter, Write};
+use std::env::Env;
+use std::io::{BufReader, BufWriter, ErrorKind};
 use std::process::ExitCode;
 use std::rt::Files;
-use std::{fmt, fs, io};
+use std::{env, fmt, fs, io};
 
-// Runs the script on standard input, and flushes what it wrote, also before a fault.
-fn run_sim(rt: &(impl Input + Print + AllocGlobal)) -> Result<(), ScriptFault> {
+// One line on standard error, where it can be written, and how the program ends.
+fn failed(rt: &impl Eprint, fault: impl fmt::Display + Drop) -> Ending {
+    let _ = eprintln!(rt; "kx_main: {fault}");
+    Ending::Failed
+}
+
+// Runs the script on standard input.
+fn script_in(rt: &(impl Input + Print + AllocGlobal)) -> Result<(), ScriptFault> {
     let Ok(mut reader) = BufReader::new(rt.alloc(), rt.reader()) else {
         return Err(ScriptFault::Memory);
     };
     let Ok(mut writer) = BufWriter::new(rt.alloc(), io::writer(rt)) else {
         return Err(ScriptFault::Memory);
     };
-    let ran = run_script(rt.alloc(), &mut reader, &mut writer);
-    if writer.flush().is_err() {
-        return Err(ScriptFault::Write);
-    }
-    ran
+    run_sim(rt.alloc(), &mut reader, &mut writer)
 }
 
-// Prints the batches in these bytes, and flushes what was printed, also before a fault.
-fn print_dump(rt: &(impl Print + AllocGlobal), bytes: &[u8]) -> Result<(), DumpFault> {
+// Prints the batches in these bytes.
+fn dump_of(rt: &(impl Print + AllocGlobal), bytes: &[u8]) -> Result<(), DumpFault> {
     let Ok(mut writer) = BufWriter::new(rt.alloc(), io::writer(rt)) else {
         return Err(DumpFault::Memory);
     };
-    let dumped = dump_batches(bytes, &mut writer);
-    writer.flush()?;
-    dumped
+    run_dump(bytes, &mut writer)
 }
 
-// One line on standard error, and the status of a fault.
-fn failed(rt: &impl Eprint, fault: impl fmt::Display + Drop) -> ExitCode {
-    let _ = eprintln!(rt; "kx_main: {fault}");
-    ExitCode::FAILURE
-}
-
-// The status of a script; of a bad line standard output already tells.
-fn sim_input(rt: &(impl Input + Print + Eprint + AllocGlobal)) -> ExitCode {
-    match run_sim(rt) {
-        Ok(()) => ExitCode::SUCCESS,
-        Err(ScriptFault::BadLine(_)) => ExitCode::FAILURE,
+// How a script ends; of a bad line standard output already tells.
+fn sim(rt: &(impl Input + Print + Eprint + AllocGlobal)) -> Ending {
+    let ran = script_in(rt);
+    match ran {
+        Ok(()) | Err(ScriptFault::BadLine(_)) => Ending::of(&ran),
         Err(fault) => failed(rt, fault),
     }
 }
 
-// The status of a dump; of a batch's fault standard output already tells.
-fn dump_file(rt: &(impl Files + Print + Eprint + AllocGlobal), path: &str) -> ExitCode {
+// How a dump ends; of a batch's fault standard output already tells.
+fn dump(rt: &(impl Files + Print + Eprint + AllocGlobal), path: &str) -> Ending {
     let bytes = match fs::read(rt, path) {
         Ok(bytes) => bytes,
         Err(error) => return failed(rt, error),
     };
-    match print_dump(rt, bytes.as_slice()) {
-        Ok(()) => ExitCode::SUCCESS,
-        Err(DumpFault::Batch(_, _)) => ExitCode::FAILURE,
+    let dumped = dump_of(rt, bytes.as_slice());
+    match dumped {
+        Ok(()) | Err(DumpFault::Batch(_, _)) => Ending::of(&dumped),
         Err(fault) => failed(rt, fault),
     }
 }
@@ -83,22 +79,58 @@ fn usage<'a>(alloc: Global) -> Result<Command<'a>, AllocError> {
         .subcommand(dump)
 }
 
-fn main(rt: HostRuntime) -> anyhow::Result<ExitCode> {
-    let alloc = rt.alloc();
-    let words: Vec<String> = std::env::args(&rt)?.collect(alloc)?;
-    let given = match usage(alloc)?.try_get_matches_from(words.as_slice()) {
-        Ok(given) => given,
-        Err(error) => {
-            error.print(&rt)?;
-            return Ok(ExitCode::from(error.exit_code() as u8));
+// The arguments, or how the program ends where they can't be had. Those that aren't text are wrong.
+fn arguments(rt: &(impl Env + Eprint + AllocGlobal)) -> Result<Vec<String>, Ending> {
+    let words = match env::args(rt) {
+        Ok(words) => words,
+        Err(error) if error.kind() == ErrorKind::InvalidData => {
+            let _ = eprintln!(rt; "kx_main: an argument is not text");
+            return Err(Ending::WrongArguments);
         }
+        Err(error) => return Err(failed(rt, error)),
     };
-    let file = match given.subcommand() {
-        Some((_, options)) => options.get_str("FILE"),
-        None => None,
+    match words.collect(rt.alloc()) {
+        Ok(words) => Ok(words),
+        Err(error) => Err(failed(rt, error)),
+    }
+}
+
+// How the program ends where the arguments name no subcommand: help was asked for, memory ran out,
+// or they are wrong, also where standard error can't be written.
+fn refused(rt: &(impl Print + Eprint), error: &clap::Error) -> Ending {
+    let printed = error.print(rt);
+    match error.kind() {
+        UsageFault::DisplayHelp | UsageFault::DisplayVersion => match printed {
+            Ok(()) => Ending::Done,
+            Err(error) => failed(rt, error),
+        },
+        UsageFault::OutOfMemory => Ending::Failed,
+        _ => Ending::WrongArguments,
+    }
+}
+
+// Does what the arguments ask for.
+fn run(rt: &(impl Env + Files + Input + Print + Eprint + AllocGlobal)) -> Ending {
+    let words = match arguments(rt) {
+        Ok(words) => words,
+        Err(ending) => return ending,
     };
-    Ok(match file {
-        Some(path) => dump_file(&rt, path),
-        None => sim_input(&rt),
-    })
+    let usage = match usage(rt.alloc()) {
+        Ok(usage) => usage,
+        Err(error) => return failed(rt, error),
+    };
+    match usage.try_get_matches_from(words.as_slice()) {
+        Ok(given) => match given.subcommand() {
+            Some((_, options)) => match options.get_str("FILE") {
+                Some(path) => dump(rt, path),
+                None => sim(rt),
+            },
+            None => sim(rt),
+        },
+        Err(error) => refused(rt, &error),
+    }
+}
+
+fn main(rt: HostRuntime) -> ExitCode {
+    ExitCode::from(run(&rt).status())
 }

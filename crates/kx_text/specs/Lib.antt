@@ -4,3 +4,4 @@ pub mod World
 pub mod Script
 pub mod Dump
 pub mod Faults
+pub mod Statuses

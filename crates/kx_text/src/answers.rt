@@ -1,4 +1,4 @@
-//! The press: what is printed of a page, of a put and of a refusal.
+//! What is printed of a page, of a put and of a refusal.
 ghost use Rattle.std.specs.Prelude.{◌≡◌, ◌+ℤ◌, int_lt, option_map, OnOk, flat_map};
 ghost use Rattle.std.specs.Io.KnownBytes.{Appends};
 ghost use Rattle.kx_text.specs.World.{answer_text, batch_lines, end_text, offset_text};

@@ -1,4 +1,4 @@
-//! The interpreter's ear: which command a line's words are.
+//! Which command a line's words are.
 ghost use Rattle.std.specs.Prelude.{◌≡◌};
 ghost use Rattle.kx_text.specs.Command.{command_of, fetch_of, max_of, mode_of, named};
 ghost use Rattle.kx_text.specs.Command.{partition_of, put_of, world_of};

@@ -1,4 +1,4 @@
-//! The dump: what is printed of a file of record batches, for those who look into a log.
+//! What is printed of a file of record batches, for those who look into a log.
 ghost use Rattle.std.specs.Prelude.{◌≡◌, ◌≤◌, ◌<◌, ◌*◌, ◌⊎◌, ℕ, List, [], length, drop};
 ghost use Rattle.std.specs.Prelude.{◌++◌, Err, IsOkUnless, OnOk, codes, option_map, take};
 ghost use Rattle.std.specs.Fmt.{signed_decimal};

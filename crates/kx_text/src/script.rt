@@ -1,4 +1,4 @@
-//! The bridge: reads a script line by line, has each line carried out, and writes its answer.
+//! Runs a script: reads it line by line, has each line carried out, and writes its answer.
 ghost use Rattle.std.specs.Prelude.{◌≡◌, ◌++◌, Some, IfSome, IsOk, MatchResult, codes};
 ghost use Rattle.kx_text.specs.declared.command.Command.TheVariants as command;
 ghost use Rattle.kx_text.specs.declared.fault.ScriptFault.TheVariants as fault;

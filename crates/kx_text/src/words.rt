@@ -1,4 +1,4 @@
-//! The reading room: a line's text, its words and its numbers.
+//! Reading: a line's text, its words and its numbers.
 ghost use Rattle.std.specs.Prelude.{◌≡◌, ◌↔◌, ◌<◌, ◌^◌, [], ◌∷◌, IsNone, IfSome, option_map};
 ghost use Rattle.std.specs.Iterator.{YieldsFirstRef, item_count};
 ghost use Rattle.kx_text.specs.Words.{before, behind, below, is_visible, is_word, number_below};

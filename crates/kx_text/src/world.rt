@@ -1,4 +1,4 @@
-//! The engine room: the partitions of a script, and what a put or a fetch does to them.
+//! The partitions of a script, and what a put or a fetch does to them.
 ghost use Rattle.std.specs.Prelude.{◌≡◌, ◌<◌, [], true, false, length, replicate, IfOk, OnOk};
 ghost use Rattle.std.specs.Prelude.{OnErr, MatchResult, Ok, slice_index_or, slice_set};
 ghost use Rattle.kx_batch.specs.Build.{batch_text};
