@@ -1,5 +1,5 @@
 //! What a partition keeps of all producers with an id.
-ghost use Rattle.std.specs.Prelude.{◌≡◌, IfOk, OnOk, OnErr, IsErr, None, true, false};
+ghost use Rattle.std.specs.Prelude.{◌≡◌, ◌<◌, IfOk, OnOk, OnErr, IsErr, None, true, false, length};
 ghost use Rattle.std.specs.Option.{option_copied, option_map};
 ghost use Rattle.std.specs.FinMap as map;
 ghost use Rattle.kx_producer.specs.Known.{id_in, known_of, marked_in, noted, noted_all};
@@ -61,9 +61,10 @@ impl Producers {
     ///
     /// # Errors
     ///
-    /// Only for want of memory.
+    /// Only for want of memory, which no log without entries meets.
     pub fn rebuild(alloc: Global, entries: &[Noted]) -> Result<Producers, AllocError>
-        ensures { IfOk result (λ producers. producers.table ≡ noted_all entries.now) }
+        ensures table { IfOk result (λ producers. producers.table ≡ noted_all entries.now) }
+        ensures wanted { IsErr result → 0 < length entries.now }
     {
         let mut producers = Producers::new(alloc);
         for entry in entries {

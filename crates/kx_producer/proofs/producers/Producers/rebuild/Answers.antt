@@ -19,7 +19,7 @@ loop-entry-preserved c =
     ∙ sym (fold_more (λ (table : Table) (e : Noted). noted e table) empty entries index entry
     c.loop-entry-test.true)
 
-pub returns : goal.returns
-returns c =
+pub returns-clause-table : goal.returns-clause-table
+returns-clause-table c =
     c.loop-entry.invariant
     ∙ ap noted_all (take_all c.loop-entry.entry-index c.args.entries.now c.loop-entry-test.false)
