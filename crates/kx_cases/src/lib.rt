@@ -12,7 +12,9 @@ pub use lines::{Line, read_line};
 pub use runs::Runs;
 pub use subject::Subject;
 pub use tally::{Tally, try_cases};
-pub use telling::{told, told_bytes, told_option, told_same, value};
+pub use telling::{
+    known, told, told_bytes, told_done, told_name, told_option, told_same, told_value, value,
+};
 pub use texts::Texts;
 
 mod fault;

@@ -9,6 +9,16 @@ use std::alloc::{AllocError, Global};
 use std::fmt::{Debug, Display};
 use std::str::FromStr;
 
+/// What was read, where a step may write it so.
+pub fn known<T, E: Drop>(read: Result<T, E>) -> Result<T, StepFault>
+    ensures { MatchResult read (λ value. result ≡ Ok value) (λ _. result ≡ Err fault.Unknown) }
+{
+    match read {
+        Ok(value) => Ok(value),
+        Err(_) => Err(StepFault::Unknown),
+    }
+}
+
 /// The value that a word writes, as its type reads it.
 pub fn value<T: FromStr>(word: &str) -> Result<T, StepFault>
 where
@@ -16,7 +26,22 @@ where
     ensures { (given : Result T T.Err) × T.from_str_gives word.now given
         × MatchResult given (λ read. result ≡ Ok read) (λ _. result ≡ Err fault.Unknown) }
 {
-    word.parse::<T>().map_err(|_| StepFault::Unknown)
+    known(word.parse::<T>())
+}
+
+/// A value as it is printed.
+pub fn told_value<T: Display + Drop>(alloc: Global, value: T) -> Result<String, StepFault>
+    ensures { IfSome (T.output value) (λ bytes. IfOk result (λ text. string_bytes text ≡ bytes)) }
+{
+    Ok(format!(in alloc; "{value}")?)
+}
+
+/// The name of a value, such as a fault.
+pub fn told_name<E: Debug + Drop>(alloc: Global, fault: E) -> Result<String, StepFault>
+    ensures { IfSome (E.debug_output fault)
+        (λ bytes. IfOk result (λ text. string_bytes text ≡ bytes)) }
+{
+    Ok(format!(in alloc; "{fault:?}")?)
 }
 
 /// A value as it is printed, or the name of the fault that came in its place.
@@ -30,8 +55,20 @@ pub fn told<T: Display + Drop, E: Debug + Drop>(
         (λ bytes. IfOk result (λ text. string_bytes text ≡ bytes))) }
 {
     match given {
-        Ok(value) => Ok(format!(in alloc; "{value}")?),
-        Err(fault) => Ok(format!(in alloc; "{fault:?}")?),
+        Ok(value) => told_value(alloc, value),
+        Err(fault) => told_name(alloc, fault),
+    }
+}
+
+/// `ok`, or the name of the fault that came in its place.
+pub fn told_done<E: Debug + Drop>(alloc: Global, done: Result<(), E>) -> Result<String, StepFault>
+    ensures done { IfOk done (λ _. IfOk result (λ text. string_bytes text ≡ codes "ok")) }
+    ensures fault { IfErr done (λ fault. IfSome (E.debug_output fault)
+        (λ bytes. IfOk result (λ text. string_bytes text ≡ bytes))) }
+{
+    match done {
+        Ok(()) => told_value(alloc, "ok"),
+        Err(fault) => told_name(alloc, fault),
     }
 }
 

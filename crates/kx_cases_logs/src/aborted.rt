@@ -4,7 +4,7 @@
 //! behind it, or the fault.
 use crate::words::id_of;
 use kx_aborted::{Aborted, AbortedIndex, put_entry, read_entry};
-use kx_cases::{StepFault, Subject, Texts, told_bytes, value};
+use kx_cases::{StepFault, Subject, Texts, told_bytes, told_name, told_value, value};
 use std::alloc::Global;
 
 /// The index of a case.
@@ -59,7 +59,7 @@ fn read(alloc: Global, bytes: &[u8]) -> Result<String, StepFault> {
             let behind = told_bytes(alloc, behind)?;
             Ok(format!(in alloc; "{aborted} {behind}")?)
         }
-        Err(fault) => Ok(format!(in alloc; "{fault:?}")?),
+        Err(fault) => told_name(alloc, fault),
     }
 }
 
@@ -93,7 +93,7 @@ impl Subject for AbortedCases {
         match words {
             ["index", given @ ..] => {
                 self.index = index_with(self.alloc, aborted_of(given)?)?;
-                Ok(String::from_str(self.alloc, "ok")?)
+                told_value(self.alloc, "ok")
             }
             ["named", from, upper] => self.named(value(from)?, value(upper)?),
             ["entry", given @ ..] => entry(self.alloc, &aborted_of(given)?),

@@ -6,7 +6,7 @@
 use crate::stores::{FailingStore, failing};
 use crate::sweeps::{bits, cuts, failures, flips, grow};
 use kx_batch::BatchView;
-use kx_cases::{Runs, StepFault, Subject, Texts, told, told_option, value};
+use kx_cases::{Runs, StepFault, Subject, Texts, told, told_name, told_option, told_value, value};
 use kx_log::{AppendFault, OpenFault, PartitionLog, Store};
 use std::alloc::Global;
 
@@ -110,9 +110,9 @@ fn log_step(
     words: &[&str],
 ) -> Result<String, StepFault> {
     match words {
-        ["end"] => Ok(format!(in alloc; "{}", log.end())?),
-        ["failures"] => Ok(format!(in alloc; "{}", log.failures())?),
-        ["takes", count] => Ok(format!(in alloc; "{}", log.can_take(value(count)?))?),
+        ["end"] => told_value(alloc, log.end()),
+        ["failures"] => told_value(alloc, log.failures()),
+        ["takes", count] => told_value(alloc, log.can_take(value(count)?)),
         ["first"] => {
             let first = log.batches().next().map(|batch| batch.base_offset());
             told_option(alloc, first)
@@ -121,7 +121,10 @@ fn log_step(
             slice(alloc, log, value(from)?, value(upper)?, value(max)?)
         }
         ["reopen"] => told(alloc, reopened(log)),
-        _ => told(alloc, log_command(log, words).map(|_| "ok")),
+        _ => {
+            log_command(log, words)?;
+            told_value(alloc, "ok")
+        },
     }
 }
 
@@ -137,9 +140,9 @@ impl LogCases {
             Ok(log) => {
                 let end = log.end();
                 self.log = Some(log);
-                Ok(format!(in self.alloc; "{end}")?)
+                told_value(self.alloc, end)
             }
-            Err(fault) => Ok(format!(in self.alloc; "{fault:?}")?),
+            Err(fault) => told_name(self.alloc, fault),
         }
     }
 
@@ -186,7 +189,7 @@ impl Subject for LogCases {
             ["open", nth, keep, bytes] => {
                 self.open(texts.bytes(bytes)?, value(nth)?, value(keep)?)
             }
-            ["size", bytes] => Ok(format!(in self.alloc; "{}", texts.bytes(bytes)?.len())?),
+            ["size", bytes] => told_value(self.alloc, texts.bytes(bytes)?.len()),
             ["cuts" | "flips" | "bits" | "grow" | "failing", ..] => self.sweep(texts, words),
             _ => self.step(texts, words),
         }

@@ -2,7 +2,7 @@
 //! them, `first`, `epoch ID` and `full` tell of them, and `fill COUNT` begins one of each id below a
 //! number, at that offset, and tells before each whether they are full, and whether there is room.
 use crate::words::{epoch_of, id_of};
-use kx_cases::{Runs, StepFault, Subject, Texts, told, told_option, value};
+use kx_cases::{Runs, StepFault, Subject, Texts, known, told_done, told_option, told_value, value};
 use kx_open::{OPEN_LIMIT, OpenTxn, OpenTxns};
 use kx_wire::{Epoch, ProducerId};
 use std::alloc::Global;
@@ -18,7 +18,7 @@ pub struct OpenCases {
 fn told_txn(alloc: Global, txn: Option<OpenTxn>) -> Result<String, StepFault> {
     match txn {
         Some(OpenTxn { id, epoch, first }) => Ok(format!(in alloc; "{id} {epoch} {first}")?),
-        None => Ok(String::from_str(alloc, "none")?),
+        None => told_value(alloc, "none"),
     }
 }
 
@@ -34,17 +34,17 @@ impl OpenCases {
     // Begins a transaction, where none of its id is open.
     fn begin_txn(&mut self, id: ProducerId, epoch: Epoch, first: i64) -> Result<String, StepFault> {
         if self.open.epoch_of(id).is_some() {
-            return Ok(String::from_str(self.alloc, "already open")?);
+            return told_value(self.alloc, "already open");
         }
-        told(self.alloc, self.open.begin(id, epoch, first).map(|_| "ok"))
+        told_done(self.alloc, self.open.begin(id, epoch, first))
     }
 
     // Whether they are full, makes room, and begins the transaction of this number.
     fn begin_next(&mut self, number: u16) -> Result<String, StepFault> {
-        let id = ProducerId::try_from(i64::from(number)).map_err(|_| StepFault::Unknown)?;
-        let epoch = Epoch::try_from(0).map_err(|_| StepFault::Unknown)?;
+        let id = known(ProducerId::try_from(i64::from(number)))?;
+        let epoch = known(Epoch::try_from(0))?;
         let full = self.open.is_full();
-        let room = told(self.alloc, self.open.reserve().map(|_| "ok"))?;
+        let room = told_done(self.alloc, self.open.reserve())?;
         let begun = self.begin_txn(id, epoch, i64::from(number))?;
         Ok(format!(in self.alloc; "{full} {room} {begun}")?)
     }
@@ -71,11 +71,11 @@ impl Subject for OpenCases {
                 self.begin_txn(id_of(id)?, epoch_of(epoch)?, value(first)?)
             }
             ["end", id] => told_txn(self.alloc, self.open.end_at(id_of(id)?)),
-            ["reserve"] => told(self.alloc, self.open.reserve().map(|_| "ok")),
+            ["reserve"] => told_done(self.alloc, self.open.reserve()),
             ["first"] => told_option(self.alloc, self.open.first_open()),
             ["epoch", id] => told_option(self.alloc, self.open.epoch_of(id_of(id)?)),
-            ["full"] => Ok(format!(in self.alloc; "{}", self.open.is_full())?),
-            ["limit"] => Ok(format!(in self.alloc; "{OPEN_LIMIT}")?),
+            ["full"] => told_value(self.alloc, self.open.is_full()),
+            ["limit"] => told_value(self.alloc, OPEN_LIMIT),
             ["fill", count] => self.fill(value(count)?),
             _ => Err(StepFault::Unknown),
         }

@@ -3,7 +3,7 @@
 //! appended, `reserve ID` makes room. `check ID EPOCH FIRST LAST` tells the verdict on a batch,
 //! `epoch ID` and `marked ID` what is known of a producer.
 use crate::words::{epoch_of, id_of};
-use kx_cases::{StepFault, Subject, Texts, told, told_option, value};
+use kx_cases::{StepFault, Subject, Texts, told_done, told_name, told_option, told_value, value};
 use kx_producer::{Noted, Producers, RememberedBatch};
 use std::alloc::Global;
 
@@ -42,7 +42,7 @@ impl ProducerCases {
             batch: batch_of(first, last, offset)?,
         }];
         self.producers = Producers::rebuild(self.alloc, &entries)?;
-        Ok(String::from_str(self.alloc, "ok")?)
+        told_value(self.alloc, "ok")
     }
 
     fn data(&mut self, words: &[&str]) -> Result<String, StepFault> {
@@ -53,7 +53,7 @@ impl ProducerCases {
         let noted = self
             .producers
             .note_data(id_of(id)?, epoch_of(epoch)?, batch);
-        told(self.alloc, noted.map(|_| "ok"))
+        told_done(self.alloc, noted)
     }
 
     fn marker(&mut self, id: &str, epoch: &str, coordinator: &str) -> Result<String, StepFault> {
@@ -61,7 +61,7 @@ impl ProducerCases {
         let noted = self
             .producers
             .note_marker(id_of(id)?, epoch_of(epoch)?, coordinator);
-        told(self.alloc, noted.map(|_| "ok"))
+        told_done(self.alloc, noted)
     }
 
     fn check(&self, words: &[&str]) -> Result<String, StepFault> {
@@ -72,7 +72,7 @@ impl ProducerCases {
         let verdict = self
             .producers
             .check(id_of(id)?, epoch_of(epoch)?, first, last);
-        Ok(format!(in self.alloc; "{verdict:?}")?)
+        told_name(self.alloc, verdict)
     }
 }
 
@@ -88,7 +88,7 @@ impl Subject for ProducerCases {
             ["data", given @ ..] => self.data(given),
             ["marker", id, epoch, coordinator] => self.marker(id, epoch, coordinator),
             ["check", given @ ..] => self.check(given),
-            ["reserve", id] => told(self.alloc, self.producers.reserve(id_of(id)?).map(|_| "ok")),
+            ["reserve", id] => told_done(self.alloc, self.producers.reserve(id_of(id)?)),
             ["epoch", id] => told_option(self.alloc, self.producers.epoch(id_of(id)?)),
             ["marked", id] => told_option(self.alloc, self.producers.marked_by(id_of(id)?)),
             _ => Err(StepFault::Unknown),

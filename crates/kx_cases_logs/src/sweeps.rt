@@ -2,7 +2,7 @@
 //! of bytes that a failed append leaves, and growth that may be refused.
 use crate::logs::{append, opened, reopened};
 use crate::stores::failing;
-use kx_cases::{Runs, StepFault, Texts, told};
+use kx_cases::{Runs, StepFault, Texts, told, told_value};
 use kx_log::{AppendFault, MemStore, OpenFault, PartitionLog, Store};
 use std::alloc::Global;
 
@@ -89,7 +89,7 @@ fn after_failure(alloc: Global, texts: [&[u8]; 3], keep: u64) -> Result<String, 
     if fails_third(&mut log, texts)? {
         told(alloc, reopened(&mut log))
     } else {
-        Ok(String::from_str(alloc, "went otherwise")?)
+        told_value(alloc, "went otherwise")
     }
 }
 
@@ -152,5 +152,5 @@ pub fn grow(alloc: Global, count: u32, text: &[u8]) -> Result<String, StepFault>
         }
         grown = rereads(&mut log) && grown;
     }
-    Ok(String::from_str(alloc, if grown { "ok" } else { "went otherwise" })?)
+    told_value(alloc, if grown { "ok" } else { "went otherwise" })
 }
