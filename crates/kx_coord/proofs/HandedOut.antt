@@ -1,11 +1,14 @@
 -- The messages that are handed out.
-use Rattle.std.proofs.Common.{◌≡◌, ◌<◌, ◌∙◌, ℕ, zero, suc, ℤ, pos, Bool, true, false, List, [], ◌∷◌}
-use Rattle.std.proofs.Common.{map, filter, length, get_or, Result, Ok, Err, ap, arith, sym, subst}
+use Rattle.std.proofs.Common.{◌≡◌, ◌<◌, ◌∙◌, ◌+◌, ◌++◌, ℕ, zero, suc, ℤ, pos, Bool, true, false}
+use Rattle.std.proofs.Common.{List, [], ◌∷◌, map, filter, length, get_or, take, cond, append_assoc}
+use Rattle.std.proofs.Common.{Result, Ok, Err, ap, arith, sym, subst}
 use Rattle.std.proofs.lemmas.Bool.{cond_both, not_from_false}
-use Rattle.std.proofs.lemmas.List.{get_or-map, length-map}
+use Rattle.std.proofs.lemmas.List.{append-nil, flat_map_more, get_or-map, length-map, map-append}
+use Rattle.std.proofs.lemmas.List.{take_more}
+use Rattle.std.proofs.lemmas.List.Elements.{filter-append}
 use Rattle.std.proofs.lemmas.List.Folds.{length-flat_map-take}
 use Rattle.std.specs.List.{flat_map}
-use Rattle.std.specs.Prelude.{not, OnErr}
+use Rattle.std.specs.Prelude.{not, OnErr, OnOk}
 use Rattle.kx_wire.specs.declared.message.Held.{Held}
 use Rattle.kx_wire.specs.declared.message.Message.{Message}
 use Rattle.kx_wire.specs.declared.message.Message.TheVariants as msg
@@ -72,3 +75,60 @@ some_of f g xs i x lt at some =
     let one : 0 < length (f (get_or (map g xs) i (g x))) =
     subst (λ y. 0 < length (f y)) there some in
     omega (arith, one, length-flat_map-take f (map g xs) i (g x) within)
+
+------ one element more
+
+-- what is so of a call that succeeded
+pub told_ok : {A E : Type 0} (r : Result A E) (P : Type 0) (x : A) → r ≡ Ok x → OnOk r P → P
+told_ok r P x e p = subst (λ r. OnOk r P) e p
+
+pub one_taken : {A : Type 0} (xs : List A) (i : ℕ) (x : A) → i < length xs → x ≡ get_or xs i x
+    → take (i + 1) xs ≡ take i xs ++ x ∷ []
+one_taken xs i x lt at = take_more xs i x lt ∙ ap (λ y. take i xs ++ y ∷ []) (sym at)
+
+-- what one element more is owed comes last
+pub owed_more : {A B C : Type 0} (f : B → List C) (g : A → B) (xs : List A) (i : ℕ) (x : A)
+    (before after : List C) → i < length xs → x ≡ get_or xs i x
+    → before ≡ flat_map f (map g (take i xs)) → after ≡ before ++ f (g x)
+    → after ≡ flat_map f (map g (take (i + 1) xs))
+owed_more f g xs i x before after lt at so more =
+    more ∙ ap (λ l. l ++ f (g x)) so ∙ flat_map_more f [] (map g (take i xs)) (g x)
+    ∙ ap (flat_map f) (sym (map-append g (take i xs) (x ∷ [])))
+    ∙ ap (λ l. flat_map f (map g l)) (sym (one_taken xs i x lt at))
+
+-- a message more
+pub message_more : {A C : Type 0} (f : A → C) (start : List C) (xs : List A) (i : ℕ) (x : A)
+    (before after : List C) → i < length xs → x ≡ get_or xs i x
+    → before ≡ start ++ map f (take i xs) → after ≡ before ++ f x ∷ []
+    → after ≡ start ++ map f (take (i + 1) xs)
+message_more f start xs i x before after lt at so more =
+    more ∙ ap (λ l. l ++ f x ∷ []) so ∙ append_assoc start (map f (take i xs)) (f x ∷ [])
+    ∙ ap (λ l. start ++ l) (sym (map-append f (take i xs) (x ∷ [])))
+    ∙ ap (λ l. start ++ map f l) (sym (one_taken xs i x lt at))
+
+left_more : {A : Type 0} (test : A → Bool) (xs : List A) (i : ℕ) (x : A) (b : Bool)
+    → i < length xs → x ≡ get_or xs i x → test x ≡ b
+    → filter test (take (i + 1) xs) ≡ filter test (take i xs) ++ cond b (x ∷ []) []
+left_more test xs i x b lt at is =
+    ap (filter test) (one_taken xs i x lt at) ∙ filter-append test (take i xs) (x ∷ [])
+    ∙ ap (λ c. filter test (take i xs) ++ cond c (x ∷ []) []) is
+
+-- a message more, of an element that passes
+pub message_left : {A C : Type 0} (f : A → C) (test : A → Bool) (start : List C) (xs : List A)
+    (i : ℕ) (x : A) (before after : List C) → i < length xs → x ≡ get_or xs i x → test x ≡ true
+    → before ≡ start ++ map f (filter test (take i xs)) → after ≡ before ++ f x ∷ []
+    → after ≡ start ++ map f (filter test (take (i + 1) xs))
+message_left f test start xs i x before after lt at is so more =
+    let left = filter test (take i xs) in
+    more ∙ ap (λ l. l ++ f x ∷ []) so ∙ append_assoc start (map f left) (f x ∷ [])
+    ∙ ap (λ l. start ++ l) (sym (map-append f left (x ∷ [])))
+    ∙ ap (λ l. start ++ map f l) (sym (left_more test xs i x true lt at is))
+
+-- and none of one that doesn't
+pub none_left : {A C : Type 0} (f : A → C) (test : A → Bool) (start : List C) (xs : List A)
+    (i : ℕ) (x : A) (before : List C) → i < length xs → x ≡ get_or xs i x → test x ≡ false
+    → before ≡ start ++ map f (filter test (take i xs))
+    → before ≡ start ++ map f (filter test (take (i + 1) xs))
+none_left f test start xs i x before lt at is so =
+    so ∙ ap (λ l. start ++ map f l)
+    (sym (left_more test xs i x false lt at is ∙ append-nil (filter test (take i xs))))

@@ -111,17 +111,17 @@ impl<S: Store> Coordinator<S> {
         let entry = Entry::CoordinatorEpoch(epoch);
         match self.log.install_with(content, entry) {
             Ok(()) => {
-                self.table = opening.table;
+                self.table.replace(opening.table);
                 self.table.epoch = epoch.get();
                 self.clock = now;
-                self.answered = NotedMarkers::new(self.alloc);
+                self.answered.forget_all();
                 Ok(opening.handed)
             }
             Err(StoreFault::Memory) => Err(OpenFault::Memory),
             Err(StoreFault::Device) => {
-                self.table = opening.table;
+                self.table.replace(opening.table);
                 self.clock = now;
-                self.answered = NotedMarkers::new(self.alloc);
+                self.answered.forget_all();
                 Err(OpenFault::Device)
             }
         }

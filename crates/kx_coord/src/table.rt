@@ -77,6 +77,13 @@ impl Table {
         Ok(table)
     }
 
+    /// Gives way to that of a log that was read again.
+    pub(crate) fn replace(&mut self, table: Table)
+        ensures { self.new ≡ table }
+    {
+        *self = table;
+    }
+
     /// Makes room for one more row, so that the next note meets no want of memory.
     ///
     /// # Errors
