@@ -1,4 +1,7 @@
 use Rattle.std.proofs.Common.{sym, rules}
+use Rattle.std.specs.Int.{w32, w64}
+use Rattle.std.specs.Int.RustNames.{FitsSigned}
+use Rattle.std.proofs.lemmas.Int.{to_z-of_z}
 use Rattle.kx_message.proofs.copies.MessageClone.clone.Goals as goal
 
 pub returns-in-InitProducerId : goal.returns-in-InitProducerId
@@ -52,3 +55,30 @@ returns-in_ok-clone-in-FetchReply-2 c = record {
 pub returns-in_ok-clone-in-TxnOffsetCommit : goal.returns-in_ok-clone-in-TxnOffsetCommit
 returns-in_ok-clone-in-TxnOffsetCommit c =
     record { cases = rw c.in_ok-clone-in-TxnOffsetCommit.ensures.cases (search rules) }
+
+pub returns-in-ProduceReply : goal.returns-in-ProduceReply
+returns-in-ProduceReply c =
+    let fits : FitsSigned w64 c.in-ProduceReply.offset = search rules in
+    record { cases = rw (to_z-of_z w64 c.in-ProduceReply.offset fits) (sym c.in-ProduceReply.is) }
+
+pub returns-in-WriteMarker : goal.returns-in-WriteMarker
+returns-in-WriteMarker c =
+    let fits : FitsSigned w32 c.in-WriteMarker.coordinator_epoch = search rules in
+    let same = to_z-of_z w32 c.in-WriteMarker.coordinator_epoch fits in
+    record { cases = rw same (sym c.in-WriteMarker.is) }
+
+pub returns-in-Fetch : goal.returns-in-Fetch
+returns-in-Fetch c =
+    let fits : FitsSigned w64 c.in-Fetch.from = search rules in
+    record { cases = rw (to_z-of_z w64 c.in-Fetch.from fits) (sym c.in-Fetch.is) }
+
+pub returns-in-JoinReply : goal.returns-in-JoinReply
+returns-in-JoinReply c =
+    let fits : FitsSigned w32 c.in-JoinReply.generation = search rules in
+    record { cases = rw (to_z-of_z w32 c.in-JoinReply.generation fits) (sym c.in-JoinReply.is) }
+
+pub returns-in-OffsetFetchReply : goal.returns-in-OffsetFetchReply
+returns-in-OffsetFetchReply c =
+    let fits : FitsSigned w64 c.in-OffsetFetchReply.offset = search rules in
+    let same = to_z-of_z w64 c.in-OffsetFetchReply.offset fits in
+    record { cases = rw same (sym c.in-OffsetFetchReply.is) }
