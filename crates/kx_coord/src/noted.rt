@@ -146,6 +146,7 @@ impl NotedMarkers {
     {
         let _ = self.by_txn.swap_remove(&txn);
     }
+
     /// Forgets them all.
     pub(crate) fn forget_all(&mut self)
         ensures { self.new ≡ [] }
