@@ -5,7 +5,10 @@
 use kx_batch::{
     BatchBuilder, BatchView, BuildFault, HeaderView, RecordView, crc32c, marker_text, set_base,
 };
-use kx_cases::{Runs, StepFault, Subject, Texts, told, told_bytes, told_same, value};
+use kx_cases::{
+    Runs, StepFault, Subject, Texts, known, told, told_bytes, told_name, told_same, told_value,
+    value,
+};
 use kx_wire::{Epoch, Outcome, ProducerId};
 use std::alloc::Global;
 
@@ -35,7 +38,7 @@ fn read(alloc: Global, bytes: &[u8]) -> Result<String, StepFault> {
             let behind = told_bytes(alloc, behind)?;
             Ok(format!(in alloc; "{len} {behind}")?)
         }
-        Err(fault) => Ok(format!(in alloc; "{fault:?}")?),
+        Err(fault) => told_name(alloc, fault),
     }
 }
 
@@ -61,10 +64,27 @@ fn producer(alloc: Global, batch: &BatchView<'_>) -> Result<String, StepFault> {
 
 fn told_text(alloc: Global, text: Option<&[u8]>) -> Result<String, StepFault> {
     match text {
-        None => Ok(String::from_str(alloc, "null")?),
+        None => told_value(alloc, "null"),
         Some(bytes) if bytes.len() > TOLD => Ok(format!(in alloc; "({})", bytes.len())?),
         Some(bytes) => Ok(told_bytes(alloc, bytes)?),
     }
+}
+
+// A header, behind what is told before it.
+fn push_header(alloc: Global, text: &mut String, header: &HeaderView<'_>) -> Result<(), StepFault> {
+    let key = told_text(alloc, Some(header.key()))?;
+    let value = told_text(alloc, header.value())?;
+    Ok(write!(text, " {key}:{value}")?)
+}
+
+// How many headers there are, and each.
+fn told_headers(alloc: Global, record: &RecordView<'_>) -> Result<String, StepFault> {
+    let headers = record.headers();
+    let mut text = told_value(alloc, headers.len())?;
+    for header in headers {
+        push_header(alloc, &mut text, &header)?;
+    }
+    Ok(text)
 }
 
 // Attributes, timestamp delta and offset delta, key and value, how many headers, and each.
@@ -74,20 +94,13 @@ fn told_record(alloc: Global, record: &RecordView<'_>) -> Result<String, StepFau
     let offset = record.offset_delta();
     let key = told_text(alloc, record.key())?;
     let value = told_text(alloc, record.value())?;
-    let headers = record.headers();
-    let count = headers.len();
-    let mut text = format!(in alloc; "{attributes} {time} {offset} {key} {value} {count}")?;
-    for header in headers {
-        let key = told_text(alloc, Some(header.key()))?;
-        let value = told_text(alloc, header.value())?;
-        write!(text, " {key}:{value}")?;
-    }
-    Ok(text)
+    let headers = told_headers(alloc, record)?;
+    Ok(format!(in alloc; "{attributes} {time} {offset} {key} {value} {headers}")?)
 }
 
 // How many records there are.
 fn records(alloc: Global, batch: &BatchView<'_>) -> Result<String, StepFault> {
-    Ok(format!(in alloc; "{}", batch.records().len())?)
+    told_value(alloc, batch.records().len())
 }
 
 // The record of a number, counted from 0, as a view of the same text gives it.
@@ -98,14 +111,14 @@ fn record(alloc: Global, bytes: &[u8], number: usize) -> Result<String, StepFaul
     let same = BatchView::of_batch(batch.text());
     match same.records().nth(number) {
         Some(record) => told_record(alloc, &record),
-        None => Ok(String::from_str(alloc, "none")?),
+        None => told_value(alloc, "none"),
     }
 }
 
 fn end_marker(alloc: Global, batch: &BatchView<'_>) -> Result<String, StepFault> {
     match batch.end_marker() {
         Some((outcome, coordinator)) => Ok(format!(in alloc; "{outcome} {coordinator}")?),
-        None => Ok(String::from_str(alloc, "none")?),
+        None => told_value(alloc, "none"),
     }
 }
 
@@ -118,20 +131,48 @@ fn cuts(alloc: Global, bytes: &[u8]) -> Result<String, StepFault> {
     Ok(runs.finish()?)
 }
 
-fn flips(alloc: Global, bits: u8, from: usize, bytes: &[u8]) -> Result<String, StepFault> {
+fn flip(bytes: &mut Vec<u8>, place: usize, bits: u8) {
+    if let Some(byte) = bytes.as_mut_slice().get_mut(place) {
+        *byte ^= bits;
+    }
+}
+
+// What bytes are read as with some bits of one changed; they are then as before.
+fn flipped(
+    alloc: Global,
+    bytes: &mut Vec<u8>,
+    place: usize,
+    bits: u8,
+) -> Result<String, StepFault> {
+    flip(bytes, place, bits);
+    let answer = read(alloc, bytes.as_slice());
+    flip(bytes, place, bits);
+    answer
+}
+
+fn flips(alloc: Global, bits: u8, from: usize, bytes: Vec<u8>) -> Result<String, StepFault> {
+    let mut bytes = bytes;
     let mut runs = Runs::new(alloc);
-    let mut changed = Vec::from_slice(alloc, bytes)?;
-    for (place, byte) in bytes.iter().enumerate().skip(from) {
-        if let Some(slot) = changed.as_mut_slice().get_mut(place) {
-            *slot = *byte ^ bits;
-        }
-        let answer = read(alloc, changed.as_slice())?;
+    for place in from..bytes.len() {
+        let answer = flipped(alloc, &mut bytes, place, bits)?;
         runs.push(place, answer)?;
-        if let Some(slot) = changed.as_mut_slice().get_mut(place) {
-            *slot = *byte;
-        }
     }
     Ok(runs.finish()?)
+}
+
+fn flips_step(alloc: Global, texts: &Texts, words: &[&str]) -> Result<String, StepFault> {
+    let [bits, from, bytes] = words else {
+        return Err(StepFault::Unknown);
+    };
+    flips(alloc, value(bits)?, value(from)?, texts.bytes(bytes)?)
+}
+
+fn record_step(alloc: Global, texts: &Texts, words: &[&str]) -> Result<String, StepFault> {
+    let [number, bytes] = words else {
+        return Err(StepFault::Unknown);
+    };
+    let number = value::<usize>(number)?;
+    record(alloc, texts.bytes(bytes)?.as_slice(), number)
 }
 
 // The control batch of a producer's id and epoch, an outcome and a coordinator's epoch.
@@ -139,8 +180,8 @@ fn marker(alloc: Global, words: &[&str]) -> Result<Result<Vec<u8>, BuildFault>, 
     let [id, epoch, outcome, coordinator] = words else {
         return Err(StepFault::Unknown);
     };
-    let id = ProducerId::try_from(value::<i64>(id)?).map_err(|_| StepFault::Unknown)?;
-    let epoch = Epoch::try_from(value::<i16>(epoch)?).map_err(|_| StepFault::Unknown)?;
+    let id = known(ProducerId::try_from(value::<i64>(id)?))?;
+    let epoch = known(Epoch::try_from(value::<i16>(epoch)?))?;
     let outcome = value::<Outcome>(outcome)?;
     let coordinator = value::<i32>(coordinator)?;
     Ok(marker_text(alloc, id, epoch, outcome, coordinator))
@@ -169,7 +210,7 @@ fn batch_step(alloc: Global, name: &str, bytes: &[u8]) -> Result<String, StepFau
 fn bytes_step(alloc: Global, name: &str, bytes: &[u8]) -> Result<String, StepFault> {
     match name {
         "crc" => Ok(format!(in alloc; "{:08x}", crc32c(bytes))?),
-        "size" => Ok(format!(in alloc; "{}", bytes.len())?),
+        "size" => told_value(alloc, bytes.len()),
         "read" => read(alloc, bytes),
         "cuts" => cuts(alloc, bytes),
         _ => batch_step(alloc, name, bytes),
@@ -185,19 +226,20 @@ impl BatchCases {
         }
     }
 
-    // Begins a batch of this producer.
-    fn build(
-        &mut self,
-        attributes: i16,
-        id: i64,
-        epoch: i16,
-        sequence: i32,
-    ) -> Result<String, StepFault> {
+    // Begins a batch of these attributes, and of this producer's id, epoch and sequence.
+    fn build(&mut self, words: &[&str]) -> Result<String, StepFault> {
+        let [attributes, id, epoch, sequence] = words else {
+            return Err(StepFault::Unknown);
+        };
+        let attributes = value::<i16>(attributes)?;
+        let id = value::<i64>(id)?;
+        let epoch = value::<i16>(epoch)?;
+        let sequence = value::<i32>(sequence)?;
         if attributes.cast_unsigned() % 8 != 0 {
             return Err(StepFault::Unknown);
         }
         self.builder = BatchBuilder::new(self.alloc, attributes, id, epoch, sequence);
-        Ok(String::from_str(self.alloc, "ok")?)
+        told_value(self.alloc, "ok")
     }
 
     // Pushes a record of this key and value, with these headers.
@@ -212,7 +254,7 @@ impl BatchCases {
         let value = nullable(texts, value)?;
         self.builder
             .push(key.as_deref(), value.as_deref(), headers)?;
-        Ok(String::from_str(self.alloc, "ok")?)
+        told_value(self.alloc, "ok")
     }
 
     fn push_with_header(&mut self, texts: &Texts, words: &[&str]) -> Result<String, StepFault> {
@@ -240,27 +282,37 @@ impl BatchCases {
     ) -> Result<String, StepFault> {
         match made {
             Ok(text) => Ok(told_same(self.alloc, text.as_slice(), want.as_slice())?),
-            Err(fault) => Ok(format!(in self.alloc; "{fault:?}")?),
+            Err(fault) => told_name(self.alloc, fault),
         }
     }
 
-    fn builder_step(&mut self, texts: &Texts, words: &[&str]) -> Result<String, StepFault> {
+    fn push_step(&mut self, texts: &Texts, words: &[&str]) -> Result<String, StepFault> {
         match words {
-            ["build", attributes, id, epoch, sequence] => {
-                self.build(
-                    value(attributes)?,
-                    value(id)?,
-                    value(epoch)?,
-                    value(sequence)?,
-                )
-            }
-            ["push", key, value] => self.push(texts, key, value, &[]),
-            ["push", given @ ..] => self.push_with_header(texts, given),
+            [key, value] => self.push(texts, key, value, &[]),
+            _ => self.push_with_header(texts, words),
+        }
+    }
+
+    fn marker_step(&self, texts: &Texts, words: &[&str]) -> Result<String, StepFault> {
+        let [given @ .., want] = words else {
+            return Err(StepFault::Unknown);
+        };
+        self.told_made(marker(self.alloc, given)?, texts.bytes(want)?)
+    }
+
+    fn based_step(&self, texts: &Texts, words: &[&str]) -> Result<String, StepFault> {
+        let [offset, want] = words else {
+            return Err(StepFault::Unknown);
+        };
+        self.told_made(self.based(value(offset)?), texts.bytes(want)?)
+    }
+
+    // A step that takes bytes, or none.
+    fn short_step(&self, texts: &Texts, words: &[&str]) -> Result<String, StepFault> {
+        match words {
             ["built"] => told(self.alloc, self.builder.finish().map(|text| text.len())),
             ["finish", want] => self.told_made(self.builder.finish(), texts.bytes(want)?),
-            ["based", offset, want] => {
-                self.told_made(self.based(value(offset)?), texts.bytes(want)?)
-            }
+            [name, bytes] => bytes_step(self.alloc, name, texts.bytes(bytes)?.as_slice()),
             _ => Err(StepFault::Unknown),
         }
     }
@@ -273,23 +325,17 @@ impl Subject for BatchCases {
     }
 
     fn answer(&mut self, texts: &Texts, words: &[&str]) -> Result<String, StepFault> {
-        match words {
-            ["build" | "push" | "finish" | "built" | "based", ..] => {
-                self.builder_step(texts, words)
-            }
-            ["marker", given @ .., want] => {
-                self.told_made(marker(self.alloc, given)?, texts.bytes(want)?)
-            }
-            ["record", number, bytes] => {
-                let bytes = texts.bytes(bytes)?;
-                record(self.alloc, bytes.as_slice(), value(number)?)
-            }
-            ["flips", bits, from, bytes] => {
-                let bytes = texts.bytes(bytes)?;
-                flips(self.alloc, value(bits)?, value(from)?, bytes.as_slice())
-            }
-            [name, bytes] => bytes_step(self.alloc, name, texts.bytes(bytes)?.as_slice()),
-            _ => Err(StepFault::Unknown),
+        let [name, given @ ..] = words else {
+            return Err(StepFault::Unknown);
+        };
+        match *name {
+            "build" => self.build(given),
+            "push" => self.push_step(texts, given),
+            "based" => self.based_step(texts, given),
+            "marker" => self.marker_step(texts, given),
+            "record" => record_step(self.alloc, texts, given),
+            "flips" => flips_step(self.alloc, texts, given),
+            _ => self.short_step(texts, words),
         }
     }
 }

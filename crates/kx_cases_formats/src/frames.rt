@@ -2,7 +2,7 @@
 //! tells the frames of the messages that come of it, or the fault; `singly BYTES` gives each byte
 //! by itself. `message FRAME` tells the one message of a frame, `fields FRAME` its fields,
 //! `receiver FRAME` where it goes. `random SEED COUNT BYTES` feeds random pieces of the bytes.
-use kx_cases::{Runs, StepFault, Subject, Texts, told, told_bytes, value};
+use kx_cases::{Runs, StepFault, Subject, Texts, told_bytes, told_name, told_value, value};
 use kx_wire::{FrameFault, Frames, Message, put_frame};
 use std::alloc::Global;
 
@@ -49,13 +49,13 @@ fn message_of(alloc: Global, bytes: &[u8]) -> Result<Message, StepFault> {
 fn message(alloc: Global, bytes: &[u8]) -> Result<String, StepFault> {
     let message = message_of(alloc, bytes)?;
     if frame(alloc, &message)?.as_slice() != bytes {
-        return Ok(String::from_str(alloc, "written otherwise")?);
+        return told_value(alloc, "written otherwise");
     }
     let copy = message.clone()?;
     if frame(alloc, &copy)?.as_slice() != bytes {
-        return Ok(String::from_str(alloc, "copied otherwise")?);
+        return told_value(alloc, "copied otherwise");
     }
-    Ok(format!(in alloc; "{message}")?)
+    told_value(alloc, message)
 }
 
 // The fields of a Join or of an EndReply, by name.
@@ -149,7 +149,7 @@ impl FrameCases {
     fn feed(&mut self, piece: &[u8]) -> Result<String, StepFault> {
         match self.frames.feed(piece) {
             Ok(messages) => told_frames(self.alloc, messages.as_slice()),
-            Err(fault) => Ok(format!(in self.alloc; "{fault:?}")?),
+            Err(fault) => told_name(self.alloc, fault),
         }
     }
 
@@ -182,14 +182,11 @@ impl Subject for FrameCases {
             ("message", []) => message(self.alloc, bytes),
             ("fields", []) => fields(self.alloc, bytes),
             ("receiver", []) => {
-                told(
-                    self.alloc,
-                    message_of(self.alloc, bytes).map(|message| message.receiver()),
-                )
+                told_value(self.alloc, message_of(self.alloc, bytes)?.receiver())
             }
             ("random", [seed, count]) => {
-                let seen = random(self.alloc, value(seed)?, value(count)?, bytes);
-                told(self.alloc, seen)
+                let seen = random(self.alloc, value(seed)?, value(count)?, bytes)?;
+                told_value(self.alloc, seen)
             }
             _ => Err(StepFault::Unknown),
         }

@@ -1,7 +1,7 @@
 //! Numbers as formats spell them, by the names of their types: `varint`, `varlong`, `u8`, `i8` to
 //! `u64`, `i64`. `put KIND N` appends a number to what the case has written, `written` tells that,
 //! `read KIND BYTES` tells a number and how it ends, `at KIND PLACE BYTES` one at a place.
-use kx_cases::{StepFault, Subject, Texts, told, told_bytes, value};
+use kx_cases::{StepFault, Subject, Texts, told_bytes, told_name, told_value, value};
 use kx_varint::{
     VarFault, i16_at, i32_at, i64_at, numbers_have_place_value, put_i8, put_i16, put_i32, put_i64,
     put_u8, put_u16, put_u32, put_u64, put_varint, put_varlong, read_i8, read_i16, read_i32,
@@ -54,7 +54,7 @@ fn told_field<T: Display + Drop>(
             let behind = told_bytes(alloc, behind)?;
             Ok(format!(in alloc; "{number} {behind}")?)
         }
-        Err(fault) => Ok(format!(in alloc; "{fault:?}")?),
+        Err(fault) => told_name(alloc, fault),
     }
 }
 
@@ -65,7 +65,7 @@ fn told_groups<T: Display + Drop>(
 ) -> Result<String, StepFault> {
     match groups {
         Ok((number, len)) => Ok(format!(in alloc; "{number} {len}")?),
-        Err(fault) => Ok(format!(in alloc; "{fault:?}")?),
+        Err(fault) => told_name(alloc, fault),
     }
 }
 
@@ -104,7 +104,7 @@ fn at(bytes: &[u8], kind: &str, place: usize) -> Result<i64, StepFault> {
 fn laws(alloc: Global) -> Result<String, StepFault> {
     varints_are_read_again();
     numbers_have_place_value();
-    Ok(String::from_str(alloc, "ok")?)
+    told_value(alloc, "ok")
 }
 
 impl NumberCases {
@@ -141,7 +141,7 @@ impl Subject for NumberCases {
             ["read", kind, bytes] => read(self.alloc, kind, texts.bytes(bytes)?.as_slice()),
             ["at", kind, place, bytes] => {
                 let bytes = texts.bytes(bytes)?;
-                told(self.alloc, at(bytes.as_slice(), kind, value(place)?))
+                told_value(self.alloc, at(bytes.as_slice(), kind, value(place)?)?)
             }
             ["laws"] => laws(self.alloc),
             _ => Err(StepFault::Unknown),

@@ -4,10 +4,10 @@ use crate::conversions::{
     count_in, data_partition, is_newer, is_same, last_in, members_in, millis_of, offsets,
     reread_code, reread_id, reread_outcome, reread_txn, text_of,
 };
-use kx_cases::{StepFault, Subject, Texts, told, told_same, value};
+use kx_cases::{StepFault, Subject, Texts, known, told, told_name, told_same, told_value, value};
 use kx_wire::{
     ClientId, Epoch, ErrorCode, GroupId, Held, Outcome, PartitionId, ProducerId, Raised, Timeout,
-    TxnId, ValueFault,
+    TxnId,
 };
 use std::alloc::Global;
 use std::collections::{BTreeMap, HashMap};
@@ -22,16 +22,11 @@ pub struct ValueCases {
     members: HashMap<GroupId, u64>,
 }
 
-// The name of a fault.
-fn refused(alloc: Global, fault: ValueFault) -> Result<String, StepFault> {
-    Ok(format!(in alloc; "{fault:?}")?)
-}
-
 // A code's number, how it is printed, its name and which it is.
 fn code(alloc: Global, number: i16) -> Result<String, StepFault> {
     match ErrorCode::try_from(number).and_then(reread_code) {
         Ok(code) => Ok(format!(in alloc; "{} {code} {} {code:?}", code.number(), code.name())?),
-        Err(fault) => refused(alloc, fault),
+        Err(fault) => told_name(alloc, fault),
     }
 }
 
@@ -39,7 +34,7 @@ fn code(alloc: Global, number: i16) -> Result<String, StepFault> {
 fn producer(alloc: Global, number: i64) -> Result<String, StepFault> {
     match ProducerId::try_from(number).and_then(reread_id) {
         Ok(id) => Ok(format!(in alloc; "{} {id}", id.get())?),
-        Err(fault) => refused(alloc, fault),
+        Err(fault) => told_name(alloc, fault),
     }
 }
 
@@ -47,7 +42,7 @@ fn producer(alloc: Global, number: i64) -> Result<String, StepFault> {
 fn epoch(alloc: Global, number: i16) -> Result<String, StepFault> {
     match Epoch::try_from(number) {
         Ok(epoch) => Ok(format!(in alloc; "{} {epoch}", epoch.get())?),
-        Err(fault) => refused(alloc, fault),
+        Err(fault) => told_name(alloc, fault),
     }
 }
 
@@ -66,7 +61,7 @@ fn told_partition(alloc: Global, partition: PartitionId) -> Result<String, StepF
 fn partition(alloc: Global, number: u16) -> Result<String, StepFault> {
     match PartitionId::try_from(number) {
         Ok(partition) => told_partition(alloc, partition),
-        Err(fault) => refused(alloc, fault),
+        Err(fault) => told_name(alloc, fault),
     }
 }
 
@@ -84,7 +79,7 @@ fn timeout(alloc: Global, number: u32) -> Result<String, StepFault> {
     let millis = millis_of(number);
     match (millis, Timeout::try_from(number)) {
         (Ok(millis), Ok(timeout)) => Ok(format!(in alloc; "{millis} {timeout}")?),
-        (Err(fault), _) | (_, Err(fault)) => refused(alloc, fault),
+        (Err(fault), _) | (_, Err(fault)) => told_name(alloc, fault),
     }
 }
 
@@ -92,7 +87,7 @@ fn timeout(alloc: Global, number: u32) -> Result<String, StepFault> {
 fn outcome(alloc: Global, byte: u8) -> Result<String, StepFault> {
     match Outcome::try_from(byte).and_then(reread_outcome) {
         Ok(outcome) => Ok(format!(in alloc; "{} {outcome}", outcome.get())?),
-        Err(fault) => refused(alloc, fault),
+        Err(fault) => told_name(alloc, fault),
     }
 }
 
@@ -120,13 +115,13 @@ fn name(alloc: Global, bytes: &[u8]) -> Result<String, StepFault> {
             Ok(format!(in alloc; "{txn} {group}")?)
         }
         (Err(txn), Err(group)) => Ok(format!(in alloc; "{txn:?} {group:?}")?),
-        _ => Ok(String::from_str(alloc, "one of both")?),
+        _ => told_value(alloc, "one of both"),
     }
 }
 
 // What a text is read as, and printed.
 fn parsed(alloc: Global, kind: &str, bytes: &[u8]) -> Result<String, StepFault> {
-    let text = str::from_utf8(bytes).map_err(|_| StepFault::Unknown)?;
+    let text = known(str::from_utf8(bytes))?;
     match kind {
         "txn" => told(alloc, text.parse::<TxnId>()),
         "group" => told(alloc, text.parse::<GroupId>()),
@@ -138,8 +133,8 @@ fn parsed(alloc: Global, kind: &str, bytes: &[u8]) -> Result<String, StepFault> 
 // How the faults of texts are printed.
 fn why(alloc: Global, bytes: &[u8]) -> Result<String, StepFault> {
     match TxnId::try_from(bytes) {
-        Ok(id) => Ok(format!(in alloc; "{id:?}")?),
-        Err(fault) => Ok(format!(in alloc; "{fault}")?),
+        Ok(id) => told_name(alloc, id),
+        Err(fault) => told_value(alloc, fault),
     }
 }
 
@@ -153,11 +148,11 @@ fn raised(alloc: Global, id: &str, epoch: &str) -> Result<String, StepFault> {
 }
 
 fn id_of(word: &str) -> Result<ProducerId, StepFault> {
-    ProducerId::try_from(value::<i64>(word)?).map_err(|_| StepFault::Unknown)
+    known(ProducerId::try_from(value::<i64>(word)?))
 }
 
 fn epoch_of(word: &str) -> Result<Epoch, StepFault> {
-    Epoch::try_from(value::<i16>(word)?).map_err(|_| StepFault::Unknown)
+    known(Epoch::try_from(value::<i16>(word)?))
 }
 
 // Whether a comparison holds.
@@ -207,6 +202,33 @@ impl ValueCases {
             _ => Err(StepFault::Unknown),
         }
     }
+
+    fn keep_step(&mut self, words: &[&str]) -> Result<String, StepFault> {
+        let [kind, key, number] = words else {
+            return Err(StepFault::Unknown);
+        };
+        let number = self.keep(kind, key, value(number)?)?;
+        told_value(self.alloc, number)
+    }
+
+    // A step of two words behind its name.
+    fn pair_step(&self, texts: &Texts, name: &str, a: &str, b: &str) -> Result<String, StepFault> {
+        match name {
+            "parse" => parsed(self.alloc, a, texts.bytes(b)?.as_slice()),
+            "raised" => raised(self.alloc, a, b),
+            "kept" => told_value(self.alloc, self.kept(a, b)?),
+            _ => told_value(self.alloc, holds(name, a, b)?),
+        }
+    }
+}
+
+// A step of one word behind its name.
+fn word_step(alloc: Global, texts: &Texts, kind: &str, word: &str) -> Result<String, StepFault> {
+    match kind {
+        "name" => name(alloc, texts.bytes(word)?.as_slice()),
+        "why" => why(alloc, texts.bytes(word)?.as_slice()),
+        _ => number_step(alloc, kind, word),
+    }
 }
 
 impl Subject for ValueCases {
@@ -218,16 +240,9 @@ impl Subject for ValueCases {
     fn answer(&mut self, texts: &Texts, words: &[&str]) -> Result<String, StepFault> {
         match words {
             ["offsets"] => told_partition(self.alloc, offsets()),
-            ["name", bytes] => name(self.alloc, texts.bytes(bytes)?.as_slice()),
-            ["why", bytes] => why(self.alloc, texts.bytes(bytes)?.as_slice()),
-            ["parse", kind, bytes] => parsed(self.alloc, kind, texts.bytes(bytes)?.as_slice()),
-            ["raised", id, epoch] => raised(self.alloc, id, epoch),
-            ["keep", kind, key, number] => {
-                told(self.alloc, self.keep(kind, key, value(number)?))
-            }
-            ["kept", kind, key] => told(self.alloc, self.kept(kind, key)),
-            [kind, number] => number_step(self.alloc, kind, number),
-            [relation, a, b] => told(self.alloc, holds(relation, a, b)),
+            [kind, word] => word_step(self.alloc, texts, kind, word),
+            [name, a, b] => self.pair_step(texts, name, a, b),
+            ["keep", given @ ..] => self.keep_step(given),
             _ => Err(StepFault::Unknown),
         }
     }
