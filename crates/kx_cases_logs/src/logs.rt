@@ -163,17 +163,27 @@ impl LogCases {
         }
     }
 
+    // A step on logs of its own, or on the one that is open.
     fn sweep(&mut self, texts: &Texts, words: &[&str]) -> Result<String, StepFault> {
         let alloc = self.alloc;
         match words {
+            ["size", bytes] => told_value(alloc, texts.bytes(bytes)?.len()),
             ["cuts", bytes] => cuts(alloc, texts.bytes(bytes)?.as_slice()),
             ["flips", from, to, bytes] => {
                 flips(alloc, value(from)?, value(to)?, texts.bytes(bytes)?)
             }
+            _ => self.numbered(texts, words),
+        }
+    }
+
+    // The same of a sweep that takes one number.
+    fn numbered(&mut self, texts: &Texts, words: &[&str]) -> Result<String, StepFault> {
+        let alloc = self.alloc;
+        match words {
             ["bits", place, bytes] => bits(alloc, value(place)?, texts.bytes(bytes)?),
             ["grow", count, text] => grow(alloc, value(count)?, texts.bytes(text)?.as_slice()),
             ["failing", keeps, given @ ..] => failures(alloc, value(keeps)?, texts, given),
-            _ => Err(StepFault::Unknown),
+            _ => self.step(texts, words),
         }
     }
 }
@@ -189,9 +199,7 @@ impl Subject for LogCases {
             ["open", nth, keep, bytes] => {
                 self.open(texts.bytes(bytes)?, value(nth)?, value(keep)?)
             }
-            ["size", bytes] => told_value(self.alloc, texts.bytes(bytes)?.len()),
-            ["cuts" | "flips" | "bits" | "grow" | "failing", ..] => self.sweep(texts, words),
-            _ => self.step(texts, words),
+            _ => self.sweep(texts, words),
         }
     }
 }

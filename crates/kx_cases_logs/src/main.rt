@@ -22,31 +22,65 @@ use open::OpenCases;
 use producers::ProducerCases;
 use std::process::ExitCode;
 use std::rt::Files;
-use std::{env, fs};
+use std::{env, fs, io};
 use txnlogs::TxnLogCases;
 
-// Tries the cases of a file, whose name says of what they are.
+fn try_open(rt: &(impl Print + AllocGlobal), text: &str) -> io::Result<Tally> {
+    try_cases(rt, &mut OpenCases::new(rt.alloc()), text)
+}
+
+fn try_aborted(rt: &(impl Print + AllocGlobal), text: &str) -> io::Result<Tally> {
+    try_cases(rt, &mut AbortedCases::new(rt.alloc()), text)
+}
+
+fn try_producers(rt: &(impl Print + AllocGlobal), text: &str) -> io::Result<Tally> {
+    try_cases(rt, &mut ProducerCases::new(rt.alloc()), text)
+}
+
+fn try_logs(rt: &(impl Print + AllocGlobal), text: &str) -> io::Result<Tally> {
+    try_cases(rt, &mut LogCases::new(rt.alloc()), text)
+}
+
+fn try_entries(rt: &(impl Print + AllocGlobal), text: &str) -> io::Result<Tally> {
+    try_cases(rt, &mut EntryCases::new(rt.alloc()), text)
+}
+
+fn try_txnlogs(rt: &(impl Print + AllocGlobal), text: &str) -> io::Result<Tally> {
+    try_cases(rt, &mut TxnLogCases::new(rt.alloc()), text)
+}
+
+// Tries the cases of a text; the name of its file says of what they are.
+fn try_text(rt: &(impl Print + AllocGlobal), path: &str, text: &str) -> Result<Tally> {
+    let tally = match path {
+        "open.cases" => try_open(rt, text),
+        "aborted.cases" => try_aborted(rt, text),
+        "producers.cases" => try_producers(rt, text),
+        "logs.cases" => try_logs(rt, text),
+        "entries.cases" => try_entries(rt, text),
+        "txnlogs.cases" => try_txnlogs(rt, text),
+        _ => bail!("{path} has no cases of logs"),
+    };
+    Ok(tally?)
+}
+
+// Tries the cases of a file.
 fn try_file(rt: &(impl Files + Print + AllocGlobal), path: &str) -> Result<Tally> {
     let file = fs::read_to_string(rt, path).context(format_args!("reading {path}"))?;
     println!(rt; "{path}")?;
-    let alloc = rt.alloc();
-    let text = file.as_str();
-    Ok(match path {
-        "open.cases" => try_cases(rt, &mut OpenCases::new(alloc), text)?,
-        "aborted.cases" => try_cases(rt, &mut AbortedCases::new(alloc), text)?,
-        "producers.cases" => try_cases(rt, &mut ProducerCases::new(alloc), text)?,
-        "logs.cases" => try_cases(rt, &mut LogCases::new(alloc), text)?,
-        "entries.cases" => try_cases(rt, &mut EntryCases::new(alloc), text)?,
-        "txnlogs.cases" => try_cases(rt, &mut TxnLogCases::new(alloc), text)?,
-        _ => bail!("{path} has no cases of logs"),
-    })
+    try_text(rt, path, file.as_str())
+}
+
+// Tries the cases of the files that the arguments name.
+fn try_files(rt: &HostRuntime) -> Result<Tally> {
+    let mut tally = Tally::none();
+    for path in env::args(rt)?.skip(1) {
+        tally = tally.and(try_file(rt, path.as_str())?);
+    }
+    Ok(tally)
 }
 
 fn main(rt: HostRuntime) -> Result<ExitCode> {
-    let mut tally = Tally::none();
-    for path in env::args(&rt)?.skip(1) {
-        tally = tally.and(try_file(&rt, path.as_str())?);
-    }
+    let tally = try_files(&rt)?;
     println!(rt; "{} cases, {} failed", tally.tried, tally.failed)?;
     if tally.failed == 0 {
         Ok(ExitCode::SUCCESS)

@@ -57,6 +57,26 @@ impl OpenCases {
         }
         Ok(runs.finish()?)
     }
+
+    // A step that takes nothing.
+    fn bare_step(&mut self, name: &str) -> Result<String, StepFault> {
+        match name {
+            "reserve" => told_done(self.alloc, self.open.reserve()),
+            "first" => told_option(self.alloc, self.open.first_open()),
+            "full" => told_value(self.alloc, self.open.is_full()),
+            "limit" => told_value(self.alloc, OPEN_LIMIT),
+            _ => Err(StepFault::Unknown),
+        }
+    }
+
+    // A step that takes an id.
+    fn id_step(&mut self, name: &str, id: ProducerId) -> Result<String, StepFault> {
+        match name {
+            "end" => told_txn(self.alloc, self.open.end_at(id)),
+            "epoch" => told_option(self.alloc, self.open.epoch_of(id)),
+            _ => Err(StepFault::Unknown),
+        }
+    }
 }
 
 impl Subject for OpenCases {
@@ -70,13 +90,9 @@ impl Subject for OpenCases {
             ["begin", id, epoch, first] => {
                 self.begin_txn(id_of(id)?, epoch_of(epoch)?, value(first)?)
             }
-            ["end", id] => told_txn(self.alloc, self.open.end_at(id_of(id)?)),
-            ["reserve"] => told_done(self.alloc, self.open.reserve()),
-            ["first"] => told_option(self.alloc, self.open.first_open()),
-            ["epoch", id] => told_option(self.alloc, self.open.epoch_of(id_of(id)?)),
-            ["full"] => told_value(self.alloc, self.open.is_full()),
-            ["limit"] => told_value(self.alloc, OPEN_LIMIT),
             ["fill", count] => self.fill(value(count)?),
+            [name] => self.bare_step(name),
+            [name, id] => self.id_step(name, id_of(id)?),
             _ => Err(StepFault::Unknown),
         }
     }

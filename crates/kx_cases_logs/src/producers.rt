@@ -56,7 +56,10 @@ impl ProducerCases {
         told_done(self.alloc, noted)
     }
 
-    fn marker(&mut self, id: &str, epoch: &str, coordinator: &str) -> Result<String, StepFault> {
+    fn marker(&mut self, words: &[&str]) -> Result<String, StepFault> {
+        let [id, epoch, coordinator] = words else {
+            return Err(StepFault::Unknown);
+        };
         let coordinator = value::<i32>(coordinator)?;
         let noted = self
             .producers
@@ -74,6 +77,20 @@ impl ProducerCases {
             .check(id_of(id)?, epoch_of(epoch)?, first, last);
         told_name(self.alloc, verdict)
     }
+
+    // A step that takes an id.
+    fn id_step(&mut self, name: &str, words: &[&str]) -> Result<String, StepFault> {
+        let [id] = words else {
+            return Err(StepFault::Unknown);
+        };
+        let id = id_of(id)?;
+        match name {
+            "reserve" => told_done(self.alloc, self.producers.reserve(id)),
+            "epoch" => told_option(self.alloc, self.producers.epoch(id)),
+            "marked" => told_option(self.alloc, self.producers.marked_by(id)),
+            _ => Err(StepFault::Unknown),
+        }
+    }
 }
 
 impl Subject for ProducerCases {
@@ -83,15 +100,15 @@ impl Subject for ProducerCases {
     }
 
     fn answer(&mut self, _texts: &Texts, words: &[&str]) -> Result<String, StepFault> {
-        match words {
-            ["rebuild", given @ ..] => self.rebuild(given),
-            ["data", given @ ..] => self.data(given),
-            ["marker", id, epoch, coordinator] => self.marker(id, epoch, coordinator),
-            ["check", given @ ..] => self.check(given),
-            ["reserve", id] => told_done(self.alloc, self.producers.reserve(id_of(id)?)),
-            ["epoch", id] => told_option(self.alloc, self.producers.epoch(id_of(id)?)),
-            ["marked", id] => told_option(self.alloc, self.producers.marked_by(id_of(id)?)),
-            _ => Err(StepFault::Unknown),
+        let [name, given @ ..] = words else {
+            return Err(StepFault::Unknown);
+        };
+        match *name {
+            "rebuild" => self.rebuild(given),
+            "data" => self.data(given),
+            "marker" => self.marker(given),
+            "check" => self.check(given),
+            _ => self.id_step(name, given),
         }
     }
 }
