@@ -1,8 +1,8 @@
 //! Steps of the coordinator on a store that is made to fail. A step is answered with the messages
 //! that are handed out, each as `RECEIVER TEXT`.
 use crate::parts::{Parts, nothing};
-use crate::words::{client, code, held, outcome, partition, txn, unsigned};
-use kx_cases::{StepFault, Subject, Texts};
+use crate::words::{client, code, held, partition};
+use kx_cases::{StepFault, Subject, Texts, known, told_name, told_value, value};
 use kx_coord::Coordinator;
 use kx_log::{FaultStore, MemStore, Store};
 use kx_txnlog::{Row, State};
@@ -67,9 +67,7 @@ fn init(
     name: &str,
     txn: Option<TxnId>,
 ) -> Result<String, StepFault> {
-    let Ok(timeout) = Timeout::try_from(MINUTE) else {
-        return Err(StepFault::Unknown);
-    };
+    let timeout = known(Timeout::try_from(MINUTE))?;
     let messages = running.init(client(name)?, 0, txn, timeout)?;
     handed(alloc, messages.as_slice())
 }
@@ -78,38 +76,62 @@ fn init(
 fn restart(alloc: Global, running: &mut Running, now: u64) -> Result<String, StepFault> {
     match running.restart(now) {
         Ok(messages) => handed(alloc, messages.as_slice()),
-        Err(fault) => Ok(format!(in alloc; "{fault:?}")?),
+        Err(fault) => told_name(alloc, fault),
     }
+}
+
+// A partition is added to a transaction.
+fn add(alloc: Global, running: &mut Running, words: &[&str]) -> Result<String, StepFault> {
+    let [by, name, id, epoch] = words else {
+        return Err(StepFault::Unknown);
+    };
+    let (held, by) = (held(id, epoch)?, partition(by)?);
+    let messages = running.add_partition(value(name)?, held, by)?;
+    handed(alloc, messages.as_slice())
+}
+
+// A client ends a transaction.
+fn end(alloc: Global, running: &mut Running, words: &[&str]) -> Result<String, StepFault> {
+    let [by, name, id, epoch, how] = words else {
+        return Err(StepFault::Unknown);
+    };
+    let (held, by) = (held(id, epoch)?, client(by)?);
+    let messages = running.end_txn(by, 0, value(name)?, held, value(how)?)?;
+    handed(alloc, messages.as_slice())
+}
+
+// A partition answers a marker.
+fn reply(alloc: Global, running: &mut Running, words: &[&str]) -> Result<String, StepFault> {
+    let [by, name, id, epoch, answer] = words else {
+        return Err(StepFault::Unknown);
+    };
+    let (held, by) = (held(id, epoch)?, partition(by)?);
+    let messages = running.marker_reply(by, value(name)?, held, code(answer)?)?;
+    handed(alloc, messages.as_slice())
 }
 
 // What clients and partitions ask.
 fn asked(alloc: Global, running: &mut Running, words: &[&str]) -> Result<String, StepFault> {
-    let messages = match words {
-        ["add", by, name, id, epoch] => {
-            running.add_partition(txn(name)?, held(id, epoch)?, partition(by)?)?
-        }
-        ["end", by, name, id, epoch, how] => {
-            let held = held(id, epoch)?;
-            running.end_txn(client(by)?, 0, txn(name)?, held, outcome(how)?)?
-        }
-        ["reply", by, name, id, epoch, answer] => {
-            let held = held(id, epoch)?;
-            running.marker_reply(partition(by)?, txn(name)?, held, code(answer)?)?
-        }
-        _ => return Err(StepFault::Unknown),
+    let [name, given @ ..] = words else {
+        return Err(StepFault::Unknown);
     };
-    handed(alloc, messages.as_slice())
+    match *name {
+        "add" => add(alloc, running, given),
+        "end" => end(alloc, running, given),
+        "reply" => reply(alloc, running, given),
+        _ => Err(StepFault::Unknown),
+    }
 }
 
 // What time brings.
 fn timed(alloc: Global, running: &mut Running, words: &[&str]) -> Result<String, StepFault> {
     match words {
         ["expire", now] => {
-            let messages = running.expire(unsigned(now)?)?;
+            let messages = running.expire(value(now)?)?;
             handed(alloc, messages.as_slice())
         }
         ["remind"] => handed(alloc, running.remind()?.as_slice()),
-        ["restart", now] => restart(alloc, running, unsigned(now)?),
+        ["restart", now] => restart(alloc, running, value(now)?),
         _ => asked(alloc, running, words),
     }
 }
@@ -117,12 +139,12 @@ fn timed(alloc: Global, running: &mut Running, words: &[&str]) -> Result<String,
 // Takes a step of a coordinator that is open.
 fn taken(alloc: Global, running: &mut Running, words: &[&str]) -> Result<String, StepFault> {
     match words {
-        ["init", by, name] => init(alloc, running, by, Some(txn(name)?)),
+        ["init", by, name] => init(alloc, running, by, Some(value(name)?)),
         ["init_alone", by] => init(alloc, running, by, None),
         ["rows"] => rows(alloc, running.rows()),
-        ["failures"] => Ok(format!(in alloc; "{}", running.failures())?),
+        ["failures"] => told_value(alloc, running.failures()),
         ["append_fails", keep] => {
-            running.arm(Some(unsigned(keep)?));
+            running.arm(Some(value(keep)?));
             Ok(nothing(alloc)?)
         }
         ["load_fails"] => {
@@ -152,7 +174,7 @@ impl CoordinatorNode {
             }
             Err((fault, store)) => {
                 self.left = Some(store);
-                Ok(format!(in self.alloc; "{fault:?}")?)
+                told_name(self.alloc, fault)
             }
         }
     }
@@ -196,7 +218,7 @@ impl Subject for CoordinatorNode {
             }
             ["open_failing", bytes, keep] => {
                 let store = MemStore::new(texts.bytes(bytes)?);
-                self.open(FaultStore::new(store, 1, unsigned(keep)?))
+                self.open(FaultStore::new(store, 1, value(keep)?))
             }
             ["left"] => self.left_bytes(),
             ["open_left"] => self.open_left(),

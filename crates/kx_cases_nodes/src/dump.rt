@@ -1,8 +1,7 @@
 //! Steps that dump bytes.
 use crate::parts::nothing;
 use crate::streams::Full;
-use crate::words::count;
-use kx_cases::{StepFault, Subject, Texts};
+use kx_cases::{StepFault, Subject, Texts, value};
 use kx_text::dump_batches;
 use std::alloc::{AllocError, Global};
 use std::str;
@@ -72,7 +71,7 @@ impl Subject for Dumps {
             ["dump", bytes] => Ok(self.dump(texts.bytes(bytes)?.as_slice())?),
             ["line"] => Ok(self.line()?),
             ["full", room, bytes] => {
-                let room = count(room)?;
+                let room = value(room)?;
                 Ok(full(self.alloc, room, texts.bytes(bytes)?.as_slice())?)
             }
             _ => Err(StepFault::Unknown),

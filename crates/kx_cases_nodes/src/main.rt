@@ -27,19 +27,42 @@ use std::process::ExitCode;
 use std::rt::Files;
 use std::{fs, io};
 
+fn try_coordinator(rt: &(impl Print + AllocGlobal), text: &str) -> io::Result<Tally> {
+    try_cases(rt, &mut CoordinatorNode::new(rt.alloc()), text)
+}
+
+fn try_partition(rt: &(impl Print + AllocGlobal), text: &str) -> io::Result<Tally> {
+    try_cases(rt, &mut PartitionNode::new(rt.alloc()), text)
+}
+
+fn try_replies(rt: &(impl Print + AllocGlobal), text: &str) -> io::Result<Tally> {
+    try_cases(rt, &mut Replies::new(rt.alloc()), text)
+}
+
+fn try_scripts(rt: &(impl Print + AllocGlobal), text: &str) -> io::Result<Tally> {
+    try_cases(rt, &mut Scripts::new(rt.alloc()), text)
+}
+
+fn try_dumps(rt: &(impl Print + AllocGlobal), text: &str) -> io::Result<Tally> {
+    try_cases(rt, &mut Dumps::new(rt.alloc()), text)
+}
+
+// Tries the cases of a text by the front of its file's name.
+fn try_text(rt: &(impl Print + AllocGlobal), front: &str, text: &str) -> io::Result<Tally> {
+    match front {
+        "coordinator" => try_coordinator(rt, text),
+        "partition" => try_partition(rt, text),
+        "reply" => try_replies(rt, text),
+        "script" => try_scripts(rt, text),
+        _ => try_dumps(rt, text),
+    }
+}
+
 // Tries the cases of a file by the front of its name, up to the first `_`.
 fn try_file(rt: &(impl Files + Print + AllocGlobal), path: &str) -> io::Result<Tally> {
-    let alloc = rt.alloc();
     let text = fs::read_to_string(rt, path)?;
     println!(rt; "{path}:")?;
-    let text = text.as_str();
-    match path.split('_').next().unwrap_or("") {
-        "coordinator" => try_cases(rt, &mut CoordinatorNode::new(alloc), text),
-        "partition" => try_cases(rt, &mut PartitionNode::new(alloc), text),
-        "reply" => try_cases(rt, &mut Replies::new(alloc), text),
-        "script" => try_cases(rt, &mut Scripts::new(alloc), text),
-        _ => try_cases(rt, &mut Dumps::new(alloc), text),
-    }
+    try_text(rt, path.split('_').next().unwrap_or(""), text.as_str())
 }
 
 // Tries what an argument names.
@@ -50,16 +73,19 @@ fn try_argument(rt: &(impl Files + Print + AllocGlobal), path: &str) -> io::Resu
     }
 }
 
-fn main(rt: HostRuntime) -> io::Result<ExitCode> {
-    let mut tried = 0u64;
-    let mut failed = 0u64;
-    for path in std::env::args(&rt)?.skip(1) {
-        let tally = try_argument(&rt, path.as_str())?;
-        tried = tried.saturating_add(tally.tried);
-        failed = failed.saturating_add(tally.failed);
+// Tries what the arguments name.
+fn try_arguments(rt: &HostRuntime) -> io::Result<Tally> {
+    let mut tally = Tally::none();
+    for path in std::env::args(rt)?.skip(1) {
+        tally = tally.and(try_argument(rt, path.as_str())?);
     }
-    println!(rt; "{tried} cases, {failed} failed")?;
-    Ok(if failed == 0 {
+    Ok(tally)
+}
+
+fn main(rt: HostRuntime) -> io::Result<ExitCode> {
+    let tally = try_arguments(&rt)?;
+    println!(rt; "{} cases, {} failed", tally.tried, tally.failed)?;
+    Ok(if tally.failed == 0 {
         ExitCode::SUCCESS
     } else {
         ExitCode::FAILURE

@@ -2,8 +2,7 @@
 use crate::parts::nothing;
 use crate::sending::{Kept, sent};
 use crate::shown::shown;
-use crate::words::{count, offset, size, unsigned};
-use kx_cases::{Runs, StepFault, Subject, Texts};
+use kx_cases::{Runs, StepFault, Subject, Texts, told_name, told_value, value};
 use kx_log::{FaultStore, MemStore};
 use kx_partition::{FetchPage, Partition};
 use std::alloc::{AllocError, Global};
@@ -42,9 +41,9 @@ fn fetched(alloc: Global, kept: &Kept, words: &[&str]) -> Result<String, StepFau
         "committed" => true,
         _ => return Err(StepFault::Unknown),
     };
-    match kept.fetch(offset(from)?, size(max)?, is_committed) {
+    match kept.fetch(value(from)?, value(max)?, is_committed) {
         Ok(page) => shown(alloc, what, page),
-        Err(fault) => Ok(format!(in alloc; "{fault:?}")?),
+        Err(fault) => told_name(alloc, fault),
     }
 }
 
@@ -61,22 +60,30 @@ fn are(page: &FetchPage<'_>, bytes: &[u8]) -> bool {
 }
 
 // The same of all batches of the partition.
-fn holds(alloc: Global, kept: &Kept, bytes: &[u8]) -> Result<String, AllocError> {
+fn holds(alloc: Global, kept: &Kept, bytes: &[u8]) -> Result<String, StepFault> {
     match kept.fetch(0, u32::MAX, false) {
-        Ok(page) => format!(in alloc; "{}", are(&page, bytes)),
-        Err(fault) => format!(in alloc; "{fault:?}"),
+        Ok(page) => told_value(alloc, are(&page, bytes)),
+        Err(fault) => told_name(alloc, fault),
     }
 }
 
 // Makes the store fail, or takes that back.
 fn armed(alloc: Global, kept: &mut Kept, words: &[&str]) -> Result<String, StepFault> {
     match words {
-        ["append_fails", keep] => kept.arm(Some(unsigned(keep)?)),
+        ["append_fails", keep] => kept.arm(Some(value(keep)?)),
         ["appends_work"] => kept.arm(None),
         ["load_fails"] => kept.arm_load(true),
         _ => return fetched(alloc, kept, words),
     }
     Ok(nothing(alloc)?)
+}
+
+// Whether a step of this name sends something.
+fn is_sending(name: &str) -> bool {
+    matches!(
+        name,
+        "produce" | "unverified" | "fronts" | "repeat" | "open_txns" | "marker"
+    )
 }
 
 // Takes a step of a partition that is open.
@@ -88,25 +95,20 @@ fn taken(
 ) -> Result<String, StepFault> {
     match words {
         ["offsets"] => Ok(offsets(alloc, kept)?),
-        ["takes", more] => Ok(format!(in alloc; "{}", kept.can_take(count(more)?))?),
-        ["failures"] => Ok(format!(in alloc; "{}", kept.failures())?),
-        ["holds", bytes] => Ok(holds(alloc, kept, texts.bytes(bytes)?.as_slice())?),
+        ["takes", more] => told_value(alloc, kept.can_take(value(more)?)),
+        ["failures"] => told_value(alloc, kept.failures()),
+        ["holds", bytes] => holds(alloc, kept, texts.bytes(bytes)?.as_slice()),
         ["reload"] => Ok(reload(alloc, kept)?),
-        ["produce", ..]
-        | ["unverified", ..]
-        | ["fronts", ..]
-        | ["repeat", ..]
-        | ["open_txns", ..]
-        | ["marker", ..] => sent(alloc, kept, texts, words),
+        [name, ..] if is_sending(name) => sent(alloc, kept, texts, words),
         _ => armed(alloc, kept, words),
     }
 }
 
 // The end of the partition that a store with these bytes has.
-fn end_of(alloc: Global, bytes: Vec<u8>) -> Result<String, AllocError> {
+fn end_of(alloc: Global, bytes: Vec<u8>) -> Result<String, StepFault> {
     match Partition::rebuild(alloc, MemStore::new(bytes)) {
-        Ok(kept) => format!(in alloc; "{}", kept.end()),
-        Err((fault, _)) => format!(in alloc; "{fault:?}"),
+        Ok(kept) => told_value(alloc, kept.end()),
+        Err((fault, _)) => told_name(alloc, fault),
     }
 }
 
@@ -134,7 +136,7 @@ impl PartitionNode {
                 self.kept = Some(kept);
                 Ok(told)
             }
-            Err((fault, _)) => Ok(format!(in self.alloc; "{fault:?}")?),
+            Err((fault, _)) => told_name(self.alloc, fault),
         }
     }
 }
@@ -153,7 +155,7 @@ impl Subject for PartitionNode {
             }
             ["open_failing", bytes, nth, keep] => {
                 let store = MemStore::new(texts.bytes(bytes)?);
-                self.open(FaultStore::new(store, unsigned(nth)?, unsigned(keep)?))
+                self.open(FaultStore::new(store, value(nth)?, value(keep)?))
             }
             ["cuts", bytes] => cuts(self.alloc, texts.bytes(bytes)?.as_slice()),
             _ => match &mut self.kept {

@@ -1,8 +1,8 @@
 //! Steps of a client that gets a reply and reads its page.
 use crate::parts::nothing;
 use crate::shown::shown;
-use crate::words::{code, offset, producer};
-use kx_cases::{StepFault, Subject, Texts};
+use crate::words::{code, producer};
+use kx_cases::{StepFault, Subject, Texts, told_name, value};
 use kx_partition::FetchPage;
 use kx_wire::{AbortedTxn, AbortedTxns, Bytes, ClientId, ErrorCode, Message, PartitionId};
 use std::alloc::Global;
@@ -20,7 +20,7 @@ fn aborted_txn(word: &str) -> Result<AbortedTxn, StepFault> {
     };
     Ok(AbortedTxn {
         id: producer(id)?,
-        first: offset(first)?,
+        first: value(first)?,
     })
 }
 
@@ -45,9 +45,9 @@ fn fetch_reply(alloc: Global, texts: &Texts, words: &[&str]) -> Result<Message, 
         correlation: 2,
         partition: PartitionId::OFFSETS,
         code: code(answer)?,
-        next: offset(next)?,
-        lso: offset(lso)?,
-        end: offset(end)?,
+        next: value(next)?,
+        lso: value(lso)?,
+        end: value(end)?,
         aborted: aborted(alloc, txns)?,
         batches: Bytes::from_vec(texts.bytes(batches)?),
     })
@@ -64,9 +64,9 @@ fn leave_reply() -> Message {
 
 // What is told of the page of a reply, or why it has none.
 fn read(alloc: Global, reply: &Message, what: &str, from: &str) -> Result<String, StepFault> {
-    match FetchPage::from_reply(alloc, offset(from)?, reply) {
+    match FetchPage::from_reply(alloc, value(from)?, reply) {
         Ok(page) => shown(alloc, what, page),
-        Err(fault) => Ok(format!(in alloc; "{fault:?}")?),
+        Err(fault) => told_name(alloc, fault),
     }
 }
 

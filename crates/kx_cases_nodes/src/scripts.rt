@@ -1,7 +1,6 @@
 //! Steps that run scripts over streams that fail, and the script of a long line.
 use crate::streams::{Full, Torn};
-use crate::words::count;
-use kx_cases::{Runs, StepFault, Subject, Texts};
+use kx_cases::{Runs, StepFault, Subject, Texts, value};
 use kx_text::run_script;
 use std::alloc::{AllocError, Global};
 use std::io::BufRead;
@@ -90,10 +89,10 @@ impl Subject for Scripts {
             }
             ["full", most, script @ ..] => {
                 let script = script_of(alloc, script)?;
-                Ok(full(alloc, count(most)?, script.as_str())?)
+                Ok(full(alloc, value(most)?, script.as_str())?)
             }
             ["long_put", words] => {
-                let script = long_put(alloc, count(words)?)?;
+                let script = long_put(alloc, value(words)?)?;
                 let mut reader = script.as_bytes();
                 Ok(run(alloc, &mut reader)?)
             }

@@ -1,7 +1,7 @@
 //! What is sent to a partition: batches of records and markers.
-use crate::words::{count, epoch_of_coordinator, held, outcome};
+use crate::words::held;
 use kx_batch::{BatchBuilder, BuildFault};
-use kx_cases::{Runs, StepFault, Texts};
+use kx_cases::{Runs, StepFault, Texts, known, told_name, value};
 use kx_log::{FaultStore, MemStore};
 use kx_partition::{Partition, Produced};
 use kx_wire::Raised;
@@ -84,11 +84,9 @@ fn marked(alloc: Global, kept: &mut Kept, words: &[&str]) -> Result<String, Step
     let [_, id, epoch, coordinator, how] = words else {
         return Err(StepFault::Unknown);
     };
-    let Ok(ended) = Raised::try_from(held(id, epoch)?) else {
-        return Err(StepFault::Unknown);
-    };
-    let code = kept.marker(ended, epoch_of_coordinator(coordinator)?, outcome(how)?)?;
-    Ok(format!(in alloc; "{code:?}")?)
+    let ended = known(Raised::try_from(held(id, epoch)?))?;
+    let code = kept.marker(ended, value(coordinator)?, value(how)?)?;
+    told_name(alloc, code)
 }
 
 /// Takes a step that sends something.
@@ -105,13 +103,10 @@ pub fn sent(
         }
         ["fronts", bytes] => Ok(fronts(alloc, kept, texts.bytes(bytes)?.as_slice())?),
         ["repeat", times, batch] => {
-            let times = count(times)?;
+            let times = value(times)?;
             Ok(repeat(alloc, kept, times, texts.bytes(batch)?.as_slice())?)
         }
-        ["open_txns", producers] => match producers.parse::<u16>() {
-            Ok(producers) => Ok(open_txns(alloc, kept, producers)?),
-            Err(_) => Err(StepFault::Unknown),
-        },
+        ["open_txns", producers] => Ok(open_txns(alloc, kept, value(producers)?)?),
         _ => marked(alloc, kept, words),
     }
 }
