@@ -34,12 +34,13 @@ returns-in_ok-show-in-Ok g c =
     let mode = c.args.mode in
     let lt : c.args.partition < length c.args.world.now = omega arith in
     let shown = page_shown _ mode _ c.in-Ok.page old new c.in-Ok.ensures
-    c.in_ok-show-in-Ok.ensures in
-    (fetched_text c.args.from mode (fetched log c.args.from c.args.max (is_committed mode)),
-    inl (performed-fetch c.args.world.now c.args.partition c.args.from mode c.args.max _ lt refl),
-    subst (λ (z : ℤ). Appends old new
-    (fetched_text z mode (fetched log z c.args.max (is_committed mode))))
-    (to_z-of_z w64 c.args.from c.ranges.from) shown)
+    c.in_ok-show-in-Ok.ensures in (
+      fetched_text c.args.from mode (fetched log c.args.from c.args.max (is_committed mode)),
+      inl (performed-fetch c.args.world.now c.args.partition c.args.from mode c.args.max _ lt refl),
+      subst (λ (z : ℤ). Appends old new
+          (fetched_text z mode (fetched log z c.args.max (is_committed mode))))
+          (to_z-of_z w64 c.args.from c.ranges.from) shown,
+    )
 
 pub returns-in_ok-written-in-Err-Refused : goal.returns-in_ok-written-in-Err-Refused
 returns-in_ok-written-in-Err-Refused g c =
@@ -53,8 +54,9 @@ returns-in_ok-written-in-Err-Refused g c =
     let written = holds_at_ok c.write_refusal.result c.in_ok-written-in-Err-Refused.ensures
     c.write_refusal.ensures in
     let shown = refusal_shown _ mode _ c.in-Err-Refused.code old new refused
-    (rw c.in-Err-Refused.field-0-is at written) in
-    (fetched_text c.args.from mode (fetched log c.args.from c.args.max (is_committed mode)),
-    inl (performed-fetch c.args.world.now c.args.partition c.args.from mode c.args.max _ lt refl),
-    subst (λ (z : ℤ). Appends old new
-    (fetched_text z mode (fetched log z c.args.max (is_committed mode)))) at shown)
+    (rw c.in-Err-Refused.field-0-is at written) in (
+      fetched_text c.args.from mode (fetched log c.args.from c.args.max (is_committed mode)),
+      inl (performed-fetch c.args.world.now c.args.partition c.args.from mode c.args.max _ lt refl),
+      subst (λ (z : ℤ). Appends old new
+          (fetched_text z mode (fetched log z c.args.max (is_committed mode)))) at shown,
+    )

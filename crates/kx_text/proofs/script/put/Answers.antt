@@ -25,15 +25,17 @@ returns g c =
     let p = c.args.partition in
     let lt : p < length logs = omega arith in
     elim c.match-put.branch [
-      in-Ok w ↦
-        (answer_text w.in-Ok.answer,
+      | in-Ok w ↦ (
+        answer_text w.in-Ok.answer,
         inl (put_told logs c.put.new.self p c.args.words w.in-Ok.answer lt
-        w.in-Ok.ensures.answer w.in-Ok.ensures.log),
+            w.in-Ok.ensures.answer w.in-Ok.ensures.log),
         rw w.writer-is (holds_at_ok w.write_answer-done.result
-        (subst IsOk w.done-is c.in_ok-written.ensures) w.write_answer-done.ensures))
-    | in-Err w ↦
-        (lost_text,
+            (subst IsOk w.done-is c.in_ok-written.ensures) w.write_answer-done.ensures),
+      )
+      | in-Err w ↦ (
+        lost_text,
         inr (rw (slice_get-get_or logs p [] lt), refl, ap Some w.in-Err.ensures.err),
         rw w.writer-is (holds_at_ok w.write_all-done.result
-        (subst IsOk w.done-is c.in_ok-written.ensures) w.write_all-done.ensures.bytes))
+            (subst IsOk w.done-is c.in_ok-written.ensures) w.write_all-done.ensures.bytes),
+      )
     ]
