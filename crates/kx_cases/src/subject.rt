@@ -4,15 +4,16 @@ ghost use Rattle.kx_cases.specs.Tally.{answer_of};
 
 use crate::fault::StepFault;
 use crate::texts::Texts;
+use std::alloc::Global;
 
 /// What the steps of a file of cases are taken on.
-pub trait Subject {
+pub trait Subject: Drop {
     // The bytes that it may answer as it stands, or None where it may give no answer: any, where
     // nothing is said of it. So that a step is judged by such an answer is proved for all subjects.
     ghost answers: { Self → Option (List ℕ) → Type 0 } = { λ _ _. ⊤ };
 
-    /// A case begins: nothing of those before it is left.
-    fn begin(&mut self) -> Result<(), StepFault>;
+    /// One on which no step was taken, as each case begins with it.
+    fn new(alloc: Global) -> Self;
 
     /// Takes the step that these words are, and gives its answer as a file of cases has it.
     fn answer(&mut self, texts: &Texts, words: &[&str]) -> Result<String, StepFault>

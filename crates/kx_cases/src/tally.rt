@@ -185,6 +185,18 @@ impl<'a> Trial<'a> {
         Ok(())
     }
 
+    // The case before comes to its end, and one of this name begins.
+    fn begin_case(&mut self, rt: &impl Print, name: &'a str) -> io::Result<()>
+        ensures { IsWithin self.old.tally → IsWithin self.new.tally }
+    {
+        self.end_case(rt)?;
+        self.case = Some(Running {
+            name,
+            is_right: true,
+        });
+        Ok(())
+    }
+
     fn take_line<S: Subject>(
         &mut self,
         rt: &impl Print,
@@ -196,15 +208,8 @@ impl<'a> Trial<'a> {
         match read_line(line) {
             Line::Nothing => Ok(()),
             Line::Case(name) => {
-                self.end_case(rt)?;
-                self.case = Some(Running {
-                    name,
-                    is_right: true,
-                });
-                match subject.begin() {
-                    Ok(()) => Ok(()),
-                    Err(_) => self.fail(rt, line, "it didn't begin"),
-                }
+                *subject = S::new(self.alloc);
+                self.begin_case(rt, name)
             }
             Line::Bytes { name, bytes } => match self.texts.name(name, bytes) {
                 Ok(()) => Ok(()),
@@ -216,18 +221,15 @@ impl<'a> Trial<'a> {
     }
 }
 
-/// Tries the cases of a file. Prints `ok NAME` of each whose steps all gave their answers, else the
-/// first step that didn't, with what it gave, and `FAILED NAME`.
-pub fn try_cases<S: Subject>(
-    rt: &(impl Print + AllocGlobal),
-    subject: &mut S,
-    text: &str,
-) -> io::Result<Tally>
+/// Tries the cases of a file on a subject of its own. Prints `ok NAME` of each whose steps all gave
+/// their answers, else the first step that didn't, with what it gave, and `FAILED NAME`.
+pub fn try_cases<S: Subject>(rt: &(impl Print + AllocGlobal), text: &str) -> io::Result<Tally>
     ensures { IfOk result (λ tally. tally.failed ≤ tally.tried) }
 {
     let mut trial = Trial::new(rt.alloc());
+    let mut subject = S::new(rt.alloc());
     for line in text.lines() {
-        trial.take_line(rt, subject, line)?;
+        trial.take_line(rt, &mut subject, line)?;
     }
     trial.end_case(rt)?;
     Ok(trial.tally)

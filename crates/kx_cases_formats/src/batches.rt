@@ -218,14 +218,6 @@ fn bytes_step(alloc: Global, name: &str, bytes: &[u8]) -> Result<String, StepFau
 }
 
 impl BatchCases {
-    /// Nothing was pushed.
-    pub fn new(alloc: Global) -> Self {
-        BatchCases {
-            alloc,
-            builder: BatchBuilder::new(alloc, 0, -1, -1, -1),
-        }
-    }
-
     // Begins a batch of these attributes, and of this producer's id, epoch and sequence.
     fn build(&mut self, words: &[&str]) -> Result<String, StepFault> {
         let [attributes, id, epoch, sequence] = words else {
@@ -319,9 +311,11 @@ impl BatchCases {
 }
 
 impl Subject for BatchCases {
-    fn begin(&mut self) -> Result<(), StepFault> {
-        *self = BatchCases::new(self.alloc);
-        Ok(())
+    fn new(alloc: Global) -> Self {
+        BatchCases {
+            alloc,
+            builder: BatchBuilder::new(alloc, 0, -1, -1, -1),
+        }
     }
 
     fn answer(&mut self, texts: &Texts, words: &[&str]) -> Result<String, StepFault> {

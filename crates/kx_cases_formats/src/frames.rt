@@ -45,23 +45,31 @@ fn message_of(alloc: Global, bytes: &[u8]) -> Result<Message, StepFault> {
     }
 }
 
+// Whether the message is written as these bytes.
+fn is_written(alloc: Global, message: &Message, bytes: &[u8]) -> Result<bool, StepFault> {
+    Ok(frame(alloc, message)?.as_slice() == bytes)
+}
+
+// Whether its copy is.
+fn is_copied(alloc: Global, message: &Message, bytes: &[u8]) -> Result<bool, StepFault> {
+    let copy = message.clone()?;
+    is_written(alloc, &copy, bytes)
+}
+
 // A message as it is printed, where it is written, and its copy, as it was read.
-fn message(alloc: Global, bytes: &[u8]) -> Result<String, StepFault> {
-    let message = message_of(alloc, bytes)?;
-    if frame(alloc, &message)?.as_slice() != bytes {
+fn printed(alloc: Global, message: &Message, bytes: &[u8]) -> Result<String, StepFault> {
+    if !is_written(alloc, message, bytes)? {
         return told_value(alloc, "written otherwise");
     }
-    let copy = message.clone()?;
-    if frame(alloc, &copy)?.as_slice() != bytes {
+    if !is_copied(alloc, message, bytes)? {
         return told_value(alloc, "copied otherwise");
     }
-    told_value(alloc, message)
+    Ok(format!(in alloc; "{message}")?)
 }
 
 // The fields of a Join or of an EndReply, by name.
-fn fields(alloc: Global, bytes: &[u8]) -> Result<String, StepFault> {
-    let message = message_of(alloc, bytes)?;
-    match &message {
+fn fields(alloc: Global, message: &Message) -> Result<String, StepFault> {
+    match message {
         Message::Join {
             client,
             correlation,
@@ -80,6 +88,26 @@ fn fields(alloc: Global, bytes: &[u8]) -> Result<String, StepFault> {
         }
         _ => Err(StepFault::Unknown),
     }
+}
+
+// What steps tell of the message that these bytes are.
+fn told_message(
+    alloc: Global,
+    name: &str,
+    message: &Message,
+    bytes: &[u8],
+) -> Result<String, StepFault> {
+    match name {
+        "message" => printed(alloc, message, bytes),
+        "fields" => fields(alloc, message),
+        "receiver" => told_value(alloc, message.receiver()),
+        _ => Err(StepFault::Unknown),
+    }
+}
+
+fn message_step(alloc: Global, name: &str, bytes: &[u8]) -> Result<String, StepFault> {
+    let message = message_of(alloc, bytes)?;
+    told_message(alloc, name, &message, bytes)
 }
 
 // The next number of a linear congruential generator, by its high bits.
@@ -110,6 +138,21 @@ fn is_of_bytes(fault: FrameFault) -> bool {
     )
 }
 
+// Whether a stream takes nothing more.
+fn has_failed(frames: &mut Frames, piece: &[u8]) -> bool {
+    matches!(frames.feed(piece), Err(FrameFault::Failed))
+}
+
+// Feeds a piece: whether the stream goes on behind it, or what is wrong with what it brings.
+fn fed(frames: &mut Frames, piece: &[u8]) -> Result<bool, &'static str> {
+    match frames.feed(piece) {
+        Ok(messages) if messages.iter().all(|message| message.fits()) => Ok(true),
+        Ok(_) => Err("a message that doesn't fit"),
+        Err(fault) if is_of_bytes(fault) => Ok(false),
+        Err(_) => Err("a fault that isn't of the bytes"),
+    }
+}
+
 // Random pieces bring messages that fit, or faults of the bytes, behind which the stream failed
 // and another begins.
 fn random(alloc: Global, seed: u64, count: u32, stream: &[u8]) -> Result<&'static str, StepFault> {
@@ -117,35 +160,25 @@ fn random(alloc: Global, seed: u64, count: u32, stream: &[u8]) -> Result<&'stati
     let mut frames = Frames::new(alloc);
     for _ in 0..count {
         let piece = random_piece(alloc, stream, &mut state)?;
-        match frames.feed(piece.as_slice()) {
-            Ok(messages) => {
-                if !messages.iter().all(|message| message.fits()) {
-                    return Ok("a message that doesn't fit");
-                }
-            }
-            Err(fault) => {
-                if !is_of_bytes(fault) {
-                    return Ok("a fault that isn't of the bytes");
-                }
-                if !matches!(frames.feed(piece.as_slice()), Err(FrameFault::Failed)) {
+        match fed(&mut frames, piece.as_slice()) {
+            Ok(true) => {}
+            Ok(false) => {
+                if !has_failed(&mut frames, piece.as_slice()) {
                     return Ok("a stream that goes on behind a fault");
                 }
                 frames = Frames::new(alloc);
             }
+            Err(wrong) => return Ok(wrong),
         }
     }
     Ok("ok")
 }
 
-impl FrameCases {
-    /// Nothing has come.
-    pub fn new(alloc: Global) -> Self {
-        FrameCases {
-            alloc,
-            frames: Frames::new(alloc),
-        }
-    }
+fn random_step(alloc: Global, seed: &str, count: &str, stream: &[u8]) -> Result<String, StepFault> {
+    told_value(alloc, random(alloc, value(seed)?, value(count)?, stream)?)
+}
 
+impl FrameCases {
     fn feed(&mut self, piece: &[u8]) -> Result<String, StepFault> {
         match self.frames.feed(piece) {
             Ok(messages) => told_frames(self.alloc, messages.as_slice()),
@@ -162,12 +195,30 @@ impl FrameCases {
         }
         Ok(runs.finish()?)
     }
+
+    // What a step tells of its bytes.
+    fn bytes_step(
+        &mut self,
+        name: &str,
+        given: &[&str],
+        bytes: &[u8],
+    ) -> Result<String, StepFault> {
+        match (name, given) {
+            ("feed", []) => self.feed(bytes),
+            ("singly", []) => self.feed_singly(bytes),
+            ("random", [seed, count]) => random_step(self.alloc, seed, count, bytes),
+            (_, []) => message_step(self.alloc, name, bytes),
+            _ => Err(StepFault::Unknown),
+        }
+    }
 }
 
 impl Subject for FrameCases {
-    fn begin(&mut self) -> Result<(), StepFault> {
-        self.frames = Frames::new(self.alloc);
-        Ok(())
+    fn new(alloc: Global) -> Self {
+        FrameCases {
+            alloc,
+            frames: Frames::new(alloc),
+        }
     }
 
     fn answer(&mut self, texts: &Texts, words: &[&str]) -> Result<String, StepFault> {
@@ -175,20 +226,6 @@ impl Subject for FrameCases {
             return Err(StepFault::Unknown);
         };
         let bytes = texts.bytes(last)?;
-        let bytes = bytes.as_slice();
-        match (*name, given) {
-            ("feed", []) => self.feed(bytes),
-            ("singly", []) => self.feed_singly(bytes),
-            ("message", []) => message(self.alloc, bytes),
-            ("fields", []) => fields(self.alloc, bytes),
-            ("receiver", []) => {
-                told_value(self.alloc, message_of(self.alloc, bytes)?.receiver())
-            }
-            ("random", [seed, count]) => {
-                let seen = random(self.alloc, value(seed)?, value(count)?, bytes)?;
-                told_value(self.alloc, seen)
-            }
-            _ => Err(StepFault::Unknown),
-        }
+        self.bytes_step(name, given, bytes.as_slice())
     }
 }

@@ -100,6 +100,18 @@ fn at(bytes: &[u8], kind: &str, place: usize) -> Result<i64, StepFault> {
     }
 }
 
+fn at_step(
+    alloc: Global,
+    texts: &Texts,
+    kind: &str,
+    place: &str,
+    bytes: &str,
+) -> Result<String, StepFault> {
+    let place = value(place)?;
+    let bytes = texts.bytes(bytes)?;
+    told_value(alloc, at(bytes.as_slice(), kind, place)?)
+}
+
 // What is proved of all numbers, and takes no value.
 fn laws(alloc: Global) -> Result<String, StepFault> {
     varints_are_read_again();
@@ -108,14 +120,6 @@ fn laws(alloc: Global) -> Result<String, StepFault> {
 }
 
 impl NumberCases {
-    /// Nothing is written.
-    pub fn new(alloc: Global) -> Self {
-        NumberCases {
-            alloc,
-            written: Vec::new(alloc),
-        }
-    }
-
     // Appends a number, and tells its bytes.
     fn put(&mut self, kind: &str, number: &str) -> Result<String, StepFault> {
         let before = self.written.len();
@@ -129,9 +133,11 @@ impl NumberCases {
 }
 
 impl Subject for NumberCases {
-    fn begin(&mut self) -> Result<(), StepFault> {
-        self.written.clear();
-        Ok(())
+    fn new(alloc: Global) -> Self {
+        NumberCases {
+            alloc,
+            written: Vec::new(alloc),
+        }
     }
 
     fn answer(&mut self, texts: &Texts, words: &[&str]) -> Result<String, StepFault> {
@@ -139,10 +145,7 @@ impl Subject for NumberCases {
             ["put", kind, number] => self.put(kind, number),
             ["written"] => Ok(told_bytes(self.alloc, self.written.as_slice())?),
             ["read", kind, bytes] => read(self.alloc, kind, texts.bytes(bytes)?.as_slice()),
-            ["at", kind, place, bytes] => {
-                let bytes = texts.bytes(bytes)?;
-                told_value(self.alloc, at(bytes.as_slice(), kind, value(place)?)?)
-            }
+            ["at", kind, place, bytes] => at_step(self.alloc, texts, kind, place, bytes),
             ["laws"] => laws(self.alloc),
             _ => Err(StepFault::Unknown),
         }

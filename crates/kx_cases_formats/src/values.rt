@@ -166,16 +166,6 @@ fn holds(relation: &str, a: &str, b: &str) -> Result<bool, StepFault> {
 }
 
 impl ValueCases {
-    /// Nothing is kept.
-    pub fn new(alloc: Global) -> Self {
-        ValueCases {
-            alloc,
-            counts: BTreeMap::new(alloc),
-            lasts: BTreeMap::new(alloc),
-            members: HashMap::new(alloc),
-        }
-    }
-
     // Keeps a number by a key.
     fn keep(&mut self, kind: &str, key: &str, number: u64) -> Result<u64, StepFault> {
         match kind {
@@ -232,9 +222,13 @@ fn word_step(alloc: Global, texts: &Texts, kind: &str, word: &str) -> Result<Str
 }
 
 impl Subject for ValueCases {
-    fn begin(&mut self) -> Result<(), StepFault> {
-        *self = ValueCases::new(self.alloc);
-        Ok(())
+    fn new(alloc: Global) -> Self {
+        ValueCases {
+            alloc,
+            counts: BTreeMap::new(alloc),
+            lasts: BTreeMap::new(alloc),
+            members: HashMap::new(alloc),
+        }
     }
 
     fn answer(&mut self, texts: &Texts, words: &[&str]) -> Result<String, StepFault> {

@@ -64,14 +64,6 @@ fn read(alloc: Global, bytes: &[u8]) -> Result<String, StepFault> {
 }
 
 impl AbortedCases {
-    /// None was aborted.
-    pub fn new(alloc: Global) -> Self {
-        AbortedCases {
-            alloc,
-            index: AbortedIndex::new(alloc),
-        }
-    }
-
     // How many transactions a page names, and of each the id and the first offset.
     fn named(&self, from: i64, upper: i64) -> Result<String, StepFault> {
         let found = self.index.collect(from, upper)?;
@@ -84,9 +76,11 @@ impl AbortedCases {
 }
 
 impl Subject for AbortedCases {
-    fn begin(&mut self) -> Result<(), StepFault> {
-        self.index = AbortedIndex::new(self.alloc);
-        Ok(())
+    fn new(alloc: Global) -> Self {
+        AbortedCases {
+            alloc,
+            index: AbortedIndex::new(alloc),
+        }
     }
 
     fn answer(&mut self, texts: &Texts, words: &[&str]) -> Result<String, StepFault> {

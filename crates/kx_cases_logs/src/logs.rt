@@ -129,11 +129,6 @@ fn log_step(
 }
 
 impl LogCases {
-    /// No log is open.
-    pub fn new(alloc: Global) -> Self {
-        LogCases { alloc, log: None }
-    }
-
     // Opens a log, and tells its end.
     fn open(&mut self, bytes: Vec<u8>, nth: u64, keep: u64) -> Result<String, StepFault> {
         match opened(self.alloc, failing(bytes, nth, keep)) {
@@ -189,9 +184,8 @@ impl LogCases {
 }
 
 impl Subject for LogCases {
-    fn begin(&mut self) -> Result<(), StepFault> {
-        self.log = None;
-        Ok(())
+    fn new(alloc: Global) -> Self {
+        LogCases { alloc, log: None }
     }
 
     fn answer(&mut self, texts: &Texts, words: &[&str]) -> Result<String, StepFault> {

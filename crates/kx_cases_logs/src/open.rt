@@ -23,14 +23,6 @@ fn told_txn(alloc: Global, txn: Option<OpenTxn>) -> Result<String, StepFault> {
 }
 
 impl OpenCases {
-    /// None is open.
-    pub fn new(alloc: Global) -> Self {
-        OpenCases {
-            alloc,
-            open: OpenTxns::new(alloc),
-        }
-    }
-
     // Begins a transaction, where none of its id is open.
     fn begin_txn(&mut self, id: ProducerId, epoch: Epoch, first: i64) -> Result<String, StepFault> {
         if self.open.epoch_of(id).is_some() {
@@ -80,9 +72,11 @@ impl OpenCases {
 }
 
 impl Subject for OpenCases {
-    fn begin(&mut self) -> Result<(), StepFault> {
-        self.open = OpenTxns::new(self.alloc);
-        Ok(())
+    fn new(alloc: Global) -> Self {
+        OpenCases {
+            alloc,
+            open: OpenTxns::new(alloc),
+        }
     }
 
     fn answer(&mut self, _texts: &Texts, words: &[&str]) -> Result<String, StepFault> {

@@ -24,14 +24,6 @@ fn batch_of(first: &str, last: &str, offset: &str) -> Result<RememberedBatch, St
 }
 
 impl ProducerCases {
-    /// No producer is known.
-    pub fn new(alloc: Global) -> Self {
-        ProducerCases {
-            alloc,
-            producers: Producers::new(alloc),
-        }
-    }
-
     fn rebuild(&mut self, words: &[&str]) -> Result<String, StepFault> {
         let [id, epoch, first, last, offset] = words else {
             return Err(StepFault::Unknown);
@@ -94,9 +86,11 @@ impl ProducerCases {
 }
 
 impl Subject for ProducerCases {
-    fn begin(&mut self) -> Result<(), StepFault> {
-        self.producers = Producers::new(self.alloc);
-        Ok(())
+    fn new(alloc: Global) -> Self {
+        ProducerCases {
+            alloc,
+            producers: Producers::new(alloc),
+        }
     }
 
     fn answer(&mut self, _texts: &Texts, words: &[&str]) -> Result<String, StepFault> {

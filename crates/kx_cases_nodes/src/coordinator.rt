@@ -156,15 +156,6 @@ fn taken(alloc: Global, running: &mut Running, words: &[&str]) -> Result<String,
 }
 
 impl CoordinatorNode {
-    /// No coordinator yet.
-    pub fn new(alloc: Global) -> Self {
-        CoordinatorNode {
-            alloc,
-            running: None,
-            left: None,
-        }
-    }
-
     // Opens what a store holds, at moment 0. A store that is refused is left.
     fn open(&mut self, store: FaultStore<MemStore>) -> Result<String, StepFault> {
         match Coordinator::open(self.alloc, store, 0) {
@@ -204,10 +195,12 @@ fn bytes_of(alloc: Global, store: &mut FaultStore<MemStore>) -> Result<String, S
 }
 
 impl Subject for CoordinatorNode {
-    fn begin(&mut self) -> Result<(), StepFault> {
-        self.running = None;
-        self.left = None;
-        Ok(())
+    fn new(alloc: Global) -> Self {
+        CoordinatorNode {
+            alloc,
+            running: None,
+            left: None,
+        }
     }
 
     fn answer(&mut self, texts: &Texts, words: &[&str]) -> Result<String, StepFault> {

@@ -23,15 +23,6 @@ fn line_text(alloc: Global, line: &str) -> Result<String, AllocError> {
 }
 
 impl Dumps {
-    /// Nothing is dumped yet.
-    pub fn new(alloc: Global) -> Self {
-        Dumps {
-            alloc,
-            printed: Vec::new(alloc),
-            told: 0,
-        }
-    }
-
     // How a dump ends.
     fn dump(&mut self, bytes: &[u8]) -> Result<String, AllocError> {
         self.printed.clear();
@@ -60,10 +51,12 @@ fn full(alloc: Global, room: usize, bytes: &[u8]) -> Result<String, AllocError> 
 }
 
 impl Subject for Dumps {
-    fn begin(&mut self) -> Result<(), StepFault> {
-        self.printed.clear();
-        self.told = 0;
-        Ok(())
+    fn new(alloc: Global) -> Self {
+        Dumps {
+            alloc,
+            printed: Vec::new(alloc),
+            told: 0,
+        }
     }
 
     fn answer(&mut self, texts: &Texts, words: &[&str]) -> Result<String, StepFault> {

@@ -123,11 +123,6 @@ fn cuts(alloc: Global, bytes: &[u8]) -> Result<String, StepFault> {
 }
 
 impl PartitionNode {
-    /// No partition yet.
-    pub fn new(alloc: Global) -> Self {
-        PartitionNode { alloc, kept: None }
-    }
-
     // Opens what a store holds: the end and the last stable offset, or why it isn't opened.
     fn open(&mut self, store: FaultStore<MemStore>) -> Result<String, StepFault> {
         match Partition::rebuild(self.alloc, store) {
@@ -142,9 +137,8 @@ impl PartitionNode {
 }
 
 impl Subject for PartitionNode {
-    fn begin(&mut self) -> Result<(), StepFault> {
-        self.kept = None;
-        Ok(())
+    fn new(alloc: Global) -> Self {
+        PartitionNode { alloc, kept: None }
     }
 
     fn answer(&mut self, texts: &Texts, words: &[&str]) -> Result<String, StepFault> {

@@ -71,11 +71,6 @@ fn read(alloc: Global, reply: &Message, what: &str, from: &str) -> Result<String
 }
 
 impl Replies {
-    /// No reply came yet.
-    pub fn new(alloc: Global) -> Self {
-        Replies { alloc, reply: None }
-    }
-
     // This reply came.
     fn comes(&mut self, reply: Message) -> Result<String, StepFault> {
         self.reply = Some(reply);
@@ -84,9 +79,8 @@ impl Replies {
 }
 
 impl Subject for Replies {
-    fn begin(&mut self) -> Result<(), StepFault> {
-        self.reply = None;
-        Ok(())
+    fn new(alloc: Global) -> Self {
+        Replies { alloc, reply: None }
     }
 
     fn answer(&mut self, texts: &Texts, words: &[&str]) -> Result<String, StepFault> {

@@ -68,16 +68,9 @@ fn long_put(alloc: Global, words: usize) -> Result<String, AllocError> {
     Ok(script)
 }
 
-impl Scripts {
-    /// No script was run yet.
-    pub fn new(alloc: Global) -> Self {
-        Scripts { alloc }
-    }
-}
-
 impl Subject for Scripts {
-    fn begin(&mut self) -> Result<(), StepFault> {
-        Ok(())
+    fn new(alloc: Global) -> Self {
+        Scripts { alloc }
     }
 
     fn answer(&mut self, _texts: &Texts, words: &[&str]) -> Result<String, StepFault> {

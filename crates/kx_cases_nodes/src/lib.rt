@@ -1,0 +1,22 @@
+//! Cases of the nodes: the coordinator, a partition, what readers get of pages, and the text of
+//! scripts and dumps.
+#![tactic(auto)]
+
+pub use coordinator::CoordinatorNode;
+pub use dump::Dumps;
+pub use pair::try_pair;
+pub use partition::PartitionNode;
+pub use replies::Replies;
+pub use scripts::Scripts;
+
+mod coordinator;
+mod dump;
+mod pair;
+mod partition;
+mod parts;
+mod replies;
+mod scripts;
+mod sending;
+mod shown;
+mod streams;
+mod words;
