@@ -3,12 +3,9 @@ use Rattle.std.proofs.Common.{◌≡◌, ◌∙◌, ◌≤◌, ◌<◌, ◌^◌,
 use Rattle.std.proofs.Common.{true, false, Option, Some, None, refl, sym, ap, subst, cond, map, max}
 use Rattle.std.proofs.Common.{arith}
 use Rattle.std.specs.Prelude.{bytes_eq, if◌then◌else◌, option_map}
-use Rattle.std.specs.Int.{w32}
 use Rattle.std.specs.List.{AllByRecursion}
 use Rattle.std.specs.Map.{lookup}
 use Rattle.std.specs.Option.{option_or}
-use Rattle.std.proofs.lemmas.Int.{to_z-of_z}
-use mir.Val.{of_z, to_z}
 use Rattle.std.proofs.lemmas.Slice.Eq.{bytes_eq-Decides}
 use Rattle.indexmap.specs.IndexMap.{insert_entry}
 use Rattle.kx_model.specs.Coordinator.{Note, CoordinatorEpoch, Allot, Written, above_ids}
@@ -19,11 +16,6 @@ use Rattle.kx_txnlog.specs.Entry.{row_of}
 use Rattle.kx_txnlog.specs.declared.entry.Row.{Row}
 use Rattle.kx_coord.specs.Follows.{Follows}
 use Rattle.kx_coord.proofs.LastRows.{put_row, rows-push, rows_stay}
-
--- an i32 that is a natural number
-pub same_i32 : (z : ℤ) (n : ℕ) → z ≡ pos n → n < 2 ^ 31 → to_z w32 (of_z w32 z) ≡ pos n
-same_i32 z n e lt =
-    ap (λ x. to_z w32 (of_z w32 x)) e ∙ to_z-of_z w32 (pos n) (record { sfits = lt })
 
 -- nothing is kept of an empty log
 pub follows_none : (entries : List (List ℕ × Row)) → entries ≡ [] → Follows [] entries 0 (pos 0)
@@ -44,9 +36,9 @@ next_after log note next above now e f g =
     g ∙ (λ i. max (e i) (f i)) ∙ sym (next_id-push log note)
 
 -- after the coordinator's own epoch
-pub follows_epoch : (log : List Note) (entries : List (List ℕ × Row)) (next above now n : ℕ)
-    (epoch new : ℤ) → Follows log entries next epoch → above ≡ above_ids (CoordinatorEpoch n)
-    → now ≡ max next above → above ≤ id_limit → new ≡ pos n
+pub follows_epoch : (log : List Note) (entries : List (List ℕ × Row)) (next above now : ℕ)
+    (n epoch new : ℤ) → Follows log entries next epoch → above ≡ above_ids (CoordinatorEpoch n)
+    → now ≡ max next above → above ≤ id_limit → new ≡ n
     → Follows (log ++ CoordinatorEpoch n ∷ []) entries now new
 follows_epoch log entries next above now n epoch new h e f le is = record {
   row_is = λ txn. last_row-push (λ q. bytes_eq q.txn txn) log (CoordinatorEpoch n) ∙ h.row_is txn;
@@ -54,7 +46,7 @@ follows_epoch log entries next above now n epoch new h e f le is = record {
   rows_are = h.rows_are ∙ sym (rows_stay log (CoordinatorEpoch n) refl (λ t. refl));
   next_is = next_after log (CoordinatorEpoch n) next above now h.next_is e f;
   next_fits = omega (arith, h.next_fits, f, le);
-  epoch_is = is ∙ ap pos (sym (coordinator_epoch-push log (CoordinatorEpoch n)));
+  epoch_is = is ∙ sym (coordinator_epoch-push log (CoordinatorEpoch n));
 }
 
 -- after an id that was handed out
@@ -68,7 +60,7 @@ follows_allot log entries next above now id epoch h e f le = record {
   rows_are = h.rows_are ∙ sym (rows_stay log (Allot id) refl (λ t. refl));
   next_is = next_after log (Allot id) next above now h.next_is e f;
   next_fits = omega (arith, h.next_fits, f, le);
-  epoch_is = h.epoch_is ∙ ap pos (sym (coordinator_epoch-push log (Allot id)));
+  epoch_is = h.epoch_is ∙ sym (coordinator_epoch-push log (Allot id));
 }
 
 ------ a row
@@ -132,7 +124,7 @@ follows_row log entries new next above now epoch row h e f le is found = record 
       ∙ ap (put_row (row_of row)) h.rows_are ∙ sym (rows-push log (row_of row));
   next_is = next_after log (Written (row_of row)) next above now h.next_is e f;
   next_fits = omega (arith, h.next_fits, f, le);
-  epoch_is = h.epoch_is ∙ ap pos (sym (coordinator_epoch-push log (Written (row_of row))));
+  epoch_is = h.epoch_is ∙ sym (coordinator_epoch-push log (Written (row_of row)));
 }
 
 -- the rows of a table

@@ -21,22 +21,22 @@ use Rattle.kx_model.specs.Requests.{own_pair}
 abbrev pub marker : ℤ → List ℕ → Held → Outcome → ℕ → Message
 marker epoch txn held outcome partition = msg.WriteMarker partition txn held epoch outcome
 
-pub markers_are : (n : ℕ) (epoch : ℤ) (r : Row) (held : Held) (outcome : Outcome)
-    → epoch ≡ pos n → held ≡ own_pair r → r.state ≡ Prepare outcome
-    → map (marker epoch r.txn held outcome) r.partitions ≡ markers_of n r
-markers_are n epoch r held outcome e h is =
-    (λ i. map (marker (e i) r.txn (h i) outcome) r.partitions)
-    ∙ ap (markers_in n r) (sym is)
+pub markers_are : (epoch : ℤ) (r : Row) (held : Held) (outcome : Outcome)
+    → held ≡ own_pair r → r.state ≡ Prepare outcome
+    → map (marker epoch r.txn held outcome) r.partitions ≡ markers_of epoch r
+markers_are epoch r held outcome h is =
+    (λ i. map (marker epoch r.txn (h i) outcome) r.partitions)
+    ∙ ap (markers_in epoch r) (sym is)
 
-pub missing_are : (n : ℕ) (epoch : ℤ) (answered : List Answered) (r : Row) (held : Held)
+pub missing_are : (epoch : ℤ) (answered : List Answered) (r : Row) (held : Held)
     (outcome : Outcome)
-    → epoch ≡ pos n → held ≡ own_pair r → r.state ≡ Prepare outcome
+    → held ≡ own_pair r → r.state ≡ Prepare outcome
     → map (marker epoch r.txn held outcome)
-    (filter (λ p. not (is_answered answered r p)) r.partitions) ≡ missing_of n answered r
-missing_are n epoch answered r held outcome e h is =
-    markers_are n epoch (record r {
+    (filter (λ p. not (is_answered answered r p)) r.partitions) ≡ missing_of epoch answered r
+missing_are epoch answered r held outcome h is =
+    markers_are epoch (record r {
       partitions = filter (λ p. not (is_answered answered r p)) r.partitions;
-    }) held outcome e h is
+    }) held outcome h is
 
 -- what is so in any case is so of a call that failed
 pub on_err : {A E : Type 0} (r : Result A E) (P : Type 0) → P → OnErr r P
@@ -55,7 +55,7 @@ some_pass test (x ∷ xs) (suc i) d lt e =
     (λ h. omega arith) (λ h. some_pass test xs i d (omega (arith, lt)) e)
 
 -- a marker that wasn't answered is missing
-pub some_missing : (n : ℕ) (answered : List Answered) (r : Row) (outcome : Outcome) (i p : ℕ)
+pub some_missing : (n : ℤ) (answered : List Answered) (r : Row) (outcome : Outcome) (i p : ℕ)
     → r.state ≡ Prepare outcome → i < length r.partitions → p ≡ get_or r.partitions i p
     → is_answered answered r p ≡ false → 0 < length (missing_of n answered r)
 some_missing n answered r outcome i p is lt at e =

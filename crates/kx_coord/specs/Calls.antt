@@ -1,5 +1,5 @@
 -- What each call does to the coordinator, and what it hands out.
-use Rattle.std.specs.Prelude.{◌≡◌, ◌⊎◌, ℕ, Bool, true, false, List, [], ◌∷◌, ◌++◌, max, Option}
+use Rattle.std.specs.Prelude.{◌≡◌, ◌⊎◌, ℕ, ℤ, Bool, true, false, List, [], ◌∷◌, ◌++◌, max, Option}
 use Rattle.std.specs.Prelude.{Some, None, if◌then◌else◌}
 use Rattle.kx_log.specs.Opening.{OpenFailed}
 use Rattle.kx_log.specs.Store.{AppendFailed, MayLoad, StoreState}
@@ -39,7 +39,7 @@ IsWritten old new note false = ((old.log.closed ≡ true) × (new ≡ old))
     ⊎ ((has_no_id note ≡ false) × Breaks old new note)
 
 -- these messages go out and the markers that the entry owes, where it was appended; else those
-abbrev pub handed_out : Bool → ℕ → Note → List Message → List Message → List Message
+abbrev pub handed_out : Bool → ℤ → Note → List Message → List Message → List Message
 handed_out appended epoch note done failed =
     if appended then done ++ markers_after epoch note else failed
 

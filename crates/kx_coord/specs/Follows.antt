@@ -18,4 +18,4 @@ pub record Follows (log : List Note) (entries : List (List ℕ × Row)) (next : 
   pub rows_are : map (λ e. row_of e.1) entries ≡ rows log
   pub next_is : next ≡ next_id log
   pub next_fits : next ≤ id_limit
-  pub epoch_is : epoch ≡ pos (coordinator_epoch log)
+  pub epoch_is : epoch ≡ coordinator_epoch log

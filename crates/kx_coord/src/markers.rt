@@ -1,5 +1,5 @@
 //! The markers that end a transaction at its partitions (KIP-98, "WriteTxnMarkerRequest").
-ghost use Rattle.std.specs.Prelude.{◌≡◌, ◌<◌, ◌++◌, ℕ, pos, flat_map, length, map, IfOk, OnOk};
+ghost use Rattle.std.specs.Prelude.{◌≡◌, ◌<◌, ◌++◌, flat_map, length, map, IfOk, OnOk};
 ghost use Rattle.std.specs.Prelude.{OnErr};
 ghost use Rattle.kx_model.specs.Markers.{markers_of, missing_of};
 ghost use Rattle.kx_txnlog.specs.Entry.{row_of};
@@ -20,8 +20,8 @@ pub(crate) fn push_markers(
     epoch: i32,
     row: &Row,
 ) -> Result<(), AllocError>
-    ensures { (n : ℕ) → epoch ≡ pos n → OnOk result
-        (messages.new.items ≡ messages.old.items ++ markers_of n (row_of row.now)) }
+    ensures { OnOk result
+        (messages.new.items ≡ messages.old.items ++ markers_of epoch (row_of row.now)) }
 {
     let State::Prepare(outcome) = row.state else {
         return Ok(());
@@ -54,10 +54,9 @@ pub(crate) fn push_missing(
     noted: &NotedMarkers,
     row: &Row,
 ) -> Result<(), AllocError>
-    ensures ok { (n : ℕ) → epoch ≡ pos n → OnOk result
-        (messages.new.items ≡ messages.old.items ++ missing_of n noted.now (row_of row.now)) }
-    ensures refused { (n : ℕ) → epoch ≡ pos n → OnErr result
-        (0 < length (missing_of n noted.now (row_of row.now))) }
+    ensures ok { OnOk result
+        (messages.new.items ≡ messages.old.items ++ missing_of epoch noted.now (row_of row.now)) }
+    ensures refused { OnErr result (0 < length (missing_of epoch noted.now (row_of row.now))) }
 {
     let State::Prepare(outcome) = row.state else {
         return Ok(());
@@ -92,8 +91,8 @@ pub(crate) fn all_markers(
     epoch: i32,
     rows: &[Row],
 ) -> Result<Vec<Message>, AllocError>
-    ensures { IfOk result (λ messages. (n : ℕ) → epoch ≡ pos n
-        → messages.items ≡ flat_map (markers_of n) (map row_of rows.now)) }
+    ensures { IfOk result (λ messages.
+        messages.items ≡ flat_map (markers_of epoch) (map row_of rows.now)) }
 {
     let mut messages = Vec::new(alloc);
     for row in rows {
@@ -113,10 +112,10 @@ pub(crate) fn all_missing(
     noted: &NotedMarkers,
     rows: &[Row],
 ) -> Result<Vec<Message>, AllocError>
-    ensures ok { IfOk result (λ messages. (n : ℕ) → epoch ≡ pos n
-        → messages.items ≡ flat_map (missing_of n noted.now) (map row_of rows.now)) }
-    ensures refused { (n : ℕ) → epoch ≡ pos n → OnErr result
-        (0 < length (flat_map (missing_of n noted.now) (map row_of rows.now))) }
+    ensures ok { IfOk result (λ messages.
+        messages.items ≡ flat_map (missing_of epoch noted.now) (map row_of rows.now)) }
+    ensures refused { OnErr result
+        (0 < length (flat_map (missing_of epoch noted.now) (map row_of rows.now))) }
 {
     let mut messages = Vec::new(alloc);
     for row in rows {

@@ -9,7 +9,7 @@ use crate::markers::all_markers;
 use crate::noted::NotedMarkers;
 use crate::table::Table;
 use kx_log::{AppendFault, OpenFault, Store, StoreFault};
-use kx_txnlog::{CoordinatorEpoch, Entry, TxnLog};
+use kx_txnlog::{Entry, TxnLog};
 use kx_wire::Message;
 use std::alloc::Global;
 
@@ -17,7 +17,7 @@ use std::alloc::Global;
 #[derive(Drop)]
 struct Reopened {
     table: Table,
-    epoch: CoordinatorEpoch,
+    epoch: i32,
     handed: Vec<Message>,
 }
 
@@ -31,7 +31,7 @@ fn take_up(alloc: Global, entries: &[Entry]) -> Result<Reopened, OpenFault>
         None => return Err(OpenFault::UsedUp),
         Some(epoch) => epoch,
     };
-    let handed = all_markers(alloc, epoch.get(), table.rows())?;
+    let handed = all_markers(alloc, epoch, table.rows())?;
     Ok(Reopened {
         table,
         epoch,
@@ -79,7 +79,7 @@ impl<S: Store> Coordinator<S> {
         let mut table = opening.table;
         match log.append(Entry::CoordinatorEpoch(opening.epoch)) {
             Ok(()) => {
-                table.epoch = opening.epoch.get();
+                table.epoch = opening.epoch;
                 let coordinator = Coordinator {
                     alloc,
                     log,
@@ -112,7 +112,7 @@ impl<S: Store> Coordinator<S> {
         match self.log.install_with(content, entry) {
             Ok(()) => {
                 self.table.replace(opening.table);
-                self.table.epoch = epoch.get();
+                self.table.epoch = epoch;
                 self.clock = now;
                 self.answered.forget_all();
                 Ok(opening.handed)

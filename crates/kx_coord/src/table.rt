@@ -11,7 +11,7 @@ ghost use Rattle.kx_coord.specs.Answers.{IsNextId};
 ghost use Rattle.kx_coord.specs.Follows.{Follows};
 
 use indexmap::IndexMap;
-use kx_txnlog::{CoordinatorEpoch, Entry, Row};
+use kx_txnlog::{Entry, Row};
 use kx_wire::{ProducerId, TxnId};
 use std::alloc::{AllocError, Global};
 
@@ -112,7 +112,7 @@ impl Table {
         self.next_id = self.next_id.max(above);
         match entry {
             Entry::CoordinatorEpoch(epoch) => {
-                self.epoch = epoch.get();
+                self.epoch = epoch;
             }
             Entry::Allot(_) => {}
             Entry::Row(row) => {
@@ -152,12 +152,12 @@ impl Table {
     }
 
     /// The epoch that the next opening takes, where one is left.
-    pub(crate) fn next_epoch(&self) -> Option<CoordinatorEpoch>
+    pub(crate) fn next_epoch(&self) -> Option<i32>
         ensures { (log : List Note)
             → Follows log self.now.rows.entries self.now.next_id self.now.epoch
             → MatchOption result (reopen log ≡ None)
             (λ epoch. reopen log ≡ Some (model.CoordinatorEpoch epoch)) }
     {
-        CoordinatorEpoch::new(self.epoch.checked_add(1)?)
+        self.epoch.checked_add(1)
     }
 }

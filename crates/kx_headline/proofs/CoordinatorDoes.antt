@@ -7,8 +7,10 @@ use Rattle.std.proofs.Common.{not, ◌&&◌, ◌||◌, cond, List, [], ◌∷◌
 use Rattle.std.proofs.Common.{Option}
 use Rattle.std.proofs.Common.{Some, None, nat_lt, Contains, All, refl, subst}
 use Rattle.std.proofs.Common.{IfSome, arith, bytes_eq}
-use Rattle.std.proofs.Common.{inl, inr}
+use Rattle.std.proofs.Common.{inl, inr, ◌+ℤ◌}
 use Rattle.std.specs.Bool.{⊤}
+use Rattle.std.specs.Prelude.{FitsSigned, int_lt}
+use Rattle.std.specs.Int.{w32}
 use Rattle.std.proofs.lemmas.Bool.{cond_both}
 use Rattle.std.proofs.lemmas.Bool.Decides.{nat_tests}
 use Rattle.std.proofs.lemmas.List.Elements.{All-append, All-cons, All-filter, All-nil, All-weaker}
@@ -53,14 +55,14 @@ use Rattle.kx_laws.proofs.Membership.{filter_holds}
 ------ what a message of the coordinator rests on
 
 -- a row that waits for its markers lists the partition, with this outcome
-pub record Marks (log : List Note) (partition : ℕ) (held : Held) (coordinator : ℕ)
+pub record Marks (log : List Note) (partition : ℕ) (held : Held) (coordinator : ℤ)
     (outcome : Outcome) : Type 0 where
   pub row : Row
   pub written : Contains log (Written row)
   pub waits : row.state ≡ Prepare outcome
   pub its_pair : held ≡ own_pair row
   pub listed : Contains row.partitions partition
-  pub in_range : coordinator ≤ 2 ^ 31 - 1
+  pub in_range : FitsSigned w32 coordinator
 
 -- a row has the pair, and its owner is the client; or the id was allotted
 pub data Has (log : List Note) (client : ℕ) (held : Held) : Type 0 where
@@ -82,9 +84,8 @@ pub record GivesNext (sent : List Message) (log : List Note) (client correlation
 
 -- what a message says for good of the coordinator's log
 abbrev pub Says : List Message → List Note → Message → Type 0
-Says sent log (msg.WriteMarker partition txn held (pos coordinator) outcome) =
+Says sent log (msg.WriteMarker partition txn held coordinator outcome) =
     Marks log partition held coordinator outcome
-Says sent log (msg.WriteMarker partition txn held (negsuc n) outcome) = ⊥
 Says sent log (msg.AddReply partition txn held code.NoError) =
     Listed log partition held.id held.epoch
 Says sent log (msg.InitReply client correlation code.NoError (Some held)) = Has log client held
@@ -128,7 +129,7 @@ pub says_later : (sent later : List Message) (log log' : List Note)
     → ((m : Message) → Contains sent m → Contains later m)
     → ((note : Note) → Contains log note → Contains log' note)
     → (m : Message) → Says sent log m → Says later log' m
-says_later sent later log log' up on (msg.WriteMarker p txn held (pos k) o) s = record {
+says_later sent later log log' up on (msg.WriteMarker p txn held k o) s = record {
   row = s.row;
   written = on (Written s.row) s.written;
   waits = s.waits;
@@ -136,7 +137,6 @@ says_later sent later log log' up on (msg.WriteMarker p txn held (pos k) o) s = 
   listed = s.listed;
   in_range = s.in_range;
 }
-says_later sent later log log' up on (msg.WriteMarker p txn held (negsuc n) o) s = absurd s
 says_later sent later log log' up on (msg.AddReply p txn held code.NoError) s = record {
   row = s.row;
   written = on (Written s.row) s.written;
@@ -204,7 +204,7 @@ ok_later {sent} {later} {co} up ok = record {
 ------ the markers of rows
 
 -- the markers of a row at some of its partitions
-markers_out : (n : ℕ) (sent : List Message) (before log : List Note) (k : ℕ) → k ≤ 2 ^ 31 - 1
+markers_out : (n : ℕ) (sent : List Message) (before log : List Note) (k : ℤ) → FitsSigned w32 k
     → (r : Row)
     → Contains log (Written r) → (partitions : List ℕ)
     → ((p : ℕ) → Contains partitions p → Contains r.partitions p) → (st : State) → r.state ≡ st
@@ -231,7 +231,7 @@ markers_out n sent before log k low r c partitions sub (Prepare o) e =
 markers_out n sent before log k low r c partitions sub (Complete o) e =
     All-nil (Out n sent before log)
 
-after_out : (n : ℕ) (sent : List Message) (before log : List Note) (k : ℕ) → k ≤ 2 ^ 31 - 1
+after_out : (n : ℕ) (sent : List Message) (before log : List Note) (k : ℤ) → FitsSigned w32 k
     → (note : Note) → Contains log note → All (Out n sent before log) (markers_after k note)
 after_out n sent before log k low (CoordinatorEpoch epoch) c = All-nil (Out n sent before log)
 after_out n sent before log k low (Allot id) c = All-nil (Out n sent before log)
@@ -239,7 +239,7 @@ after_out n sent before log k low (Written r) c =
     markers_out n sent before log k low r c r.partitions (λ p there. there) r.state refl
 
 -- of all rows, at some of their partitions
-rows_out : (n : ℕ) (sent : List Message) (before log : List Note) (k : ℕ) → k ≤ 2 ^ 31 - 1
+rows_out : (n : ℕ) (sent : List Message) (before log : List Note) (k : ℤ) → FitsSigned w32 k
     → (pick : Row → List ℕ)
     → ((r : Row) (p : ℕ) → Contains (pick r) p → Contains r.partitions p)
     → All (Out n sent before log)
@@ -255,7 +255,7 @@ module _ (sent : List Message) (co : Coordinator) (ok : CoordinatorOk sent co) w
   sound : Sound (notes_of co)
   sound = history_sound ok.history
 
-  low : coordinator_epoch (notes_of co) ≤ 2 ^ 31 - 1
+  low : FitsSigned w32 (coordinator_epoch (notes_of co))
   low = (history_in_range ok.history).epochs
 
   abbrev Told : ℕ → List Note → List Message → Type 0
@@ -543,13 +543,13 @@ module _ (sent : List Message) (co : Coordinator) (ok : CoordinatorOk sent co) w
 
   opening : (note : Note) → reopen (reread co.disk) ≡ Some note → Next sent (reread co.disk) note
   opening note e =
-      at (nat_lt (coordinator_epoch (reread co.disk)) greatest_epoch) refl e
+      at (int_lt (coordinator_epoch (reread co.disk)) greatest_epoch) refl e
     where
-      at : (b : Bool) → nat_lt (coordinator_epoch (reread co.disk)) greatest_epoch ≡ b
-          → cond b (Some (CoordinatorEpoch (coordinator_epoch (reread co.disk) + 1))) None
+      at : (b : Bool) → int_lt (coordinator_epoch (reread co.disk)) greatest_epoch ≡ b
+          → cond b (Some (CoordinatorEpoch (coordinator_epoch (reread co.disk) +ℤ pos 1))) None
           ≡ Some note → Next sent (reread co.disk) note
       at true e h =
-          let same : CoordinatorEpoch (coordinator_epoch (reread co.disk) + 1) ≡ note = cc in
+          let same : CoordinatorEpoch (coordinator_epoch (reread co.disk) +ℤ pos 1) ≡ note = cc in
           subst (Next sent (reread co.disk)) same (record {
             follows = CoordinatorFollows.opens (grind (arith, nat_tests));
             has_id = refl;

@@ -3,7 +3,7 @@
 use Rattle.std.proofs.Common.{◌≡◌, ◌≢◌, ◌⊎◌, ℕ, ◌+◌, ◌<◌, ◌≤◌, Bool, true, false, List, []}
 use Rattle.std.proofs.Common.{◌∷◌, ◌++◌}
 use Rattle.std.proofs.Common.{Option, Some, None, ◌==◌, Contains, refl, sym, ap, ◌∙◌, subst, inl}
-use Rattle.std.proofs.Common.{inr}
+use Rattle.std.proofs.Common.{inr, pos, ◌+ℤ◌, ◌<ℤ◌}
 use Rattle.std.proofs.Common.{arith, nat_lt, cond}
 use Rattle.std.specs.Prelude.{unwrap_or, is_some}
 use Rattle.std.proofs.lemmas.Bool.{cond_both}
@@ -70,8 +70,8 @@ abbrev pub given_up : List Note → Row → Row
 given_up log s = raised log s (Complete Abort) ByEnd
 
 pub data Follows (sent : List Message) (log : List Note) : Note → Type 0 where
-  opens : coordinator_epoch log < greatest_epoch
-      → Follows sent log (CoordinatorEpoch (coordinator_epoch log + 1))
+  opens : coordinator_epoch log <ℤ greatest_epoch
+      → Follows sent log (CoordinatorEpoch (coordinator_epoch log +ℤ pos 1))
   allots : (client correlation timeout : ℕ)
       → Contains sent (msg.InitProducerId client correlation None timeout)
       → Follows sent log (Allot (next_id log))
@@ -474,7 +474,7 @@ module _ {log : List Note} (sound : Sound log) where
 pub sound_next : {sent : List Message} {log : List Note} {note : Note} → Sound log
     → Follows sent log note → Sound (log ++ note ∷ [])
 sound_next {log} sound (opens e) =
-    sound_other log (CoordinatorEpoch (coordinator_epoch log + 1)) sound (λ r e. cc)
+    sound_other log (CoordinatorEpoch (coordinator_epoch log +ℤ pos 1)) sound (λ r e. cc)
     (λ test. refl)
 sound_next {log} sound (allots c k t m) =
     sound_other log (Allot (next_id log)) sound (λ r e. cc) (λ test. refl)

@@ -1,16 +1,23 @@
 -- Logs that the coordinator grows: note by note, each of which may be written next.
-use Rattle.std.proofs.Common.{◌≡◌, ℕ, ◌-◌, ◌^◌, ◌≤◌, false, List}
+use Rattle.std.proofs.Common.{◌≡◌, ℕ, refl, ℤ, pos, negsuc, zero, suc, ◌+ℤ◌, ◌<ℤ◌, ◌-◌, ◌^◌, ◌≤◌, false}
+use Rattle.std.proofs.Common.{List}
 use Rattle.std.proofs.Common.{[], ◌∷◌, ◌++◌}
 use Rattle.std.proofs.Common.{Option, Some, None, Contains, sym, subst, ⊎_elim}
 use Rattle.std.proofs.Common.{arith}
 use Rattle.std.proofs.Common.{IfSome, option_to_list, append-nil, lit≤}
+use Rattle.std.specs.Prelude.{FitsSigned}
+use Rattle.std.specs.Int.{w32}
+use Rattle.std.proofs.Math.Facts.{sfits_lit}
+use Rattle.std.proofs.Math.IntN.{+ℤ_one}
 use Rattle.std.proofs.lemmas.Bool.Decides.{nat_tests}
+use Rattle.std.proofs.lemmas.Int.{ints}
 use Rattle.std.proofs.lemmas.List.Elements.{Contains-append_left}
 use Rattle.kx_wire.specs.declared.message.Message.{Message}
 use Rattle.kx_wire.specs.declared.outcome.Outcome.{Outcome}
 use Rattle.kx_model.specs.Coordinator.{Row, Note, CoordinatorEpoch, Written, above_ids}
 use Rattle.kx_model.specs.Coordinator.{coordinator_epoch, decision, epoch_after, next_id}
 use Rattle.kx_model.specs.CoordinatorNode.{has_no_id}
+use Rattle.kx_model.specs.Markers.{greatest_epoch}
 use Rattle.kx_model.proofs.Notes.{coordinator_epoch-push, decision_stays, next_id-push}
 use Rattle.kx_headline.proofs.CoordinatorFollows.{Follows, opens, allots, begins, adds, prepares}
 use Rattle.kx_headline.proofs.CoordinatorFollows.{takes_over, gives_up, completes, follows_later}
@@ -74,13 +81,13 @@ reread_grows log (Some note) n = more log note none n
 
 -- the log has grown from its first opening
 abbrev pub History : List Message → List Note → Type 0
-History sent log = Grows sent (CoordinatorEpoch 1 ∷ []) log
+History sent log = Grows sent (CoordinatorEpoch (pos 1) ∷ []) log
 
-pub no_first_row : (r : Row) → Contains (CoordinatorEpoch 1 ∷ []) (Written r) → ⊥
+pub no_first_row : (r : Row) → Contains (CoordinatorEpoch (pos 1) ∷ []) (Written r) → ⊥
 no_first_row r c =
-    ⊎_elim (λ e. cc) (no_element (Written r)) (cons_cases (CoordinatorEpoch 1) (Written r) [] c)
+    ⊎_elim (λ e. cc) (no_element (Written r)) (cons_cases (CoordinatorEpoch (pos 1)) (Written r) [] c)
 
-pub first_sound : Sound (CoordinatorEpoch 1 ∷ [])
+pub first_sound : Sound (CoordinatorEpoch (pos 1) ∷ [])
 first_sound = record {
   current = λ r c. absurd (no_first_row r c);
   one_txn = λ r s id c. absurd (no_first_row r c);
@@ -94,7 +101,15 @@ history_sound g = sound_grows first_sound g
 -- its ids and the coordinator's epochs fit their fields
 pub record InRange (log : List Note) : Type 0 where
   pub ids : next_id log ≤ 2 ^ 63
-  pub epochs : coordinator_epoch log ≤ 2 ^ 31 - 1
+  pub epochs : FitsSigned w32 (coordinator_epoch log)
+
+-- one above an epoch that isn't the greatest fits its field
+one_above : (e : ℤ) → FitsSigned w32 e → e <ℤ greatest_epoch → FitsSigned w32 (e +ℤ pos 1)
+one_above (pos n) fits low = record { sfits = grind (arith, ints, low) }
+one_above (negsuc zero) fits low = sfits_lit tt
+one_above (negsuc (suc n)) fits low =
+    let same : negsuc (suc n) +ℤ pos 1 ≡ negsuc n = +ℤ_one (negsuc (suc n)) in
+    subst (FitsSigned w32) (sym same) (record { sfits = omega (arith, fits.sfits) })
 
 in_range_next : {sent : List Message} (mid : List Note) (note : Note) → InRange mid
     → Next sent mid note → InRange (mid ++ note ∷ [])
@@ -108,8 +123,8 @@ in_range_next {sent} mid note before n = record { ids = ids; epochs = epochs }
         grind arith
 
     after : (note : Note) → Follows sent mid note
-        → epoch_after (coordinator_epoch mid) note ≤ 2 ^ 31 - 1
-    after note (opens low) = omega (arith, low)
+        → FitsSigned w32 (epoch_after (coordinator_epoch mid) note)
+    after note (opens low) = one_above (coordinator_epoch mid) before.epochs low
     after note (allots c k t m) = before.epochs
     after note (begins txn c k t unused m) = before.epochs
     after note (adds s start p found active m) = before.epochs
@@ -118,11 +133,11 @@ in_range_next {sent} mid note before n = record { ids = ids; epochs = epochs }
     after note (gives_up s c k found resting m) = before.epochs
     after note (completes s o found was m) = before.epochs
 
-    epochs : coordinator_epoch (mid ++ note ∷ []) ≤ 2 ^ 31 - 1
+    epochs : FitsSigned w32 (coordinator_epoch (mid ++ note ∷ []))
     epochs =
-        subst (λ e. e ≤ 2 ^ 31 - 1) (sym (coordinator_epoch-push mid note)) (after note n.follows)
+        subst (FitsSigned w32) (sym (coordinator_epoch-push mid note)) (after note n.follows)
 
 pub history_in_range : {sent : List Message} {log : List Note} → History sent log → InRange log
 unfolding next_id coordinator_epoch
-history_in_range none = record { ids = lit≤ tt; epochs = lit≤ tt }
+history_in_range none = record { ids = lit≤ tt; epochs = sfits_lit tt }
 history_in_range (more mid note g n) = in_range_next mid note (history_in_range g) n

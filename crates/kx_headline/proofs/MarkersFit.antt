@@ -19,8 +19,7 @@ module _ (w : World) (stands : CoordinatorStands w) where
   by_row : (partition : ℕ) (txn : List ℕ) (held : Held) (coordinator : ℤ) (outcome : Outcome)
       → Says w.sent (notes w) (msg.WriteMarker partition txn held coordinator outcome)
       → MarkerFits (marker_of held coordinator outcome)
-  by_row partition txn held (negsuc n) outcome none = absurd none
-  by_row partition txn held (pos k) outcome marks =
+  by_row partition txn held coordinator outcome marks =
       let r : Row = marks.row in
       let below = above_own (notes w) r r.id marks.written (own refl) in
       let ids = (history_in_range stands.coordinator.history).ids in
@@ -32,7 +31,7 @@ module _ (w : World) (stands : CoordinatorStands w) where
         id = omega (arith, below, ids, same_id);
         raised = omega (arith, epoch.0, same_epoch);
         epoch = omega (arith, epoch.1, same_epoch);
-        coordinator = record { sfits = omega (arith, marks.in_range) };
+        coordinator = marks.in_range;
       }
 
   pub markers_fit : MarkersFit w.sent

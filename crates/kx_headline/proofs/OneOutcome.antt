@@ -41,7 +41,7 @@ one_below zero h = absurd (omega arith)
 one_below (suc m) h = (m, omega arith)
 
 -- a row that waits for its markers says what is decided
-pub marks_decided : (log : List Note) (p : ℕ) (held : Held) (coordinator : ℕ) (outcome : Outcome)
+pub marks_decided : (log : List Note) (p : ℕ) (held : Held) (coordinator : ℤ) (outcome : Outcome)
     → Sound log → Marks log p held coordinator outcome
     → IsDecided log held.id held.epoch outcome
 marks_decided log p held coordinator outcome sound marks =
@@ -64,9 +64,8 @@ module _ (w : World) (stands : CoordinatorStands w) where
   asked_decided : (p : ℕ) (txn : List ℕ) (held : Held) (coordinator : ℤ) (outcome : Outcome)
       → Says w.sent (notes w) (msg.WriteMarker p txn held coordinator outcome)
       → IsDecided (notes w) held.id held.epoch outcome
-  asked_decided p txn held (pos k) outcome marks =
+  asked_decided p txn held k outcome marks =
       marks_decided (notes w) p held k outcome (stands_sound stands) marks
-  asked_decided p txn held (negsuc n) outcome none = absurd none
 
   pub marker_decided : (m : Marker) → IsAsked w m → IsDecided (notes w) m.id m.epoch m.outcome
   marker_decided m a =

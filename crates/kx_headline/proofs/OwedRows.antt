@@ -3,7 +3,7 @@
 use Rattle.std.proofs.Common.{◌≡◌, ◌⊎◌, ℕ, ◌+◌, Bool, true, false, ◌&&◌, ◌||◌, cond, List, []}
 use Rattle.std.proofs.Common.{◌∷◌}
 use Rattle.std.proofs.Common.{◌++◌, Option, Some, None, ◌==◌, Contains, refl, sym, ap, ◌∙◌, subst}
-use Rattle.std.proofs.Common.{inl}
+use Rattle.std.proofs.Common.{inl, pos, ◌+ℤ◌}
 use Rattle.std.proofs.Common.{inr, ⊎_elim, arith}
 use Rattle.std.specs.Prelude.{bytes_eq}
 use Rattle.std.specs.Option.{option_map_or, option_or}
@@ -132,7 +132,7 @@ module _ (sent : List Message) (log : List Note) (p : ℕ) where
   old_owed : (note : Note) → Follows sent log note → (id epoch : ℕ) → IsOwed log p id epoch
       → OwedOrAnswered sent (log ++ note ∷ []) p id epoch
   old_owed note (opens low) id epoch o =
-      let k = CoordinatorEpoch (coordinator_epoch log + 1) in
+      let k = CoordinatorEpoch (coordinator_epoch log +ℤ pos 1) in
       inl (other k id epoch o (row_of-other log k o.row.txn refl))
   old_owed note (allots client k t m) id epoch o =
       let a = Allot (next_id log) in inl (other a id epoch o (row_of-other log a o.row.txn refl))

@@ -1,7 +1,7 @@
 -- Rows that give one pair of id and epoch have one owner, also the row that ends the pair's
 -- transaction; and no row names an id that was allotted.
 use Rattle.std.proofs.Common.{◌≡◌, ◌⊎◌, ℕ, ◌+◌, ◌<◌, ◌≤◌, true, false, List, [], ◌∷◌, ◌++◌, Some}
-use Rattle.std.proofs.Common.{None}
+use Rattle.std.proofs.Common.{None, pos, ◌+ℤ◌}
 use Rattle.std.proofs.Common.{Contains, refl, sym, ap, ◌∙◌, subst, inl, inr, ⊎_elim, arith}
 use Rattle.std.specs.Prelude.{is_some}
 use Rattle.std.proofs.lemmas.List.Elements.{Contains-push_cases}
@@ -257,7 +257,7 @@ no_row_owner log note ow no_row = record {
 owner_next : {sent : List Message} {log : List Note} {note : Note} → Sound log → OneOwner log
     → Follows sent log note → OneOwner (log ++ note ∷ [])
 owner_next {log = log} sound ow (opens low) =
-    no_row_owner log (CoordinatorEpoch (coordinator_epoch log + 1)) ow (λ r e. cc)
+    no_row_owner log (CoordinatorEpoch (coordinator_epoch log +ℤ pos 1)) ow (λ r e. cc)
 owner_next {log = log} sound ow (allots c k t m) =
     no_row_owner log (Allot (next_id log)) ow (λ r e. cc)
 owner_next {log = log} sound ow (begins txn c k t first m) =

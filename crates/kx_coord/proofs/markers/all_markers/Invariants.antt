@@ -1,4 +1,4 @@
-use Rattle.std.proofs.Common.{◌≡◌, ℕ, pos, map, take}
+use Rattle.std.proofs.Common.{◌≡◌, map, take}
 use Rattle.std.specs.List.{flat_map}
 use Rattle.kx_model.specs.Markers.{markers_of}
 use Rattle.kx_txnlog.specs.Entry.{row_of}
@@ -6,5 +6,5 @@ use Rattle.kx_coord.proofs.markers.all_markers.Given as goal
 
 -- the markers of the rows so far
 abbrev pub invariant-loop-row : goal.invariant-loop-row
-invariant-loop-row l = (n : ℕ) → l.epoch ≡ pos n
-    → l.messages.items ≡ flat_map (markers_of n) (map row_of (take l.row-index l.rows))
+invariant-loop-row l =
+    l.messages.items ≡ flat_map (markers_of l.epoch) (map row_of (take l.row-index l.rows))

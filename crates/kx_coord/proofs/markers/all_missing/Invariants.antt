@@ -1,4 +1,4 @@
-use Rattle.std.proofs.Common.{◌≡◌, ℕ, pos, map, take}
+use Rattle.std.proofs.Common.{◌≡◌, map, take}
 use Rattle.std.specs.List.{flat_map}
 use Rattle.kx_model.specs.Markers.{missing_of}
 use Rattle.kx_txnlog.specs.Entry.{row_of}
@@ -6,5 +6,5 @@ use Rattle.kx_coord.proofs.markers.all_missing.Given as goal
 
 -- the missing markers of the rows so far
 abbrev pub invariant-loop-row : goal.invariant-loop-row
-invariant-loop-row l = (n : ℕ) → l.epoch ≡ pos n
-    → l.messages.items ≡ flat_map (missing_of n l.noted) (map row_of (take l.row-index l.rows))
+invariant-loop-row l =
+    l.messages.items ≡ flat_map (missing_of l.epoch l.noted) (map row_of (take l.row-index l.rows))

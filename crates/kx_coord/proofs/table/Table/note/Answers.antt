@@ -1,10 +1,12 @@
-use Rattle.std.proofs.Common.{◌≡◌, ◌∙◌, ap, Ok, Err, Result, is_ok}
+use Rattle.std.proofs.Common.{rules, ◌≡◌, ◌∙◌, ap, Ok, Err, Result, is_ok}
 use Rattle.std.proofs.Common.{true}
-use Rattle.std.specs.Prelude.{OnOk}
+use Rattle.std.specs.Prelude.{FitsSigned, OnOk}
+use Rattle.std.specs.Int.{w32}
+use Rattle.std.proofs.lemmas.Int.{to_z-of_z}
 use Rattle.kx_model.specs.Coordinator.{above_ids}
 use Rattle.kx_txnlog.specs.Entry.{note_of}
 use Rattle.kx_txnlog.specs.declared.entry.Entry.{Entry}
-use Rattle.kx_coord.proofs.Following.{follows_allot, follows_epoch, follows_row, same_i32}
+use Rattle.kx_coord.proofs.Following.{follows_allot, follows_epoch, follows_row}
 use Rattle.kx_coord.proofs.table.Table.note.Goals as goal
 
 -- what holds of a call that succeeds, where it does
@@ -15,11 +17,11 @@ ok_holds (Err e) P is h = absurd cc
 pub returns-in-CoordinatorEpoch : goal.returns-in-CoordinatorEpoch
 returns-in-CoordinatorEpoch c = λ log h.
     let is = c.in-CoordinatorEpoch.is in
-    let number = same_i32 c.get-self.result c.in-CoordinatorEpoch.epoch c.get-self.ensures.value
-    c.get-self.ensures.within.1 in
+    let fits : FitsSigned w32 c.in-CoordinatorEpoch.epoch = search rules in
     let follows = follows_epoch log _ _ c.args.above _ c.in-CoordinatorEpoch.epoch _ _ h
     (c.requires.above ∙ ap (λ (e : Entry). above_ids (note_of e)) is)
-    c.max-self.ensures c.requires.most number in
+    c.max-self.ensures c.requires.most
+    (to_z-of_z w32 c.in-CoordinatorEpoch.epoch fits) in
     rw is follows
 
 pub returns-in-Allot : goal.returns-in-Allot
