@@ -1,7 +1,7 @@
 -- The messages that are handed out.
 use Rattle.std.proofs.Common.{◌≡◌, ◌<◌, ◌∙◌, ◌+◌, ◌++◌, ℕ, zero, suc, ℤ, pos, Bool, true, false}
 use Rattle.std.proofs.Common.{List, [], ◌∷◌, map, filter, length, get_or, take, cond, append_assoc}
-use Rattle.std.proofs.Common.{Result, Ok, Err, ap, arith, sym, subst}
+use Rattle.std.proofs.Common.{Result, Ok, Err, ap, arith, refl, sym, subst}
 use Rattle.std.proofs.lemmas.Bool.{cond_both, not_from_false}
 use Rattle.std.proofs.lemmas.List.{append-nil, flat_map_more, get_or-map, length-map, map-append}
 use Rattle.std.proofs.lemmas.List.{take_more}
@@ -13,9 +13,12 @@ use Rattle.kx_wire.specs.declared.message.Held.{Held}
 use Rattle.kx_wire.specs.declared.message.Message.{Message}
 use Rattle.kx_wire.specs.declared.message.Message.TheVariants as msg
 use Rattle.kx_wire.specs.declared.outcome.Outcome.{Outcome}
-use Rattle.kx_model.specs.Coordinator.{Row, Prepare}
+use Rattle.kx_model.specs.Coordinator.{Row, Prepare, coordinator_epoch, epoch_after}
 use Rattle.kx_model.specs.Markers.{Answered, is_answered, markers_in, markers_of, missing_of}
 use Rattle.kx_model.specs.Requests.{own_pair}
+use Rattle.kx_model.proofs.Notes.{coordinator_epoch-push}
+use Rattle.kx_txnlog.specs.Entry.{note_of}
+use Rattle.kx_txnlog.specs.declared.entry.Entry.{Entry}
 
 -- the marker to a partition, as the code makes it
 abbrev pub marker : ℤ → List ℕ → Held → Outcome → ℕ → Message
@@ -95,6 +98,22 @@ owed_more f g xs i x before after lt at so more =
     more ∙ ap (λ l. l ++ f (g x)) so ∙ flat_map_more f [] (map g (take i xs)) (g x)
     ∙ ap (flat_map f) (sym (map-append g (take i xs) (x ∷ [])))
     ∙ ap (λ l. flat_map f (map g l)) (sym (one_taken xs i x lt at))
+
+-- the coordinator's epoch behind one entry more
+pub epoch_more : (entries : List Entry) (i : ℕ) (x : Entry) (before after : ℤ)
+    → i < length entries → x ≡ get_or entries i x
+    → before ≡ coordinator_epoch (map note_of (take i entries))
+    → after ≡ epoch_after before (note_of x)
+    → after ≡ coordinator_epoch (map note_of (take (i + 1) entries))
+epoch_more entries i x before after lt at so is =
+    is ∙ ap (λ e. epoch_after e (note_of x)) so
+    ∙ sym (coordinator_epoch-push (map note_of (take i entries)) (note_of x))
+    ∙ ap coordinator_epoch (sym (map-append note_of (take i entries) (x ∷ [])))
+    ∙ ap (λ l. coordinator_epoch (map note_of l)) (sym (one_taken entries i x lt at))
+
+pub no_epoch : pos 0 ≡ coordinator_epoch []
+unfolding coordinator_epoch
+no_epoch = refl
 
 -- a message more
 pub message_more : {A C : Type 0} (f : A → C) (start : List C) (xs : List A) (i : ℕ) (x : A)

@@ -1,6 +1,6 @@
 -- What each call does to the coordinator, and what it hands out.
 use Rattle.std.specs.Prelude.{◌≡◌, ◌⊎◌, ℕ, ℤ, Bool, true, false, List, [], ◌∷◌, ◌++◌, max, Option}
-use Rattle.std.specs.Prelude.{Some, None, if◌then◌else◌}
+use Rattle.std.specs.Prelude.{Some, None, is_some, if◌then◌else◌}
 use Rattle.kx_log.specs.Opening.{OpenFailed}
 use Rattle.kx_log.specs.Store.{AppendFailed, MayLoad, StoreState}
 use Rattle.kx_log.specs.declared.fault.OpenFault.{OpenFault}
@@ -116,12 +116,13 @@ pub record IsOpen (store : StoreState) (now : ℕ) (co : CoordinatorState) (sent
   pub answered : co.answered ≡ []
   pub handed : sent ≡ all_markers co.log.notes
 
--- what a store held was read, and what was torn at its end is cut off
+-- what a store held was read, and what was torn at its end is cut off; an epoch is left
 pub record IsCutTo (old new : StoreState) : Type 0 where
   pub notes : List Note
   pub opened : IsOpened old new notes
+  pub left : is_some (reopen notes) ≡ true
 
--- the same, and the coordinator's epochs are used up
+-- what a store held was read, but the coordinator's epochs are used up
 pub record RunsOut (old new : StoreState) : Type 0 where
   pub notes : List Note
   pub opened : IsOpened old new notes

@@ -1,5 +1,7 @@
 //! A coordinator is opened on what a store holds, and restarted on its own store.
-ghost use Rattle.std.specs.Prelude.{◌≡◌, map, MatchResult};
+ghost use Rattle.std.specs.Prelude.{◌≡◌, map, Some, None, MatchOption, MatchResult};
+ghost use Rattle.kx_model.specs.Coordinator as model;
+ghost use Rattle.kx_model.specs.Markers.{reopen};
 ghost use Rattle.kx_txnlog.specs.Entry.{note_of};
 ghost use Rattle.kx_coord.specs.Calls.{IsOpen, OpenRefuses, RestartRefuses};
 ghost use Rattle.kx_coord.specs.Deciding.{IsTaken, TakeFaults, open_fault_of};
@@ -21,16 +23,37 @@ struct Reopened {
     handed: Vec<Message>,
 }
 
+// The coordinator's epoch behind an entry, where it was this one before.
+fn epoch_after(before: i32, entry: &Entry) -> i32
+    ensures { result ≡ model.epoch_after before (note_of entry.now) }
+{
+    match entry {
+        Entry::CoordinatorEpoch(epoch) => *epoch,
+        Entry::Allot(_) | Entry::Row(_) => before,
+    }
+}
+
+// The epoch of an opening of the log with these entries, where one is left.
+fn next_epoch(entries: &[Entry]) -> Option<i32>
+    ensures { MatchOption result (reopen (map note_of entries.now) ≡ None)
+        (λ epoch. reopen (map note_of entries.now) ≡ Some (model.CoordinatorEpoch epoch)) }
+{
+    let mut last = 0;
+    for entry in entries {
+        last = epoch_after(last, entry);
+    }
+    last.checked_add(1)
+}
+
 // What is kept of these entries, the epoch of this opening, and the markers that are handed out.
 fn take_up(alloc: Global, entries: &[Entry]) -> Result<Reopened, OpenFault>
     ensures { MatchResult result (IsTaken (map note_of entries.now))
         (TakeFaults (map note_of entries.now)) }
 {
-    let table = Table::of_entries(alloc, entries)?;
-    let epoch = match table.next_epoch() {
-        None => return Err(OpenFault::UsedUp),
-        Some(epoch) => epoch,
+    let Some(epoch) = next_epoch(entries) else {
+        return Err(OpenFault::UsedUp);
     };
+    let table = Table::of_entries(alloc, entries)?;
     let handed = all_markers(alloc, epoch, table.rows())?;
     Ok(Reopened {
         table,
@@ -60,8 +83,8 @@ impl<S: Store> Coordinator<S> {
     /// The store comes back beside the fault: [`OpenFault::Device`] where its device failed,
     /// [`OpenFault::Damaged`] with the place where something else than the next entry begins,
     /// [`OpenFault::UsedUp`] where the log's last coordinator epoch is 2^31 - 1, and
-    /// [`OpenFault::Memory`] for want of memory, which may come in place of a fault that stands
-    /// further on.
+    /// [`OpenFault::Memory`] for want of memory, which may come in place of damage that stands
+    /// further on, but not once a log was read whose epochs are used up.
     pub fn open(
         alloc: Global,
         store: S,

@@ -5,7 +5,6 @@ ghost use Rattle.indexmap.specs.IndexMap.{spare};
 ghost use Rattle.kx_model.specs.Coordinator as model;
 ghost use Rattle.kx_model.specs.Coordinator.{Note};
 ghost use Rattle.kx_model.specs.CoordinatorNode.{id_limit};
-ghost use Rattle.kx_model.specs.Markers.{reopen};
 ghost use Rattle.kx_txnlog.specs.Entry.{note_of, row_of};
 ghost use Rattle.kx_coord.specs.Answers.{IsNextId};
 ghost use Rattle.kx_coord.specs.Follows.{Follows};
@@ -149,15 +148,5 @@ impl Table {
     {
         let id = i64::try_from(self.next_id).ok()?;
         ProducerId::try_from(id).ok()
-    }
-
-    /// The epoch that the next opening takes, where one is left.
-    pub(crate) fn next_epoch(&self) -> Option<i32>
-        ensures { (log : List Note)
-            → Follows log self.now.rows.entries self.now.next_id self.now.epoch
-            → MatchOption result (reopen log ≡ None)
-            (λ epoch. reopen log ≡ Some (model.CoordinatorEpoch epoch)) }
-    {
-        self.epoch.checked_add(1)
     }
 }
