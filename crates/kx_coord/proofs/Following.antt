@@ -1,5 +1,5 @@
 -- What the coordinator keeps of its log follows it.
-use Rattle.std.proofs.Common.{◌≡◌, ◌∙◌, ◌≤◌, ◌<◌, ◌^◌, ◌++◌, ℕ, ℤ, pos, List, [], ◌∷◌, Bool}
+use Rattle.std.proofs.Common.{◌≡◌, ◌∙◌, ◌≤◌, ◌++◌, ℕ, ℤ, pos, List, [], ◌∷◌, Bool}
 use Rattle.std.proofs.Common.{true, false, Option, Some, None, refl, sym, ap, subst, cond, map, max}
 use Rattle.std.proofs.Common.{arith}
 use Rattle.std.specs.Prelude.{bytes_eq, if◌then◌else◌, option_map}

@@ -1,11 +1,11 @@
 -- All that the coordinator does in any event, once and for all: what its log grows to, what a
 -- failed store may hold, which markers it has noted, and what each message that it hands out rests
 -- on. The theorems read this, and no handler.
-use Rattle.std.proofs.Common.{◌≡◌, ◌⊎◌, ℕ, ℤ, pos, negsuc, ◌+◌, ◌-◌, ◌^◌, ◌≤◌, max, Bool, true}
+use Rattle.std.proofs.Common.{◌≡◌, ◌⊎◌, ℕ, ℤ, pos, ◌+◌, ◌-◌, max, Bool, true}
 use Rattle.std.proofs.Common.{false}
 use Rattle.std.proofs.Common.{not, ◌&&◌, ◌||◌, cond, List, [], ◌∷◌, ◌++◌, filter, flat_map}
 use Rattle.std.proofs.Common.{Option}
-use Rattle.std.proofs.Common.{Some, None, nat_lt, Contains, All, refl, subst}
+use Rattle.std.proofs.Common.{Some, None, Contains, All, refl, subst}
 use Rattle.std.proofs.Common.{IfSome, arith, bytes_eq}
 use Rattle.std.proofs.Common.{inl, inr, ◌+ℤ◌}
 use Rattle.std.specs.Bool.{⊤}

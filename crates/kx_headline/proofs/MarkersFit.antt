@@ -1,5 +1,5 @@
 -- Every marker that the coordinator hands out fits the fields of a control batch.
-use Rattle.std.proofs.Common.{◌≡◌, ℕ, ℤ, pos, negsuc, List, refl, ap}
+use Rattle.std.proofs.Common.{◌≡◌, ℕ, ℤ, List, refl, ap}
 use Rattle.std.proofs.Common.{arith}
 use Rattle.std.proofs.lemmas.List.Elements.{All-contains}
 use Rattle.kx_wire.specs.declared.message.Held.{Held}

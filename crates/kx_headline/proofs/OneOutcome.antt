@@ -1,6 +1,6 @@
 -- Each marker of a log has the outcome that the coordinator decided: its partition was told so, and
 -- was told by a row that ends the transaction.
-use Rattle.std.proofs.Common.{List, ◌≡◌, ℕ, zero, suc, pos, negsuc, ℤ, ◌+◌, ◌≤◌, Some}
+use Rattle.std.proofs.Common.{List, ◌≡◌, ℕ, zero, suc, ℤ, ◌+◌, ◌≤◌, Some}
 use Rattle.std.proofs.Common.{Contains}
 use Rattle.std.proofs.Common.{refl}
 use Rattle.std.proofs.Common.{sym, ap, ◌∙◌, subst, arith}
