@@ -1,5 +1,5 @@
 //! A script, and what it has to write.
-ghost use Rattle.std.specs.Prelude.{◌≤◌, IfOk};
+ghost use Rattle.std.specs.Prelude.{◌≡◌, ◌≤◌, IfOk};
 
 use kx_cases::Tally;
 use kx_text::{ScriptFault, run_script};
@@ -31,7 +31,7 @@ fn is_right(alloc: Global, script: &str, wanted: &str) -> Result<bool, AllocErro
 
 /// Runs the script NAME.kx, which has to write NAME.out, and prints `ok NAME` or `FAILED NAME`.
 pub fn try_pair(rt: &(impl Files + Print + AllocGlobal), name: &str) -> io::Result<Tally>
-    ensures { IfOk result (λ tally. tally.failed ≤ tally.tried) }
+    ensures { IfOk result (λ tally. (tally.tried ≡ 1) × (tally.failed ≤ 1)) }
 {
     let alloc = rt.alloc();
     let script = fs::read_to_string(rt, format!(in alloc; "{name}.kx")?)?;
