@@ -61,7 +61,7 @@ impl Texts {
         let mut words = text.split(',');
         let mut bytes = self.word(words.next().unwrap_or(""))?;
         for change in words {
-            bytes = self.changed(bytes, change)?;
+            self.change(&mut bytes, change)?;
         }
         Ok(bytes)
     }
@@ -87,22 +87,32 @@ impl Texts {
         }
     }
 
-    fn changed(&self, bytes: Vec<u8>, change: &str) -> Result<Vec<u8>, StepFault> {
-        let mut bytes = bytes;
+    // Makes one of the changes that stand behind a part.
+    fn change(&self, bytes: &mut Vec<u8>, change: &str) -> Result<(), StepFault> {
         if let Some(len) = change.strip_prefix("..") {
             bytes.truncate(number(len)?);
-            return Ok(bytes);
+            return Ok(());
         }
         if let Some(count) = change.strip_prefix('x') {
-            return Ok(repeated(self.alloc, bytes.as_slice(), number(count)?)?);
+            *bytes = repeated(self.alloc, bytes.as_slice(), number(count)?)?;
+            return Ok(());
         }
+        self.put(bytes.as_mut_slice(), change)
+    }
+
+    // Puts the bytes of a change `P:HEX` at place P, as far as there is room.
+    fn put(&self, bytes: &mut [u8], change: &str) -> Result<(), StepFault> {
         let (place, with) = change.split_once(':').ok_or(StepFault::Unknown)?;
+        let place = number(place)?;
         let with = self.digits(with)?;
-        let places = bytes.iter_mut().skip(number(place)?);
-        for (byte, new) in places.zip(with.iter()) {
-            *byte = *new;
-        }
-        Ok(bytes)
+        overwrite(bytes, place, with.as_slice());
+        Ok(())
+    }
+}
+
+fn overwrite(bytes: &mut [u8], place: usize, with: &[u8]) {
+    for (byte, new) in bytes.iter_mut().skip(place).zip(with.iter()) {
+        *byte = *new;
     }
 }
 
