@@ -2,7 +2,7 @@
 ghost use Rattle.std.specs.Prelude.{◌≡◌, ◌≤ℤ◌, pos};
 ghost use Rattle.std.specs.Int.RustNames.{unsigned_abs};
 
-use kx_wire::ProducerId;
+use kx_message::ProducerId;
 use std::marker::Model;
 
 /// A transaction that was aborted at a partition (KIP-98, "READ_COMMITTED"): the id of its

@@ -3,7 +3,7 @@ ghost use Rattle.std.specs.Prelude.{◌≤ℤ◌, negsuc};
 
 use kx_coord::Coordinator;
 use kx_log::MemStore;
-use kx_wire::{ClientId, Epoch, ErrorCode, Held, Message, Outcome, PartitionId, Timeout, TxnId};
+use kx_message::{ClientId, Epoch, ErrorCode, Held, Message, Outcome, PartitionId, Timeout, TxnId};
 use std::alloc::Global;
 
 // The client and the partition of all transactions.
@@ -68,7 +68,7 @@ fn held_of(coordinator: &Coordinator<MemStore>, place: u64) -> Option<Held> {
 }
 
 fn next_epoch(held: Held) -> Option<Held> {
-    let epoch = Epoch::try_from(held.epoch.get().checked_add(1)?).ok()?;
+    let epoch = held.epoch.raised()?;
     Some(Held { id: held.id, epoch })
 }
 

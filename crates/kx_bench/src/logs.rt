@@ -4,9 +4,9 @@ ghost use Rattle.kx_bench.specs.Logs.{IsEndOf};
 
 use kx_batch::{BatchBuilder, BuildFault};
 use kx_log::MemStore;
+use kx_message::{Epoch, Held, Outcome, ProducerId, Raised};
 use kx_partition::{Partition, Produced};
 use kx_reader::Committed;
-use kx_wire::{Epoch, Held, Outcome, ProducerId, Raised};
 use std::alloc::Global;
 
 // How many producers take turns in a log.
@@ -65,17 +65,13 @@ fn held_of(txn: u64) -> Option<Held> {
 
 // Appends a transaction of one batch and its marker; every tenth is aborted.
 fn append_txn(alloc: Global, partition: &mut Partition<MemStore>, txn: u64) -> Option<()> {
-    let held = held_of(txn)?;
-    let text = batch_of(alloc, held).ok()?;
+    let Held { id, epoch } = held_of(txn)?;
+    let text = batch_of(alloc, Held { id, epoch }).ok()?;
     let Ok(Produced::Appended(_)) = partition.produce(text.as_slice(), true) else {
         return None;
     };
-    let raised = Epoch::try_from(held.epoch.get().checked_add(1)?).ok()?;
-    let ended = Raised::try_from(Held {
-        id: held.id,
-        epoch: raised,
-    })
-    .ok()?;
+    let epoch = epoch.raised()?;
+    let ended = Raised::try_from(Held { id, epoch }).ok()?;
     let outcome = if txn % 10 == 9 {
         Outcome::Abort
     } else {

@@ -3,8 +3,8 @@
 //! number, at that offset, and tells before each whether they are full, and whether there is room.
 use crate::words::{epoch_of, id_of};
 use kx_cases::{Runs, StepFault, Subject, Texts, known, told_done, told_option, told_value, value};
+use kx_message::{Epoch, ProducerId};
 use kx_open::{OPEN_LIMIT, OpenTxn, OpenTxns};
-use kx_wire::{Epoch, ProducerId};
 use std::alloc::Global;
 
 /// The transactions that are open in a case.
@@ -34,7 +34,7 @@ impl OpenCases {
     // Whether they are full, makes room, and begins the transaction of this number.
     fn begin_next(&mut self, number: u16) -> Result<String, StepFault> {
         let id = known(ProducerId::try_from(i64::from(number)))?;
-        let epoch = known(Epoch::try_from(0))?;
+        let epoch = Epoch::FIRST;
         let full = self.open.is_full();
         let room = told_done(self.alloc, self.open.reserve())?;
         let begun = self.begin_txn(id, epoch, i64::from(number))?;

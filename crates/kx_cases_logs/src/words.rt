@@ -1,6 +1,6 @@
 //! The words of steps that are values of the wire.
 use kx_cases::{StepFault, known, value};
-use kx_wire::{Epoch, PartitionId, ProducerId};
+use kx_message::{Epoch, PartitionId, ProducerId};
 
 /// The producer id of this number.
 pub fn id_of(word: &str) -> Result<ProducerId, StepFault> {

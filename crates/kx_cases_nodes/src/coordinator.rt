@@ -5,9 +5,9 @@ use crate::words::{client, code, held, partition};
 use kx_cases::{StepFault, Subject, Texts, known, told_name, told_value, value};
 use kx_coord::Coordinator;
 use kx_log::{FaultStore, MemStore, Store};
+use kx_message::{Message, Outcome, Timeout, TxnId};
 use kx_txnlog::{Row, State};
-use kx_wire::{Message, Outcome, Timeout, TxnId};
-use std::alloc::{AllocError, Global};
+use std::alloc::Global;
 
 // How long a transaction may stay open, in milliseconds: a minute.
 const MINUTE: u32 = 60_000;
@@ -27,7 +27,7 @@ fn handed(alloc: Global, messages: &[Message]) -> Result<String, StepFault> {
     for message in messages {
         parts.push(format!(in alloc; "{} {message}", message.receiver())?)?;
     }
-    Ok(parts.finish()?)
+    parts.finish()
 }
 
 fn state_number(state: State) -> u8 {
@@ -42,7 +42,7 @@ fn state_number(state: State) -> u8 {
 }
 
 // A row as `TXN ID EPOCH STATE PARTITIONS`.
-fn row_text(alloc: Global, row: &Row) -> Result<String, AllocError> {
+fn row_text(alloc: Global, row: &Row) -> Result<String, StepFault> {
     let state = state_number(row.state);
     let mut parts = Parts::new(alloc, " ");
     parts.push(format!(in alloc; "{} {} {} {state}", row.txn, row.id, row.epoch)?)?;
@@ -57,7 +57,7 @@ fn rows(alloc: Global, rows: &[Row]) -> Result<String, StepFault> {
     for row in rows {
         parts.push(row_text(alloc, row)?)?;
     }
-    Ok(parts.finish()?)
+    parts.finish()
 }
 
 // Client asks for an id and an epoch.
@@ -145,11 +145,11 @@ fn taken(alloc: Global, running: &mut Running, words: &[&str]) -> Result<String,
         ["failures"] => told_value(alloc, running.failures()),
         ["append_fails", keep] => {
             running.arm(Some(value(keep)?));
-            Ok(nothing(alloc)?)
+            nothing(alloc)
         }
         ["load_fails"] => {
             running.arm_load(true);
-            Ok(nothing(alloc)?)
+            nothing(alloc)
         }
         _ => timed(alloc, running, words),
     }

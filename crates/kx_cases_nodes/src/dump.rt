@@ -1,9 +1,9 @@
 //! Steps that dump bytes.
 use crate::parts::nothing;
 use crate::streams::Full;
-use kx_cases::{StepFault, Subject, Texts, value};
+use kx_cases::{StepFault, Subject, Texts, told_name, told_value, value};
 use kx_text::dump_batches;
-use std::alloc::{AllocError, Global};
+use std::alloc::Global;
 use std::str;
 
 /// What was printed of the bytes that were dumped last, and how many of its lines were told.
@@ -15,24 +15,23 @@ pub struct Dumps {
 }
 
 // A line that was printed, without its newline.
-fn line_text(alloc: Global, line: &str) -> Result<String, AllocError> {
+fn line_text(alloc: Global, line: &str) -> Result<String, StepFault> {
     match line.strip_suffix('\n') {
-        Some(line) => String::from_str(alloc, line),
-        None => format!(in alloc; "no newline: {line}"),
+        Some(line) => told_value(alloc, line),
+        None => Ok(format!(in alloc; "no newline: {line}")?),
     }
 }
 
 impl Dumps {
     // How a dump ends.
-    fn dump(&mut self, bytes: &[u8]) -> Result<String, AllocError> {
+    fn dump(&mut self, bytes: &[u8]) -> Result<String, StepFault> {
         self.printed.clear();
         self.told = 0;
-        let ended = dump_batches(bytes, &mut self.printed);
-        format!(in self.alloc; "{ended:?}")
+        told_name(self.alloc, dump_batches(bytes, &mut self.printed))
     }
 
     // The next line that was printed.
-    fn line(&mut self) -> Result<String, AllocError> {
+    fn line(&mut self) -> Result<String, StepFault> {
         let printed = str::from_utf8(self.printed.as_slice()).unwrap_or("");
         match printed.split_inclusive('\n').nth(self.told) {
             Some(line) => {
@@ -45,9 +44,8 @@ impl Dumps {
 }
 
 // How a dump ends whose writer has room for so many bytes.
-fn full(alloc: Global, room: usize, bytes: &[u8]) -> Result<String, AllocError> {
-    let ended = dump_batches(bytes, &mut Full(room));
-    format!(in alloc; "{ended:?}")
+fn full(alloc: Global, room: usize, bytes: &[u8]) -> Result<String, StepFault> {
+    told_name(alloc, dump_batches(bytes, &mut Full(room)))
 }
 
 impl Subject for Dumps {
@@ -61,11 +59,11 @@ impl Subject for Dumps {
 
     fn answer(&mut self, texts: &Texts, words: &[&str]) -> Result<String, StepFault> {
         match words {
-            ["dump", bytes] => Ok(self.dump(texts.bytes(bytes)?.as_slice())?),
-            ["line"] => Ok(self.line()?),
+            ["dump", bytes] => self.dump(texts.bytes(bytes)?.as_slice()),
+            ["line"] => self.line(),
             ["full", room, bytes] => {
                 let room = value(room)?;
-                Ok(full(self.alloc, room, texts.bytes(bytes)?.as_slice())?)
+                full(self.alloc, room, texts.bytes(bytes)?.as_slice())
             }
             _ => Err(StepFault::Unknown),
         }

@@ -5,7 +5,7 @@ use crate::shown::shown;
 use kx_cases::{Runs, StepFault, Subject, Texts, told_name, told_value, value};
 use kx_log::{FaultStore, MemStore};
 use kx_partition::{FetchPage, Partition};
-use std::alloc::{AllocError, Global};
+use std::alloc::Global;
 
 /// A partition, once it is open.
 #[derive(Drop)]
@@ -15,19 +15,19 @@ pub struct PartitionNode {
 }
 
 // The end and the last stable offset.
-fn offsets(alloc: Global, kept: &Kept) -> Result<String, AllocError> {
+fn offsets(alloc: Global, kept: &Kept) -> Result<String, StepFault> {
     let (end, stable) = (kept.end(), kept.lso());
-    format!(in alloc; "end {end} lso {stable}")
+    Ok(format!(in alloc; "end {end} lso {stable}")?)
 }
 
 // Reads the store again and goes on with what it holds: the end before and after, or why not.
-fn reload(alloc: Global, kept: &mut Kept) -> Result<String, AllocError> {
+fn reload(alloc: Global, kept: &mut Kept) -> Result<String, StepFault> {
     match kept.reload() {
         Ok(content) => {
-            let before = kept.install(content);
-            format!(in alloc; "end {} before {}", kept.end(), before.end())
+            let before = kept.install(content).end();
+            Ok(format!(in alloc; "end {} before {before}", kept.end())?)
         }
-        Err(fault) => format!(in alloc; "{fault:?}"),
+        Err(fault) => told_name(alloc, fault),
     }
 }
 
@@ -75,7 +75,7 @@ fn armed(alloc: Global, kept: &mut Kept, words: &[&str]) -> Result<String, StepF
         ["load_fails"] => kept.arm_load(true),
         _ => return fetched(alloc, kept, words),
     }
-    Ok(nothing(alloc)?)
+    nothing(alloc)
 }
 
 // Whether a step of this name sends something.
@@ -94,11 +94,11 @@ fn taken(
     words: &[&str],
 ) -> Result<String, StepFault> {
     match words {
-        ["offsets"] => Ok(offsets(alloc, kept)?),
+        ["offsets"] => offsets(alloc, kept),
         ["takes", more] => told_value(alloc, kept.can_take(value(more)?)),
         ["failures"] => told_value(alloc, kept.failures()),
         ["holds", bytes] => holds(alloc, kept, texts.bytes(bytes)?.as_slice()),
-        ["reload"] => Ok(reload(alloc, kept)?),
+        ["reload"] => reload(alloc, kept),
         [name, ..] if is_sending(name) => sent(alloc, kept, texts, words),
         _ => armed(alloc, kept, words),
     }
@@ -127,9 +127,9 @@ impl PartitionNode {
     fn open(&mut self, store: FaultStore<MemStore>) -> Result<String, StepFault> {
         match Partition::rebuild(self.alloc, store) {
             Ok(kept) => {
-                let told = offsets(self.alloc, &kept)?;
+                let told = offsets(self.alloc, &kept);
                 self.kept = Some(kept);
-                Ok(told)
+                told
             }
             Err((fault, _)) => told_name(self.alloc, fault),
         }

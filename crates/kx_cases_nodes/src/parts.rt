@@ -1,9 +1,10 @@
 //! Answers of several parts.
+use kx_cases::{StepFault, told_value};
 use std::alloc::{AllocError, Global};
 
 /// What a step answers that gives nothing.
-pub fn nothing(alloc: Global) -> Result<String, AllocError> {
-    String::from_str(alloc, "-")
+pub fn nothing(alloc: Global) -> Result<String, StepFault> {
+    told_value(alloc, "-")
 }
 
 /// Parts of an answer, told one behind the other.
@@ -33,7 +34,7 @@ impl Parts {
     }
 
     /// All of them, or `-` for none.
-    pub fn finish(self) -> Result<String, AllocError> {
+    pub fn finish(self) -> Result<String, StepFault> {
         if self.text.is_empty() {
             return nothing(self.alloc);
         }

@@ -3,8 +3,8 @@ use crate::parts::nothing;
 use crate::shown::shown;
 use crate::words::{code, producer};
 use kx_cases::{StepFault, Subject, Texts, told_name, value};
+use kx_message::{AbortedTxn, AbortedTxns, Bytes, ClientId, ErrorCode, Message, PartitionId};
 use kx_partition::FetchPage;
-use kx_wire::{AbortedTxn, AbortedTxns, Bytes, ClientId, ErrorCode, Message, PartitionId};
 use std::alloc::Global;
 
 /// The reply that came.
@@ -74,7 +74,7 @@ impl Replies {
     // This reply came.
     fn comes(&mut self, reply: Message) -> Result<String, StepFault> {
         self.reply = Some(reply);
-        Ok(nothing(self.alloc)?)
+        nothing(self.alloc)
     }
 }
 

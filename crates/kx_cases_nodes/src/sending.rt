@@ -1,10 +1,10 @@
 //! What is sent to a partition: batches of records and markers.
 use crate::words::held;
 use kx_batch::{BatchBuilder, BuildFault};
-use kx_cases::{Runs, StepFault, Texts, known, told_name, value};
+use kx_cases::{Runs, StepFault, Texts, known, told_name, told_value, value};
 use kx_log::{FaultStore, MemStore};
+use kx_message::Raised;
 use kx_partition::{Partition, Produced};
-use kx_wire::Raised;
 use std::alloc::{AllocError, Global};
 
 /// A partition on a store that is made to fail.
@@ -16,9 +16,8 @@ fn produced(
     kept: &mut Kept,
     batch: &[u8],
     is_verified: bool,
-) -> Result<String, AllocError> {
-    let answer = kept.produce(batch, is_verified)?;
-    format!(in alloc; "{answer:?}")
+) -> Result<String, StepFault> {
+    told_name(alloc, kept.produce(batch, is_verified)?)
 }
 
 // The answer to the batch of this number, where its offset may be that number.
@@ -27,22 +26,22 @@ fn numbered(
     kept: &mut Kept,
     batch: &[u8],
     number: usize,
-) -> Result<String, AllocError> {
+) -> Result<String, StepFault> {
     match kept.produce(batch, true)? {
         Produced::Appended(offset) if offset.unsigned_abs() == number as u64 => {
-            String::from_str(alloc, "Appended(NUMBER)")
+            told_value(alloc, "Appended(NUMBER)")
         }
-        answer => format!(in alloc; "{answer:?}"),
+        answer => told_name(alloc, answer),
     }
 }
 
 // The answers to each front of some bytes, but not to all of them.
-fn fronts(alloc: Global, kept: &mut Kept, bytes: &[u8]) -> Result<String, AllocError> {
+fn fronts(alloc: Global, kept: &mut Kept, bytes: &[u8]) -> Result<String, StepFault> {
     let mut runs = Runs::new(alloc);
     for len in 0..bytes.len() {
         runs.push(len, produced(alloc, kept, &bytes[..len], true)?)?;
     }
-    runs.finish()
+    Ok(runs.finish()?)
 }
 
 // The answers to the same batch, so many times.
@@ -51,12 +50,12 @@ fn repeat(
     kept: &mut Kept,
     times: usize,
     batch: &[u8],
-) -> Result<String, AllocError> {
+) -> Result<String, StepFault> {
     let mut runs = Runs::new(alloc);
     for number in 0..times {
         runs.push(number, numbered(alloc, kept, batch, number)?)?;
     }
-    runs.finish()
+    Ok(runs.finish()?)
 }
 
 // The first batch of a producer's transaction: one record with an empty value.
@@ -67,16 +66,16 @@ fn first_of_txn(alloc: Global, id: i64) -> Result<Vec<u8>, BuildFault> {
 }
 
 // The answers to the first batches of the producers 0, 1, 2 ..
-fn open_txns(alloc: Global, kept: &mut Kept, producers: u16) -> Result<String, AllocError> {
+fn open_txns(alloc: Global, kept: &mut Kept, producers: u16) -> Result<String, StepFault> {
     let mut runs = Runs::new(alloc);
     for id in 0..producers {
         let Ok(batch) = first_of_txn(alloc, i64::from(id)) else {
-            return Err(AllocError);
+            return Err(StepFault::Memory(AllocError));
         };
         let number = usize::from(id);
         runs.push(number, numbered(alloc, kept, batch.as_slice(), number)?)?;
     }
-    runs.finish()
+    Ok(runs.finish()?)
 }
 
 // The answer to a marker: `marker ID EPOCH COORDINATOR OUTCOME`.
@@ -89,6 +88,21 @@ fn marked(alloc: Global, kept: &mut Kept, words: &[&str]) -> Result<String, Step
     told_name(alloc, code)
 }
 
+// The answers to the bytes of a step of this name.
+fn produces(
+    alloc: Global,
+    kept: &mut Kept,
+    name: &str,
+    bytes: &[u8],
+) -> Result<String, StepFault> {
+    match name {
+        "produce" => produced(alloc, kept, bytes, true),
+        "unverified" => produced(alloc, kept, bytes, false),
+        "fronts" => fronts(alloc, kept, bytes),
+        _ => Err(StepFault::Unknown),
+    }
+}
+
 /// Takes a step that sends something.
 pub fn sent(
     alloc: Global,
@@ -97,16 +111,12 @@ pub fn sent(
     words: &[&str],
 ) -> Result<String, StepFault> {
     match words {
-        ["produce", batch] => Ok(produced(alloc, kept, texts.bytes(batch)?.as_slice(), true)?),
-        ["unverified", batch] => {
-            Ok(produced(alloc, kept, texts.bytes(batch)?.as_slice(), false)?)
-        }
-        ["fronts", bytes] => Ok(fronts(alloc, kept, texts.bytes(bytes)?.as_slice())?),
+        ["open_txns", producers] => open_txns(alloc, kept, value(producers)?),
         ["repeat", times, batch] => {
             let times = value(times)?;
-            Ok(repeat(alloc, kept, times, texts.bytes(batch)?.as_slice())?)
+            repeat(alloc, kept, times, texts.bytes(batch)?.as_slice())
         }
-        ["open_txns", producers] => Ok(open_txns(alloc, kept, value(producers)?)?),
+        [name, bytes] => produces(alloc, kept, name, texts.bytes(bytes)?.as_slice()),
         _ => marked(alloc, kept, words),
     }
 }

@@ -1,6 +1,6 @@
 //! The values that the words of a step write.
 use kx_cases::{StepFault, known, value};
-use kx_wire::{ClientId, Epoch, ErrorCode, Held, PartitionId, ProducerId};
+use kx_message::{ClientId, Epoch, ErrorCode, Held, PartitionId, ProducerId};
 
 /// A client's number.
 pub fn client(word: &str) -> Result<ClientId, StepFault> {

@@ -7,16 +7,18 @@ use Rattle.std.proofs.lemmas.List.{append-nil, flat_map_more, get_or-map, length
 use Rattle.std.proofs.lemmas.List.{take_more}
 use Rattle.std.proofs.lemmas.List.Elements.{filter-append}
 use Rattle.std.proofs.lemmas.List.Folds.{length-flat_map-take}
-use Rattle.std.specs.List.{flat_map}
+use Rattle.std.specs.List.{flat_map, list_any}
 use Rattle.std.specs.Prelude.{not, OnErr, OnOk}
-use Rattle.kx_wire.specs.declared.message.Held.{Held}
-use Rattle.kx_wire.specs.declared.message.Message.{Message}
-use Rattle.kx_wire.specs.declared.message.Message.TheVariants as msg
-use Rattle.kx_wire.specs.declared.outcome.Outcome.{Outcome}
+use Rattle.kx_message.specs.declared.message.Held.{Held}
+use Rattle.kx_message.specs.declared.message.Message.{Message}
+use Rattle.kx_message.specs.declared.message.Message.TheVariants as msg
+use Rattle.kx_message.specs.declared.outcome.Outcome.{Outcome}
 use Rattle.kx_model.specs.Coordinator.{Row, Prepare, coordinator_epoch, epoch_after}
 use Rattle.kx_model.specs.Markers.{Answered, is_answered, markers_in, markers_of, missing_of}
+use Rattle.kx_model.specs.Markers.{same_answered}
 use Rattle.kx_model.specs.Requests.{own_pair}
 use Rattle.kx_model.proofs.Notes.{coordinator_epoch-push}
+use Rattle.kx_coord.specs.Noted.{answered}
 use Rattle.kx_txnlog.specs.Entry.{note_of}
 use Rattle.kx_txnlog.specs.declared.entry.Entry.{Entry}
 
@@ -40,6 +42,13 @@ missing_are epoch answered r held outcome h is =
     markers_are epoch (record r {
       partitions = filter (λ p. not (is_answered answered r p)) r.partitions;
     }) held outcome h is
+
+-- that of a row is looked up by the row's id and epoch
+pub own_answered : (noted : List Answered) (r : Row) (held : Held) (partition : ℕ)
+    → held ≡ own_pair r → list_any (same_answered (answered r.txn held partition)) noted
+    ≡ is_answered noted r partition
+own_answered noted r held partition own =
+    ap (λ (h : Held). list_any (same_answered (answered r.txn h partition)) noted) own
 
 -- what is so in any case is so of a call that failed
 pub on_err : {A E : Type 0} (r : Result A E) (P : Type 0) → P → OnErr r P

@@ -51,7 +51,7 @@ among_by a t [] true e = refl
 among_by a t [] false e = refl
 among_by a t (m ∷ ms) true e =
     let one : same_answered a (answered_by t m) ≡ is_for a m =
-    and_four (bytes_eq a.txn t) (a.held.id == m.id) (a.held.epoch == m.epoch)
+    and_four (bytes_eq a.txn t) (a.held.id == m.held.id) (a.held.epoch == m.held.epoch)
     (a.partition == m.partition) ∙ ap (λ c. c && is_for a m) e in
     omega (
       arith,
@@ -62,7 +62,7 @@ among_by a t (m ∷ ms) true e =
     )
 among_by a t (m ∷ ms) false e =
     let one : same_answered a (answered_by t m) ≡ false =
-    and_four (bytes_eq a.txn t) (a.held.id == m.id) (a.held.epoch == m.epoch)
+    and_four (bytes_eq a.txn t) (a.held.id == m.held.id) (a.held.epoch == m.held.epoch)
     (a.partition == m.partition) ∙ ap (λ c. c && is_for a m) e in
     omega (
       arith,
@@ -155,7 +155,7 @@ module _ {V : Type 0} (items : V → List AnsweredMarker) where
       → ((q : List ℕ) → lookup (bytes_eq q) new
       ≡ cond (bytes_eq txn q) (Some v) (lookup (bytes_eq q) es))
       → items v ≡ items_at items (lookup (bytes_eq txn) es) ++ marker ∷ []
-      → list_any (is_marker marker.id marker.epoch marker.partition)
+      → list_any (is_marker marker.held marker.partition)
       (items_at items (lookup (bytes_eq txn) es)) ≡ false
       → KeptOnce (shown items es) → KeptOnce (shown items new)
   noted_once txn marker es new v apart now found is fresh once b =
@@ -174,16 +174,18 @@ module _ {V : Type 0} (items : V → List AnsweredMarker) where
       )
     where
       same_test : (b : Answered) (marker : AnsweredMarker) → is_for b marker ≡ true
-          → is_for b ≡ is_marker marker.id marker.epoch marker.partition
+          → is_for b ≡ is_marker marker.held marker.partition
       same_test b marker e =
-          let h = and_parts (b.held.id == marker.id && b.held.epoch == marker.epoch)
-          (b.partition == marker.partition) e in
-          let g = and_parts (b.held.id == marker.id) (b.held.epoch == marker.epoch) h.0 in
-          let same_id : b.held.id ≡ marker.id = let k = g.0 in grind (arith, nat_tests) in
-          let same_epoch : b.held.epoch ≡ marker.epoch = let k = g.1 in grind (arith, nat_tests) in
+          let same_ids = b.held.id == marker.held.id in
+          let same_epochs = b.held.epoch == marker.held.epoch in
+          let h = and_parts (same_ids && same_epochs) (b.partition == marker.partition) e in
+          let g = and_parts same_ids same_epochs h.0 in
+          let same_id : b.held.id ≡ marker.held.id = let k = g.0 in grind (arith, nat_tests) in
+          let same_epoch : b.held.epoch ≡ marker.held.epoch =
+          let k = g.1 in grind (arith, nat_tests) in
           let same_partition : b.partition ≡ marker.partition =
           let k = h.1 in grind (arith, nat_tests) in
-          λ i. is_marker (same_id i) (same_epoch i) (same_partition i)
+          λ i. is_marker (record { id = same_id i; epoch = same_epoch i }) (same_partition i)
 
   -- without those of a transactional id
   pub forgotten_once : (txn : List ℕ) (es new : List (List ℕ × V))

@@ -26,7 +26,7 @@ and_none false = refl
 
 -- whether an answer is among those of a transactional id
 abbrev pub is_for : Answered → AnsweredMarker → Bool
-is_for a = is_marker a.held.id a.held.epoch a.partition
+is_for a = is_marker a.held a.partition
 
 pub among : (a : Answered) (t : List ℕ) (ms : List AnsweredMarker)
     → list_any (same_answered a) (map (answered_by t) ms)
@@ -34,7 +34,7 @@ pub among : (a : Answered) (t : List ℕ) (ms : List AnsweredMarker)
 among a t [] = and_none (bytes_eq a.txn t)
 among a t (m ∷ ms) =
     ap (λ c. c || list_any (same_answered a) (map (answered_by t) ms))
-    (and_four (bytes_eq a.txn t) (a.held.id == m.id) (a.held.epoch == m.epoch)
+    (and_four (bytes_eq a.txn t) (a.held.id == m.held.id) (a.held.epoch == m.held.epoch)
     (a.partition == m.partition))
     ∙ ap (λ c. (bytes_eq a.txn t && is_for a m) || c) (among a t ms)
     ∙ and_or (bytes_eq a.txn t) (is_for a m) (list_any (is_for a) ms)
@@ -139,8 +139,8 @@ module _ {V : Type 0} (items : V → List AnsweredMarker) where
       ∙ ap (λ x. x || ((bytes_eq b.txn txn && is_for b marker) || false))
       (sym (looked_up items b es apart))
       ∙ ap (λ x. list_any (same_answered b) (shown items es) || (x || false))
-      (sym (and_four (bytes_eq b.txn txn) (b.held.id == marker.id) (b.held.epoch == marker.epoch)
-      (b.partition == marker.partition)))
+      (sym (and_four (bytes_eq b.txn txn) (b.held.id == marker.held.id)
+      (b.held.epoch == marker.held.epoch) (b.partition == marker.partition)))
       ∙ sym (list_any-append (same_answered b) (shown items es) (answered_by txn marker ∷ []))
 
 ------ forgetting

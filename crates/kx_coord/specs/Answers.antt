@@ -1,7 +1,7 @@
 -- What the code decides about a request, in the words of the definitions.
 use Rattle.std.specs.Prelude.{◌≡◌, ◌≤◌, ℕ, Bool, true, false, List, Option}
 use Rattle.std.specs.Prelude.{Some, None, MatchOption}
-use Rattle.kx_wire.specs.declared.message.Message.TheVariants as msg
+use Rattle.kx_message.specs.declared.message.Message.TheVariants as msg
 use Rattle.kx_model.specs.Coordinator as model
 use Rattle.kx_model.specs.Coordinator.{Note, State, Empty, Ongoing, Prepare, Complete}
 use Rattle.kx_model.specs.Coordinator.{Written, next_id}

@@ -5,9 +5,9 @@ use Rattle.kx_log.specs.Opening.{OpenFailed}
 use Rattle.kx_log.specs.Store.{AppendFailed, MayLoad, StoreState}
 use Rattle.kx_log.specs.declared.fault.OpenFault.{OpenFault}
 use Rattle.kx_log.specs.declared.fault.OpenFault.TheVariants.{Device, Damaged, Memory, UsedUp}
-use Rattle.kx_wire.specs.declared.code.ErrorCode.{ErrorCode}
-use Rattle.kx_wire.specs.declared.code.ErrorCode.TheVariants as code
-use Rattle.kx_wire.specs.declared.message.Message.{Message}
+use Rattle.kx_message.specs.declared.code.ErrorCode.{ErrorCode}
+use Rattle.kx_message.specs.declared.code.ErrorCode.TheVariants as code
+use Rattle.kx_message.specs.declared.message.Message.{Message}
 use Rattle.kx_model.specs.Coordinator.{Note, Row, Written, coordinator_epoch}
 use Rattle.kx_model.specs.CoordinatorNode.{Reply, has_no_id}
 use Rattle.kx_model.specs.Markers.{Answered, Settled, Ignored, Noted, Completes, all_markers}

@@ -5,8 +5,8 @@ ghost use Rattle.kx_model.specs.Requests as model;
 ghost use Rattle.kx_txnlog.specs.Entry.{row_of};
 ghost use Rattle.kx_coord.specs.Answers.{IsAnswer, IsMade, reply_by};
 
+use kx_message::{ClientId, Epoch, ErrorCode, Held, Message, PartitionId, TxnId};
 use kx_txnlog::{Entry, Row};
-use kx_wire::{ClientId, Epoch, ErrorCode, Held, Message, PartitionId, TxnId};
 
 /// What is done about a request.
 #[derive(Drop)]
@@ -60,7 +60,7 @@ pub(crate) fn held_after(row: &Row) -> Held
     match row.next {
         Some(id) => Held {
             id,
-            epoch: Epoch::try_from(0).unwrap(),
+            epoch: Epoch::FIRST,
         },
         None => own_pair(row),
     }

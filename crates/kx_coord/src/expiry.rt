@@ -11,8 +11,8 @@ ghost use Rattle.kx_coord.specs.Deciding.{IsExpired};
 use crate::coordinator::Coordinator;
 use crate::markers::push_markers;
 use kx_log::Store;
+use kx_message::{Message, Outcome};
 use kx_txnlog::{Cause, Entry, Row, State};
-use kx_wire::{Message, Outcome};
 use std::alloc::AllocError;
 
 // The first row whose transaction is under way for as long as its timeout or longer.

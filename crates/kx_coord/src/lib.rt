@@ -4,12 +4,12 @@
 //! without reading the log.
 #![tactic(auto)]
 
-mod add;
+mod add_partition;
 mod answer;
 mod coordinator;
-mod end;
+mod end_txn;
 mod expiry;
-mod init;
+mod init_producer_id;
 mod markers;
 mod noted;
 mod opening;

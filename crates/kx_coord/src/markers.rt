@@ -4,9 +4,10 @@ ghost use Rattle.std.specs.Prelude.{OnErr};
 ghost use Rattle.kx_model.specs.Markers.{markers_of, missing_of};
 ghost use Rattle.kx_txnlog.specs.Entry.{row_of};
 
+use crate::answer::own_pair;
 use crate::noted::NotedMarkers;
+use kx_message::{Message, Raised};
 use kx_txnlog::{Row, State};
-use kx_wire::{Held, Message, Raised};
 use std::alloc::{AllocError, Global};
 
 /// Puts the markers that a row owes behind other messages, in the order in which its partitions
@@ -26,11 +27,7 @@ pub(crate) fn push_markers(
     let State::Prepare(outcome) = row.state else {
         return Ok(());
     };
-    let held = Held {
-        id: row.id,
-        epoch: row.epoch,
-    };
-    let held = Raised::try_from(held).unwrap();
+    let held = Raised::try_from(own_pair(row)).unwrap();
     for partition in row.partitions.as_slice() {
         messages.push(Message::WriteMarker {
             partition: *partition,
@@ -61,13 +58,9 @@ pub(crate) fn push_missing(
     let State::Prepare(outcome) = row.state else {
         return Ok(());
     };
-    let held = Held {
-        id: row.id,
-        epoch: row.epoch,
-    };
-    let held = Raised::try_from(held).unwrap();
+    let held = Raised::try_from(own_pair(row)).unwrap();
     for partition in row.partitions.as_slice() {
-        if noted.contains(row.txn, row.id, row.epoch, *partition) {
+        if noted.contains(row.txn, &own_pair(row), *partition) {
             continue;
         }
         messages.push(Message::WriteMarker {

@@ -6,15 +6,14 @@ ghost use Rattle.kx_model.specs.Markers.{noting, same_answered};
 ghost use Rattle.kx_coord.specs.Noted.{SameAnswered, answered, is_marker};
 
 use indexmap::IndexMap;
-use kx_wire::{Epoch, PartitionId, ProducerId, TxnId};
+use kx_message::{Held, PartitionId, TxnId};
 use std::alloc::{AllocError, Global};
 use std::marker::Model;
 
 // An answered marker of a transactional id.
 #[derive(Clone, Copy)]
 struct AnsweredMarker {
-    id: ProducerId,
-    epoch: Epoch,
+    held: Held,
     partition: PartitionId,
 }
 
@@ -44,26 +43,19 @@ impl Model for NotedMarkers {
 }
 
 // Whether it is the answer to the marker of this id and epoch to the partition.
-fn is_same(marker: &AnsweredMarker, id: ProducerId, epoch: Epoch, partition: PartitionId) -> bool
-    ensures { result ≡ is_marker id epoch partition marker.now }
+fn is_same(marker: &AnsweredMarker, held: &Held, partition: PartitionId) -> bool
+    ensures { result ≡ is_marker held.now partition marker.now }
 {
-    id.get() == marker.id.get()
-        && epoch.get() == marker.epoch.get()
-        && partition.get() == marker.partition.get()
+    *held == marker.held && partition == marker.partition
 }
 
 // Whether the answer to that marker is among them.
-fn has_marker(
-    markers: &[AnsweredMarker],
-    id: ProducerId,
-    epoch: Epoch,
-    partition: PartitionId,
-) -> bool
-    ensures { result ≡ list_any (is_marker id epoch partition) markers.now }
+fn has_marker(markers: &[AnsweredMarker], held: &Held, partition: PartitionId) -> bool
+    ensures { result ≡ list_any (is_marker held.now partition) markers.now }
 {
     markers
         .iter()
-        .any(|marker| is_same(marker, id, epoch, partition))
+        .any(|marker| is_same(marker, held, partition))
 }
 
 // These, of which there are no more than partitions of a row, and one more.
@@ -91,18 +83,12 @@ impl NotedMarkers {
     }
 
     /// Whether the marker of a transaction to a partition was answered.
-    pub(crate) fn contains(
-        &self,
-        txn: TxnId,
-        id: ProducerId,
-        epoch: Epoch,
-        partition: PartitionId,
-    ) -> bool
-        ensures { result ≡ list_any (same_answered (answered txn id epoch partition)) self.now }
+    pub(crate) fn contains(&self, txn: TxnId, held: &Held, partition: PartitionId) -> bool
+        ensures { result ≡ list_any (same_answered (answered txn held.now partition)) self.now }
     {
         match self.by_txn.get(&txn) {
             None => false,
-            Some(markers) => has_marker(markers.as_slice(), id, epoch, partition),
+            Some(markers) => has_marker(markers.as_slice(), held, partition),
         }
     }
 
@@ -114,22 +100,20 @@ impl NotedMarkers {
     pub(crate) fn note(
         &mut self,
         txn: TxnId,
-        id: ProducerId,
-        epoch: Epoch,
+        held: &Held,
         partition: PartitionId,
     ) -> Result<(), AllocError>
         ensures ok { OnOk result (SameAnswered self.new
-            (noting self.old (answered txn id epoch partition))) }
+            (noting self.old (answered txn held.now partition))) }
         ensures err { OnErr result (self.new ≡ self.old) }
         ensures refused { OnErr result
-            (list_any (same_answered (answered txn id epoch partition)) self.old ≡ false) }
+            (list_any (same_answered (answered txn held.now partition)) self.old ≡ false) }
     {
-        if self.contains(txn, id, epoch, partition) {
+        if self.contains(txn, held, partition) {
             return Ok(());
         }
         let marker = AnsweredMarker {
-            id,
-            epoch,
+            held: *held,
             partition,
         };
         let markers = match self.by_txn.get(&txn) {

@@ -11,8 +11,8 @@ use crate::markers::all_markers;
 use crate::noted::NotedMarkers;
 use crate::table::Table;
 use kx_log::{AppendFault, OpenFault, Store, StoreFault};
+use kx_message::Message;
 use kx_txnlog::{Entry, TxnLog};
-use kx_wire::Message;
 use std::alloc::Global;
 
 // What opening makes of the entries of a log, before its own entry is appended.

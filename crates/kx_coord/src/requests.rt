@@ -4,19 +4,19 @@ ghost use Rattle.kx_model.specs.Coordinator as coordinator;
 ghost use Rattle.kx_model.specs.Markers.{markers_after};
 ghost use Rattle.kx_model.specs.Requests as model;
 ghost use Rattle.kx_txnlog.specs.Entry.{note_of};
-ghost use Rattle.kx_wire.specs.declared.message.Message.TheVariants as msg;
+ghost use Rattle.kx_message.specs.declared.message.Message.TheVariants as msg;
 ghost use Rattle.kx_coord.specs.Answers.{IsAnswer, reply_by};
 ghost use Rattle.kx_coord.specs.Calls.{Hands, Responds};
 
-use crate::add::add_row;
+use crate::add_partition::add_row;
 use crate::answer::{Answer, ReplyTo, refuses};
 use crate::coordinator::Coordinator;
+use crate::end_txn::end_row;
+use crate::init_producer_id::{allot, init_first, init_row};
 use crate::markers::push_markers;
 use kx_log::Store;
+use kx_message::{ClientId, ErrorCode, Held, Message, Outcome, PartitionId, Timeout, TxnId};
 use kx_txnlog::Entry;
-use kx_wire::{
-    ClientId, Epoch, ErrorCode, Held, Message, Outcome, PartitionId, ProducerId, Timeout, TxnId,
-};
 use std::alloc::AllocError;
 
 // This message alone, in the place of others.
@@ -95,49 +95,42 @@ impl<S: Store> Coordinator<S> {
     {
         let fresh = self.fresh();
         let txn = match txn {
-            None => return Ok(fresh.allot()),
+            None => return Ok(allot(fresh)),
             Some(txn) => txn,
         };
         let Some(row) = self.row(txn) else {
-            return Ok(fresh.init_first(client, txn, timeout));
+            return Ok(init_first(fresh, client, txn, timeout));
         };
-        fresh.init_row(client, timeout, row)
+        init_row(fresh, client, timeout, row)
     }
 
     // What a partition is answered that asks to be added.
     fn add_answer(
         &self,
         txn: TxnId,
-        id: ProducerId,
-        epoch: Epoch,
+        held: &Held,
         partition: PartitionId,
     ) -> Result<Answer, AllocError>
-        ensures { IfOk result (λ answer. IsAnswer answer (model.add self.now.log.notes
-            self.now.clock txn (record { id = id; epoch = epoch }) partition)) }
+        ensures { IfOk result (λ answer. IsAnswer answer
+            (model.add self.now.log.notes self.now.clock txn held.now partition)) }
     {
         let clock = self.clock;
         let Some(row) = self.row(txn) else {
             return Ok(refuses(ErrorCode::InvalidProducerIdMapping));
         };
-        add_row(clock, row, id, epoch, partition)
+        add_row(clock, row, held, partition)
     }
 
     // What a client is answered that ends its transaction.
-    fn end_answer(
-        &self,
-        txn: TxnId,
-        id: ProducerId,
-        epoch: Epoch,
-        outcome: Outcome,
-    ) -> Result<Answer, AllocError>
-        ensures { IfOk result (λ answer. IsAnswer answer (model.end_txn self.now.log.notes txn
-            (record { id = id; epoch = epoch }) outcome)) }
+    fn end_answer(&self, txn: TxnId, held: &Held, outcome: Outcome) -> Result<Answer, AllocError>
+        ensures { IfOk result (λ answer.
+            IsAnswer answer (model.end_txn self.now.log.notes txn held.now outcome)) }
     {
         let fresh = self.fresh();
         let Some(row) = self.row(txn) else {
             return Ok(refuses(ErrorCode::InvalidProducerIdMapping));
         };
-        fresh.end_row(row, id, epoch, outcome)
+        end_row(fresh, row, held, outcome)
     }
 
     /// A client asks for an id and an epoch, with a transactional id or without one, and with the
@@ -185,7 +178,7 @@ impl<S: Store> Coordinator<S> {
             (λ code after. msg.AddReply partition txn held code) handed.items) }
         ensures err { OnErr result (self.new ≡ self.old) }
     {
-        let answer = self.add_answer(txn, held.id, held.epoch, partition)?;
+        let answer = self.add_answer(txn, &held, partition)?;
         self.respond(
             answer,
             ReplyTo::Add {
@@ -214,7 +207,7 @@ impl<S: Store> Coordinator<S> {
             (msg.EndReply client correlation) handed.items) }
         ensures err { OnErr result (self.new ≡ self.old) }
     {
-        let answer = self.end_answer(txn, held.id, held.epoch, outcome)?;
+        let answer = self.end_answer(txn, &held, outcome)?;
         self.respond(
             answer,
             ReplyTo::End {

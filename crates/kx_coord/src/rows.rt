@@ -1,42 +1,22 @@
 //! The rows that are written.
 ghost use Rattle.std.specs.Prelude.{◌≡◌, ◌+◌, ◌<◌, [], IfOk, List, true, false};
-ghost use Rattle.kx_model.specs.Coordinator.{Note, spent_epoch};
+ghost use Rattle.kx_model.specs.Coordinator.{Note};
+ghost use Rattle.kx_message.specs.Ranges.{spent_epoch};
 ghost use Rattle.kx_model.specs.Requests as model;
 ghost use Rattle.kx_txnlog.specs.Entry.{row_of};
 ghost use Rattle.kx_txnlog.specs.State.{cause_of, state_of};
 ghost use Rattle.kx_txnlog.specs.Ranges.{may_stand};
 ghost use Rattle.kx_coord.specs.Answers.{IsMade, IsNextId, is_settled};
 
+use kx_message::{ClientId, Epoch, Outcome, PartitionId, ProducerId, Timeout, TxnId};
 use kx_txnlog::{Cause, Partitions, Row, State};
-use kx_wire::{ClientId, Epoch, Outcome, PartitionId, ProducerId, Timeout, TxnId};
 use std::alloc::{AllocError, Global};
-
-/// The last epoch of a producer id.
-pub(crate) const LAST_EPOCH: i16 = 32766;
-
-/// The epoch of the marker that ends the last transaction of a producer id.
-pub(crate) const SPENT_EPOCH: i16 = 32767;
 
 /// The next id, where one is left, and where memory is taken from.
 #[derive(Clone, Copy)]
 pub(crate) struct Fresh {
     pub(crate) alloc: Global,
     pub(crate) next: Option<ProducerId>,
-}
-
-// The first epoch of an id.
-fn first_epoch() -> Epoch
-    ensures { result ≡ 0 }
-{
-    Epoch::try_from(0).unwrap()
-}
-
-// The epoch above another.
-fn epoch_above(epoch: Epoch) -> Epoch
-    requires { epoch < spent_epoch }
-    ensures { result ≡ epoch + 1 }
-{
-    Epoch::try_from(epoch.get() + 1).unwrap()
 }
 
 impl Fresh {
@@ -51,7 +31,7 @@ impl Fresh {
         ensures { IfOk result (λ made. (log : List Note) → IsNextId log self.next
             → IsMade (model.prepared log (row_of row.now) outcome (cause_of cause)) made) }
     {
-        let is_last = row.epoch.get() == LAST_EPOCH;
+        let is_last = row.epoch == Epoch::LAST;
         let next = if is_last { self.next } else { None };
         if is_last && next.is_none() {
             return Ok(None);
@@ -59,7 +39,7 @@ impl Fresh {
         Ok(Some(Row {
             txn: row.txn,
             id: row.id,
-            epoch: epoch_above(row.epoch),
+            epoch: row.epoch.raised().unwrap(),
             previous: row.previous,
             next,
             state: State::Prepare(outcome),
@@ -115,12 +95,12 @@ impl Fresh {
         ensures { (log : List Note) → IsNextId log self.next
             → IsMade (model.raised log (row_of row.now) (state_of state) (cause_of cause)) result }
     {
-        if row.epoch.get() < LAST_EPOCH {
-            let epoch = epoch_above(row.epoch);
+        if row.epoch < Epoch::LAST {
+            let epoch = row.epoch.raised()?;
             return Some(self.cleared(row, row.id, epoch, row.previous, (state, cause)));
         }
         let id = self.next?;
-        Some(self.cleared(row, id, first_epoch(), Some(row.id), (state, cause)))
+        Some(self.cleared(row, id, Epoch::FIRST, Some(row.id), (state, cause)))
     }
 
     /// All markers are answered; after its last transaction an id gives way to the next one.
@@ -129,14 +109,14 @@ impl Fresh {
             → IsMade (model.completed log (row_of row.now) outcome) result }
     {
         let ended = (State::Complete(outcome), Cause::Markers);
-        if row.epoch.get() != SPENT_EPOCH {
+        if row.epoch != Epoch::SPENT {
             return Some(self.cleared(row, row.id, row.epoch, row.previous, ended));
         }
         let id = match row.next {
             Some(id) => id,
             None => self.next?,
         };
-        Some(self.cleared(row, id, first_epoch(), Some(row.id), ended))
+        Some(self.cleared(row, id, Epoch::FIRST, Some(row.id), ended))
     }
 
     /// The first row of a transactional id.
@@ -148,7 +128,7 @@ impl Fresh {
         Some(Row {
             txn,
             id,
-            epoch: first_epoch(),
+            epoch: Epoch::FIRST,
             previous: None,
             next: None,
             state: State::Empty,

@@ -5,13 +5,14 @@ ghost use Rattle.kx_model.specs.Markers.{answered_at, same_answered, settle};
 ghost use Rattle.kx_txnlog.specs.Entry.{row_of};
 ghost use Rattle.kx_coord.specs.Calls.{CompletesRow, Settles};
 ghost use Rattle.kx_coord.specs.Deciding.{IsSettled, WantsMemory};
-ghost use Rattle.kx_wire.specs.declared.code.ErrorCode.TheVariants as error;
+ghost use Rattle.kx_message.specs.declared.code.ErrorCode.TheVariants as error;
 ghost use Rattle.kx_coord.specs.Noted.{answered};
 
+use crate::answer::own_pair;
 use crate::coordinator::Coordinator;
 use kx_log::Store;
+use kx_message::{ErrorCode, Held, Message, PartitionId, TxnId};
 use kx_txnlog::{Entry, Row, State};
-use kx_wire::{Epoch, ErrorCode, Held, Message, PartitionId, ProducerId, TxnId};
 use std::alloc::AllocError;
 
 // What the answer to a marker brings about.
@@ -28,10 +29,10 @@ enum Settled {
 }
 
 // Whether the row has this id and epoch.
-fn has_pair(row: &Row, id: ProducerId, epoch: Epoch) -> bool
-    ensures { result ≡ ((row_of row.now).id == id && (row_of row.now).epoch == epoch) }
+fn has_pair(row: &Row, held: &Held) -> bool
+    ensures { result ≡ ((row_of row.now).id == held.now.id && (row_of row.now).epoch == held.now.epoch) }
 {
-    row.id.get() == id.get() && row.epoch.get() == epoch.get()
+    own_pair(row) == *held
 }
 
 impl<S: Store> Coordinator<S> {
@@ -42,14 +43,14 @@ impl<S: Store> Coordinator<S> {
     {
         let answered = &self.answered;
         row.partitions.as_slice().iter().all(|other| {
-            partition.get() == other.get() || answered.contains(row.txn, row.id, row.epoch, *other)
+            partition == *other || answered.contains(row.txn, &own_pair(row), *other)
         })
     }
 
     // What the answer to a marker brings about.
-    fn settle(&self, txn: TxnId, id: ProducerId, epoch: Epoch, partition: PartitionId) -> Settled
+    fn settle(&self, txn: TxnId, held: &Held, partition: PartitionId) -> Settled
         ensures { IsSettled result (settle self.now.log.notes self.now.answered
-            (answered txn id epoch partition)) }
+            (answered txn held.now partition)) }
     {
         let fresh = self.fresh();
         let Some(row) = self.row(txn) else {
@@ -58,7 +59,7 @@ impl<S: Store> Coordinator<S> {
         let State::Prepare(outcome) = row.state else {
             return Settled::Ignored;
         };
-        if !has_pair(row, id, epoch) || !row.partitions.contains(partition) {
+        if !has_pair(row, held) || !row.partitions.contains(partition) {
             return Settled::Ignored;
         }
         if !self.is_last(row, partition) {
@@ -111,10 +112,10 @@ impl<S: Store> Coordinator<S> {
         if code != ErrorCode::NoError {
             return Ok(handed);
         }
-        match self.settle(txn, held.id, held.epoch, partition) {
+        match self.settle(txn, &held, partition) {
             Settled::Ignored | Settled::UsedUp => Ok(handed),
             Settled::Noted => {
-                self.answered.note(txn, held.id, held.epoch, partition)?;
+                self.answered.note(txn, &held, partition)?;
                 Ok(handed)
             }
             Settled::Completes(row) => {

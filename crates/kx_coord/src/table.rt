@@ -10,8 +10,8 @@ ghost use Rattle.kx_coord.specs.Answers.{IsNextId};
 ghost use Rattle.kx_coord.specs.Follows.{Follows};
 
 use indexmap::IndexMap;
+use kx_message::{ProducerId, TxnId};
 use kx_txnlog::{Entry, Row};
-use kx_wire::{ProducerId, TxnId};
 use std::alloc::{AllocError, Global};
 
 /// The last row of each transactional id, found by it, in order of first use; one above all ids

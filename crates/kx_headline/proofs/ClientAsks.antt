@@ -5,12 +5,12 @@ use Rattle.std.proofs.Common.{inl, inr, ⊎_elim}
 use Rattle.std.specs.List.{list_any}
 use Rattle.std.proofs.lemmas.List.Elements.{All-contains, All-push, Contains-append_left}
 use Rattle.std.proofs.lemmas.List.Elements.{Contains-push, Contains-push_cases}
-use Rattle.kx_wire.specs.declared.code.ErrorCode.TheVariants.{NoError}
-use Rattle.kx_wire.specs.declared.message.Held.{Held}
-use Rattle.kx_wire.specs.declared.message.Message.{Message}
-use Rattle.kx_wire.specs.declared.message.Message.TheVariants as msg
-use Rattle.kx_wire.specs.declared.outcome.Outcome.{Outcome}
-use Rattle.kx_wire.specs.declared.outcome.Outcome.TheVariants.{Commit}
+use Rattle.kx_message.specs.declared.code.ErrorCode.TheVariants.{NoError}
+use Rattle.kx_message.specs.declared.message.Held.{Held}
+use Rattle.kx_message.specs.declared.message.Message.{Message}
+use Rattle.kx_message.specs.declared.message.Message.TheVariants as msg
+use Rattle.kx_message.specs.declared.outcome.Outcome.{Outcome}
+use Rattle.kx_message.specs.declared.outcome.Outcome.TheVariants.{Commit}
 use Rattle.kx_model.specs.Client.{Client, is_end, is_init, sequence_of}
 use Rattle.kx_model.specs.Replies.{correlation_of}
 use Rattle.kx_headline.proofs.ClientRequests.{Answered, Carries, HasEnded, IsAwaited, IsIts, IsUpTo}

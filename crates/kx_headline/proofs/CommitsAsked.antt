@@ -2,10 +2,10 @@
 use Rattle.std.proofs.Common.{◌≡◌, ℕ, List, Option, Some, None, Contains}
 use Rattle.std.proofs.Common.{ap, ◌∙◌, subst, arith, ⊎_elim}
 use Rattle.std.proofs.lemmas.List.Elements.{Contains-push_cases}
-use Rattle.kx_wire.specs.declared.message.Message.{Message}
-use Rattle.kx_wire.specs.declared.message.Message.TheVariants as msg
-use Rattle.kx_wire.specs.declared.outcome.Outcome.{Outcome}
-use Rattle.kx_wire.specs.declared.outcome.Outcome.TheVariants.{Commit}
+use Rattle.kx_message.specs.declared.message.Message.{Message}
+use Rattle.kx_message.specs.declared.message.Message.TheVariants as msg
+use Rattle.kx_message.specs.declared.outcome.Outcome.{Outcome}
+use Rattle.kx_message.specs.declared.outcome.Outcome.TheVariants.{Commit}
 use Rattle.kx_model.specs.Coordinator.{Cause, Note, Row, Written}
 use Rattle.kx_model.specs.Coordinator.{decision, ends, first_row, outcome_in, outcome_of}
 use Rattle.kx_model.specs.Requests.{completed, first_use, prepared, with_added}

@@ -5,7 +5,7 @@ use Rattle.std.proofs.Common.{◌==◌}
 use Rattle.std.proofs.lemmas.Bool.{cond_both}
 use Rattle.std.proofs.lemmas.List.Elements.{All-append, All-contains, All-map, All-nil, All-push}
 use Rattle.std.proofs.lemmas.List.Elements.{All-weaker, Contains-append_left}
-use Rattle.kx_wire.specs.declared.message.Message.{Message}
+use Rattle.kx_message.specs.declared.message.Message.{Message}
 use Rattle.kx_model.specs.Client.{Client, new_client}
 use Rattle.kx_model.specs.Coordinator.{Note}
 use Rattle.kx_model.specs.CoordinatorNode.{Coordinated, notes_of}

@@ -10,16 +10,17 @@ use Rattle.std.proofs.lemmas.Bool.{cond_both}
 use Rattle.std.proofs.lemmas.Bool.Decides.{nat_tests}
 use Rattle.std.proofs.lemmas.List.Elements.{Contains-append_left, Contains-push}
 use Rattle.std.specs.List.{list_any}
-use Rattle.kx_wire.specs.declared.code.ErrorCode.TheVariants.{NoError}
-use Rattle.kx_wire.specs.declared.message.Message.{Message}
-use Rattle.kx_wire.specs.declared.message.Message.TheVariants as msg
-use Rattle.kx_wire.specs.declared.outcome.Outcome.{Outcome}
-use Rattle.kx_wire.specs.declared.outcome.Outcome.TheVariants.{Abort}
+use Rattle.kx_message.specs.declared.code.ErrorCode.TheVariants.{NoError}
+use Rattle.kx_message.specs.declared.message.Message.{Message}
+use Rattle.kx_message.specs.declared.message.Message.TheVariants as msg
+use Rattle.kx_message.specs.declared.outcome.Outcome.{Outcome}
+use Rattle.kx_message.specs.declared.outcome.Outcome.TheVariants.{Abort}
 use Rattle.kx_model.specs.Coordinator.{Row, Note, CoordinatorEpoch, Allot, Written, State, Empty}
 use Rattle.kx_model.specs.Coordinator.{Ongoing, Prepare, Complete, Cause, ByInit, ByEnd}
 use Rattle.kx_model.specs.Coordinator.{ByExpiry, ByMarkers, coordinator_epoch, decision, ends}
-use Rattle.kx_model.specs.Coordinator.{first_row, last_epoch, next_id, outcome_of}
-use Rattle.kx_model.specs.Coordinator.{row_of, spent_epoch, with_one}
+use Rattle.kx_model.specs.Coordinator.{first_row, next_id, outcome_of}
+use Rattle.kx_message.specs.Ranges.{last_epoch, spent_epoch}
+use Rattle.kx_model.specs.Coordinator.{row_of, with_one}
 use Rattle.kx_model.specs.Markers.{greatest_epoch}
 use Rattle.kx_model.specs.Requests.{completed, first_use, own_pair, prepared, raised, with_added}
 use Rattle.kx_headline.proofs.CoordinatorRows.{IsFound, Ends, one_higher, replaced, Names, own}

@@ -12,8 +12,8 @@ use Rattle.std.proofs.Math.IntN.{+ℤ_one}
 use Rattle.std.proofs.lemmas.Bool.Decides.{nat_tests}
 use Rattle.std.proofs.lemmas.Int.{ints}
 use Rattle.std.proofs.lemmas.List.Elements.{Contains-append_left}
-use Rattle.kx_wire.specs.declared.message.Message.{Message}
-use Rattle.kx_wire.specs.declared.outcome.Outcome.{Outcome}
+use Rattle.kx_message.specs.declared.message.Message.{Message}
+use Rattle.kx_message.specs.declared.outcome.Outcome.{Outcome}
 use Rattle.kx_model.specs.Coordinator.{Row, Note, CoordinatorEpoch, Written, above_ids}
 use Rattle.kx_model.specs.Coordinator.{coordinator_epoch, decision, epoch_after, next_id}
 use Rattle.kx_model.specs.CoordinatorNode.{has_no_id}

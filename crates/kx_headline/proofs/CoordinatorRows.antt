@@ -8,10 +8,11 @@ use Rattle.std.specs.Option.{option_or}
 use Rattle.std.proofs.lemmas.Bool.{and_parts, cond_both, or_cases}
 use Rattle.std.proofs.lemmas.Bool.Decides.{nat_tests}
 use Rattle.std.proofs.lemmas.Slice.Eq.{bytes_eq-Decides}
-use Rattle.kx_wire.specs.declared.outcome.Outcome.{Outcome}
+use Rattle.kx_message.specs.declared.outcome.Outcome.{Outcome}
 use Rattle.kx_model.specs.Coordinator.{Row, Note, CoordinatorEpoch, Allot, Written, State, Empty}
 use Rattle.kx_model.specs.Coordinator.{Ongoing, Prepare, Complete, above, above_ids, ends}
-use Rattle.kx_model.specs.Coordinator.{first_row, is, is_complete, last_epoch, last_row, next_id}
+use Rattle.kx_model.specs.Coordinator.{first_row, is, is_complete, last_row, next_id}
+use Rattle.kx_message.specs.Ranges.{last_epoch}
 use Rattle.kx_model.specs.Coordinator.{outcome_of, row_if, row_of}
 use Rattle.kx_model.proofs.Notes.{first_row-append, last_row-push}
 use Rattle.kx_laws.proofs.Membership.{cons_cases, contains_head, contains_tail, no_element}

@@ -12,28 +12,30 @@ use Rattle.std.specs.Prelude.{is_some, option_map, ◌≤◌}
 use Rattle.std.proofs.lemmas.Bool.Decides.{nat_tests}
 use Rattle.std.proofs.lemmas.List.Elements.{All-contains, All-push, Contains-push}
 use Rattle.std.proofs.lemmas.Slice.Eq.{bytes_eq-Decides}
-use Rattle.kx_wire.specs.declared.code.ErrorCode.{ErrorCode}
-use Rattle.kx_wire.specs.declared.code.ErrorCode.TheVariants.{NoError, InvalidProducerEpoch}
-use Rattle.kx_wire.specs.declared.code.ErrorCode.TheVariants.{InvalidTxnState, ProducerFenced}
-use Rattle.kx_wire.specs.declared.code.ErrorCode.TheVariants.{InvalidProducerIdMapping}
-use Rattle.kx_wire.specs.declared.code.ErrorCode.TheVariants.{ConcurrentTransactions}
-use Rattle.kx_wire.specs.declared.message.Held.{Held}
-use Rattle.kx_wire.specs.declared.message.Message.{Message}
-use Rattle.kx_wire.specs.declared.message.Message.TheVariants as msg
-use Rattle.kx_wire.specs.declared.outcome.Outcome.{Outcome}
-use Rattle.kx_wire.specs.declared.outcome.Outcome.TheVariants.{Abort, Commit}
+use Rattle.kx_message.specs.declared.code.ErrorCode.{ErrorCode}
+use Rattle.kx_message.specs.declared.code.ErrorCode.TheVariants.{NoError, InvalidProducerEpoch}
+use Rattle.kx_message.specs.declared.code.ErrorCode.TheVariants.{InvalidTxnState, ProducerFenced}
+use Rattle.kx_message.specs.declared.code.ErrorCode.TheVariants.{InvalidProducerIdMapping}
+use Rattle.kx_message.specs.declared.code.ErrorCode.TheVariants.{ConcurrentTransactions}
+use Rattle.kx_message.specs.declared.message.Held.{Held}
+use Rattle.kx_message.specs.declared.message.Message.{Message}
+use Rattle.kx_message.specs.declared.message.Message.TheVariants as msg
+use Rattle.kx_message.specs.declared.outcome.Outcome.{Outcome}
+use Rattle.kx_message.specs.declared.outcome.Outcome.TheVariants.{Abort, Commit}
 use Rattle.kx_model.specs.Coordinator.{Row, Note, Allot, Written, State, Empty, Ongoing, Prepare}
 use Rattle.kx_model.specs.Coordinator.{Complete, ByInit, ByEnd, ByExpiry, ends, is}
 use Rattle.kx_model.specs.Coordinator.{is_complete}
-use Rattle.kx_model.specs.Coordinator.{last_epoch, lists, next_id, outcome_of, row_of, rows}
-use Rattle.kx_model.specs.Coordinator.{spent_epoch, txns}
+use Rattle.kx_model.specs.Coordinator.{lists, next_id, outcome_of, row_of, rows}
+use Rattle.kx_message.specs.Ranges.{last_epoch, spent_epoch}
+use Rattle.kx_model.specs.Coordinator.{txns}
 use Rattle.kx_model.specs.Markers.{Answered, Settled, Ignored, Noted, Completes, answered_at}
 use Rattle.kx_model.specs.Markers.{expire}
 use Rattle.kx_model.specs.Markers.{is_answered, is_overdue, is_overdue_in, noting, same_answered}
 use Rattle.kx_model.specs.Markers.{settle, settle_at, settle_in}
 use Rattle.kx_model.specs.Requests.{Answer, add, add_at, add_in, asked_again, completed}
 use Rattle.kx_model.specs.Requests.{end_at, end_in, end_row, end_txn, fences_owner, first_use}
-use Rattle.kx_model.specs.Requests.{ended_as, has_outcome, held_after, init, init_at, init_row, is_old}
+use Rattle.kx_model.specs.Requests.{ended_as, has_outcome, held_after, init, init_at, init_row}
+use Rattle.kx_model.specs.Requests.{is_old}
 use Rattle.kx_model.specs.Requests.{is_own}
 use Rattle.kx_model.specs.Requests.{is_prepared, newcomer, nothing_sent, or_answer, own_pair}
 use Rattle.kx_model.specs.Requests.{prepared, refused_first, refuses, repeats, writes, with_added}

@@ -9,11 +9,11 @@ use Rattle.std.proofs.lemmas.Bool.{cond_both}
 use Rattle.std.proofs.lemmas.Bool.Decides.{nat_tests}
 use Rattle.std.proofs.lemmas.List.Elements.{All-contains_itself, All-head, All-tail}
 use Rattle.kx_varint.specs.Text.{IsBytes}
-use Rattle.kx_wire.specs.Message.{IsU32}
-use Rattle.kx_wire.specs.Ranges.{IsName, IsTimeout, offsets_partition}
-use Rattle.kx_wire.specs.declared.message.Message.{Message}
-use Rattle.kx_wire.specs.declared.message.Node.{Node}
-use Rattle.kx_wire.specs.declared.message.Node.TheVariants as node
+use Rattle.kx_message.specs.Message.{IsU32}
+use Rattle.kx_message.specs.Ranges.{IsName, IsTimeout, offsets_partition}
+use Rattle.kx_message.specs.declared.message.Message.{Message}
+use Rattle.kx_message.specs.declared.message.Node.{Node}
+use Rattle.kx_message.specs.declared.message.Node.TheVariants as node
 use Rattle.kx_model.specs.Client.{Client, Command, Commanded, Declines, Does, command, new_client}
 use Rattle.kx_model.specs.CoordinatorNode.{Coordinated, coordinator_restarts, coordinator_takes}
 use Rattle.kx_model.specs.CoordinatorNode.{expires, reminds}

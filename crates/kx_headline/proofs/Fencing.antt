@@ -9,9 +9,9 @@ use Rattle.std.specs.Option.{option_or}
 use Rattle.std.proofs.lemmas.Bool.{and_parts, or_cases}
 use Rattle.std.proofs.lemmas.Bool.Decides.{nat_tests}
 use Rattle.std.proofs.lemmas.List.Elements.{Contains-append_left, Contains-append_right}
-use Rattle.kx_wire.specs.declared.message.Message.{Message}
-use Rattle.kx_wire.specs.declared.outcome.Outcome.{Outcome}
-use Rattle.kx_wire.specs.declared.outcome.Outcome.TheVariants.{Abort, Commit}
+use Rattle.kx_message.specs.declared.message.Message.{Message}
+use Rattle.kx_message.specs.declared.outcome.Outcome.{Outcome}
+use Rattle.kx_message.specs.declared.outcome.Outcome.TheVariants.{Abort, Commit}
 use Rattle.kx_model.specs.Coordinator.{Row, Note, Written, Cause}
 use Rattle.kx_model.specs.Coordinator.{Fenced, decision, ends, first_row, is_fencing}
 use Rattle.kx_model.specs.Coordinator.{is_past, outcome_in, outcome_of, row_if, row_of}

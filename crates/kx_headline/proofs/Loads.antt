@@ -1,6 +1,6 @@
 -- What a request carries is what its batch reads as, so it carries one load.
 use Rattle.std.proofs.Common.{◌≡◌, pos, Some, refl, sym, ap, ◌∙◌, arith}
-use Rattle.kx_wire.specs.declared.message.Message.{Message}
+use Rattle.kx_message.specs.declared.message.Message.{Message}
 use Rattle.kx_batch.specs.Batch.{batch_of}
 use Rattle.kx_model.specs.Verification.{Request, partition_of, request_of}
 use Rattle.kx_laws.proofs.DroppedIds.{same_number}

@@ -7,11 +7,11 @@ use Rattle.std.specs.Prelude.{not}
 use Rattle.std.proofs.lemmas.Bool.{and_parts}
 use Rattle.std.proofs.lemmas.Bool.Decides.{nat_tests}
 use Rattle.std.proofs.lemmas.List.Elements.{Contains-push_cases}
-use Rattle.kx_wire.specs.declared.code.ErrorCode.TheVariants.{NoError}
-use Rattle.kx_wire.specs.declared.message.Held.{Held}
-use Rattle.kx_wire.specs.declared.message.Message.{Message}
-use Rattle.kx_wire.specs.declared.message.Message.TheVariants as msg
-use Rattle.kx_wire.specs.declared.outcome.Outcome.{Outcome}
+use Rattle.kx_message.specs.declared.code.ErrorCode.TheVariants.{NoError}
+use Rattle.kx_message.specs.declared.message.Held.{Held}
+use Rattle.kx_message.specs.declared.message.Message.{Message}
+use Rattle.kx_message.specs.declared.message.Message.TheVariants as msg
+use Rattle.kx_message.specs.declared.outcome.Outcome.{Outcome}
 use Rattle.kx_batch.specs.Batch.{Batch, batch_of}
 use Rattle.kx_model.specs.Log.{Entry, Data, Control, Marker, Placed, Sequenced, Stored, entries}
 use Rattle.kx_model.specs.Log.{entry_in, entry_of}

@@ -2,9 +2,9 @@
 use Rattle.std.proofs.Common.{◌≡◌, ℕ, ℤ, List, refl, ap}
 use Rattle.std.proofs.Common.{arith}
 use Rattle.std.proofs.lemmas.List.Elements.{All-contains}
-use Rattle.kx_wire.specs.declared.message.Held.{Held}
-use Rattle.kx_wire.specs.declared.message.Message.TheVariants as msg
-use Rattle.kx_wire.specs.declared.outcome.Outcome.{Outcome}
+use Rattle.kx_message.specs.declared.message.Held.{Held}
+use Rattle.kx_message.specs.declared.message.Message.TheVariants as msg
+use Rattle.kx_message.specs.declared.outcome.Outcome.{Outcome}
 use Rattle.kx_model.specs.Coordinator.{Row}
 use Rattle.kx_model.specs.Log.{MarkerFits}
 use Rattle.kx_model.specs.PartitionNode.{marker_of}

@@ -7,9 +7,9 @@ use Rattle.std.proofs.Common.{flat_map}
 use Rattle.std.specs.List.{last_or}
 use Rattle.std.specs.Prelude.{if◌then◌else◌, unwrap_or}
 use Rattle.std.specs.Option.{option_map_or}
-use Rattle.kx_wire.specs.Ranges.{offsets_partition}
-use Rattle.kx_wire.specs.declared.code.ErrorCode.TheVariants.{NoError, UnstableOffsetCommit}
-use Rattle.kx_wire.specs.declared.outcome.Outcome.TheVariants.{Commit}
+use Rattle.kx_message.specs.Ranges.{offsets_partition}
+use Rattle.kx_message.specs.declared.code.ErrorCode.TheVariants.{NoError, UnstableOffsetCommit}
+use Rattle.kx_message.specs.declared.outcome.Outcome.TheVariants.{Commit}
 use Rattle.kx_model.specs.Coordinator.{commits, decision, same_outcome}
 use Rattle.kx_model.specs.Groups.{OffsetAnswer, committed_in, group_offset, marked_offset}
 use Rattle.kx_model.specs.Groups.{offsets_in}

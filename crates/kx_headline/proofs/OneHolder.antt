@@ -10,10 +10,10 @@ use Rattle.std.proofs.lemmas.Bool.Decides.{nat_tests}
 use Rattle.std.proofs.lemmas.List.Elements.{All-append, All-contains, All-map, All-nil, All-push}
 use Rattle.std.proofs.lemmas.List.Elements.{All-weaker, Contains-append_cases}
 use Rattle.std.proofs.lemmas.List.Elements.{Contains-append_left, Contains-push_cases}
-use Rattle.kx_wire.specs.declared.code.ErrorCode.TheVariants as code
-use Rattle.kx_wire.specs.declared.message.Held.{Held}
-use Rattle.kx_wire.specs.declared.message.Message.{Message}
-use Rattle.kx_wire.specs.declared.message.Message.TheVariants as msg
+use Rattle.kx_message.specs.declared.code.ErrorCode.TheVariants as code
+use Rattle.kx_message.specs.declared.message.Held.{Held}
+use Rattle.kx_message.specs.declared.message.Message.{Message}
+use Rattle.kx_message.specs.declared.message.Message.TheVariants as msg
 use Rattle.kx_model.specs.Client.{Client, new_client}
 use Rattle.kx_model.specs.Coordinator.{Row, Note, Allot, Written, ends, next_id}
 use Rattle.kx_model.specs.CoordinatorNode.{Coordinated, notes_of}

@@ -6,10 +6,10 @@ use Rattle.std.proofs.Common.{refl}
 use Rattle.std.proofs.Common.{sym, ap, ◌∙◌, subst, arith}
 use Rattle.std.specs.Prelude.{is_some}
 use Rattle.std.proofs.lemmas.List.Elements.{All-contains}
-use Rattle.kx_wire.specs.declared.message.Held.{Held}
-use Rattle.kx_wire.specs.declared.message.Message.{Message}
-use Rattle.kx_wire.specs.declared.message.Message.TheVariants as msg
-use Rattle.kx_wire.specs.declared.outcome.Outcome.{Outcome}
+use Rattle.kx_message.specs.declared.message.Held.{Held}
+use Rattle.kx_message.specs.declared.message.Message.{Message}
+use Rattle.kx_message.specs.declared.message.Message.TheVariants as msg
+use Rattle.kx_message.specs.declared.outcome.Outcome.{Outcome}
 use Rattle.kx_model.specs.Coordinator.{Note, decision, outcome_of}
 use Rattle.kx_model.specs.Headline.{HasOneOutcome}
 use Rattle.kx_model.specs.Log.{Control, Marker}

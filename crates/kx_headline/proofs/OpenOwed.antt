@@ -4,9 +4,9 @@ use Rattle.std.proofs.Common.{sym, ◌≡◌, ℕ, ◌+◌, ◌≤◌, List, tru
 use Rattle.std.proofs.Common.{Contains}
 use Rattle.std.proofs.Common.{subst, ⊎_elim, arith}
 use Rattle.std.proofs.lemmas.List.Elements.{All-contains}
-use Rattle.kx_wire.specs.declared.code.ErrorCode.TheVariants.{NoError}
-use Rattle.kx_wire.specs.declared.message.Held.{Held}
-use Rattle.kx_wire.specs.declared.message.Message.TheVariants as msg
+use Rattle.kx_message.specs.declared.code.ErrorCode.TheVariants.{NoError}
+use Rattle.kx_message.specs.declared.message.Held.{Held}
+use Rattle.kx_message.specs.declared.message.Message.TheVariants as msg
 use Rattle.kx_model.specs.Coordinator.{owed}
 use Rattle.kx_model.specs.Log.{Data, Placed, Sequenced}
 use Rattle.kx_model.specs.Producers.{epoch_of}

@@ -7,8 +7,8 @@ use Rattle.kx_model.specs.Headline.{Always, FetchedGivesVisible, GetsExactlyVisi
 use Rattle.kx_model.specs.Headline.{HasOneOutcome, MarkersAgree, NothingCommits}
 use Rattle.kx_model.specs.Headline.{OffsetsWithTheirTransaction, OpenIsOwed}
 use Rattle.kx_model.specs.Log.{Control, Stored, entries, entry_of}
-use Rattle.kx_wire.specs.declared.code.ErrorCode.TheVariants.{NoError}
-use Rattle.kx_wire.specs.declared.message.Message.TheVariants as msg
+use Rattle.kx_message.specs.declared.code.ErrorCode.TheVariants.{NoError}
+use Rattle.kx_message.specs.declared.message.Message.TheVariants as msg
 use Rattle.kx_model.proofs.Logs.{entries-push}
 use Rattle.std.proofs.lemmas.List.Elements.{All-contains, Contains-push_cases}
 use Rattle.kx_model.specs.PartitionNode.{Partition}

@@ -6,13 +6,13 @@ use Rattle.std.proofs.Common.{cond, pos}
 use Rattle.std.specs.Prelude.{not}
 use Rattle.std.specs.Ordering.{int_eq}
 use Rattle.std.proofs.lemmas.List.Elements.{All-contains, All-weaker}
-use Rattle.kx_wire.specs.declared.code.ErrorCode.{ErrorCode}
-use Rattle.kx_wire.specs.declared.code.ErrorCode.TheVariants.{IllegalGeneration, NoError}
-use Rattle.kx_wire.specs.declared.code.ErrorCode.TheVariants.{UnknownMemberId}
-use Rattle.kx_wire.specs.declared.message.Held.{Held}
-use Rattle.kx_wire.specs.declared.message.Message.{Message}
-use Rattle.kx_wire.specs.declared.message.Message.TheVariants as msg
-use Rattle.kx_wire.specs.declared.outcome.Outcome.{Outcome}
+use Rattle.kx_message.specs.declared.code.ErrorCode.{ErrorCode}
+use Rattle.kx_message.specs.declared.code.ErrorCode.TheVariants.{IllegalGeneration, NoError}
+use Rattle.kx_message.specs.declared.code.ErrorCode.TheVariants.{UnknownMemberId}
+use Rattle.kx_message.specs.declared.message.Held.{Held}
+use Rattle.kx_message.specs.declared.message.Message.{Message}
+use Rattle.kx_message.specs.declared.message.Message.TheVariants as msg
+use Rattle.kx_message.specs.declared.outcome.Outcome.{Outcome}
 use Rattle.kx_model.specs.Log.{Entry, MarkerFits, Stored, entries}
 use Rattle.kx_model.specs.PartitionNode.{Partition, marker_of}
 use Rattle.kx_model.specs.Groups.{generation, is_member}

@@ -8,11 +8,11 @@ use Rattle.std.proofs.lemmas.Bool.Decides.{nat_tests}
 use Rattle.std.proofs.lemmas.List.{append-nil, map-append}
 use Rattle.std.proofs.lemmas.List.Elements.{All-append, All-contains, All-map, All-nil, All-push}
 use Rattle.std.proofs.lemmas.List.Elements.{All-weaker, Contains-append_cases, Contains-append_left}
-use Rattle.kx_wire.specs.declared.code.ErrorCode.TheVariants as code
-use Rattle.kx_wire.specs.declared.message.Held.{Held}
-use Rattle.kx_wire.specs.declared.message.Message.{Message}
-use Rattle.kx_wire.specs.declared.message.Message.TheVariants as msg
-use Rattle.kx_wire.specs.declared.outcome.Outcome.TheVariants.{Commit}
+use Rattle.kx_message.specs.declared.code.ErrorCode.TheVariants as code
+use Rattle.kx_message.specs.declared.message.Held.{Held}
+use Rattle.kx_message.specs.declared.message.Message.{Message}
+use Rattle.kx_message.specs.declared.message.Message.TheVariants as msg
+use Rattle.kx_message.specs.declared.outcome.Outcome.TheVariants.{Commit}
 use Rattle.kx_model.specs.Client.{Client, new_client}
 use Rattle.kx_model.specs.Coordinator.{Complete, Empty, Ongoing, Prepare, Row, State}
 use Rattle.kx_model.specs.Coordinator.{Written, ends, next_id}

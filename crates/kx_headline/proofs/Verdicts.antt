@@ -4,13 +4,13 @@ use Rattle.std.proofs.Common.{Option, Some, None, Result, Ok, Err, length, ltb, 
 use Rattle.std.specs.Prelude.{◌≢◌}
 use Rattle.std.specs.Ordering.{int_eq}
 use Rattle.std.proofs.lemmas.Bool.{cond_both}
-use Rattle.kx_wire.specs.declared.code.ErrorCode.{ErrorCode}
-use Rattle.kx_wire.specs.declared.code.ErrorCode.TheVariants.{NoError, ConcurrentTransactions}
-use Rattle.kx_wire.specs.declared.code.ErrorCode.TheVariants.{IllegalGeneration, InvalidRecord}
-use Rattle.kx_wire.specs.declared.code.ErrorCode.TheVariants.{InvalidProducerEpoch}
-use Rattle.kx_wire.specs.declared.code.ErrorCode.TheVariants.{InvalidTxnState, KafkaStorageError}
-use Rattle.kx_wire.specs.declared.code.ErrorCode.TheVariants.{MessageTooLarge, UnknownMemberId}
-use Rattle.kx_wire.specs.declared.code.ErrorCode.TheVariants.{OutOfOrderSequenceNumber}
+use Rattle.kx_message.specs.declared.code.ErrorCode.{ErrorCode}
+use Rattle.kx_message.specs.declared.code.ErrorCode.TheVariants.{NoError, ConcurrentTransactions}
+use Rattle.kx_message.specs.declared.code.ErrorCode.TheVariants.{IllegalGeneration, InvalidRecord}
+use Rattle.kx_message.specs.declared.code.ErrorCode.TheVariants.{InvalidProducerEpoch}
+use Rattle.kx_message.specs.declared.code.ErrorCode.TheVariants.{InvalidTxnState, KafkaStorageError}
+use Rattle.kx_message.specs.declared.code.ErrorCode.TheVariants.{MessageTooLarge, UnknownMemberId}
+use Rattle.kx_message.specs.declared.code.ErrorCode.TheVariants.{OutOfOrderSequenceNumber}
 use Rattle.kx_batch.specs.Batch.{Spelled, batch_at, batch_limit}
 use Rattle.kx_batch.specs.declared.fault.BatchFault.{BatchFault}
 use Rattle.kx_batch.specs.declared.fault.BatchFault.TheVariants.{Short, Magic, Length, Crc}

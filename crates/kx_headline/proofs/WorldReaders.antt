@@ -5,10 +5,10 @@ use Rattle.std.proofs.Common.{List, ◌∷◌, ◌++◌, filter, Option, Some, O
 use Rattle.std.proofs.Common.{None, Contains, refl, sym, ap, ◌∙◌, subst, arith}
 use Rattle.std.specs.Prelude.{IfSome, int_le, int_lt, nat_lt}
 use Rattle.std.specs.Option.{option_map_or}
-use Rattle.kx_wire.specs.declared.code.ErrorCode.TheVariants.{OffsetOutOfRange}
-use Rattle.kx_wire.specs.declared.message.Message.{Message}
-use Rattle.kx_wire.specs.declared.outcome.Outcome.{Outcome}
-use Rattle.kx_wire.specs.declared.outcome.Outcome.TheVariants.{Abort, Commit}
+use Rattle.kx_message.specs.declared.code.ErrorCode.TheVariants.{OffsetOutOfRange}
+use Rattle.kx_message.specs.declared.message.Message.{Message}
+use Rattle.kx_message.specs.declared.outcome.Outcome.{Outcome}
+use Rattle.kx_message.specs.declared.outcome.Outcome.TheVariants.{Abort, Commit}
 use Rattle.kx_model.specs.Coordinator.{commits, decision, same_outcome}
 use Rattle.kx_model.specs.Headline.{GivesVisible, HasOneOutcome}
 use Rattle.kx_model.specs.Log.{Data, Control, Marker, Sequenced, Stored, end, entries}

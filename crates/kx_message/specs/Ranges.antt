@@ -11,6 +11,14 @@ IsProducerId n = n < 2 ^ 63
 abbrev pub IsEpoch : ℕ → Type 0
 IsEpoch n = n < 2 ^ 15
 
+-- the last epoch that a producer holds
+abbrev pub last_epoch : ℕ
+last_epoch = 32766
+
+-- the epoch of the marker that ends an id's last transaction, and of no producer
+abbrev pub spent_epoch : ℕ
+spent_epoch = 32767
+
 -- how many data partitions there are, numbered from 0
 abbrev pub data_partitions : ℕ
 data_partitions = 16

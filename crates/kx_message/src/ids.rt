@@ -1,6 +1,7 @@
 //! The numbers of producers, of their epochs and of clients.
-ghost use Rattle.std.specs.Prelude.{◌≡◌, ℕ, ℤ, pos, ◌<ℤ◌, Some, MatchResult, decimal};
-ghost use Rattle.kx_message.specs.Ranges.{IsProducerId, IsEpoch};
+ghost use Rattle.std.specs.Prelude.{◌≡◌, ◌+◌, ℕ, ℤ, pos, ◌<ℤ◌, Some, MatchOption, MatchResult};
+ghost use Rattle.std.specs.Prelude.{decimal};
+ghost use Rattle.kx_message.specs.Ranges.{IsProducerId, IsEpoch, spent_epoch};
 ghost use Rattle.kx_message.specs.declared.fault.ValueFault.{ValueFault};
 
 use crate::fault::ValueFault;
@@ -71,6 +72,26 @@ impl Model for Epoch {
 }
 
 impl Epoch {
+    /// The epoch that a new id begins at.
+    pub const FIRST: Epoch = Epoch(0);
+
+    /// The last epoch that a producer holds: above it an id gives way to a new one (KIP-890).
+    pub const LAST: Epoch = Epoch(32_766);
+
+    /// The epoch of the marker that ends an id's last transaction, and of no producer.
+    pub const SPENT: Epoch = Epoch(32_767);
+
+    /// The epoch above this one, as the marker of a transaction has it and the transaction after
+    /// (KIP-890). Above [`Epoch::SPENT`] there is none.
+    pub fn raised(self) -> Option<Epoch>
+        ensures { MatchOption result (self ≡ spent_epoch) (λ epoch. epoch ≡ self + 1) }
+    {
+        if self == Epoch::SPENT {
+            return None;
+        }
+        Some(Epoch(self.0 + 1))
+    }
+
     /// The epoch as it goes over the wire, an int16.
     pub fn get(self) -> i16
         ensures value { result ≡ pos self }

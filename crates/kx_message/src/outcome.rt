@@ -1,6 +1,7 @@
 //! How a transaction ends.
 ghost use Rattle.std.specs.Prelude.{◌≡◌, Some};
-ghost use Rattle.kx_message.specs.Codes.{outcome_byte, outcome_text, IsOutcomeOfByte, IsOutcomeOfText};
+ghost use Rattle.kx_message.specs.Codes.{outcome_byte, outcome_text, IsOutcomeOfByte};
+ghost use Rattle.kx_message.specs.Codes.{IsOutcomeOfText};
 
 use crate::fault::ValueFault;
 use std::fmt;

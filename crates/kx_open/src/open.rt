@@ -6,7 +6,7 @@ ghost use Rattle.kx_open.specs.Open.{begun, ended, epoch_in, is_txn_of, IsLeast}
 ghost use Rattle.kx_open.specs.Open.{IsPlaceBehind, Refuses};
 
 use crate::fault::BeginFault;
-use kx_wire::{Epoch, ProducerId};
+use kx_message::{Epoch, ProducerId};
 use std::alloc::{AllocError, Global};
 use std::marker::Model;
 

@@ -1,6 +1,6 @@
 //! What a partition answers.
 
-use kx_wire::ErrorCode;
+use kx_message::ErrorCode;
 
 /// What a partition answered to a batch.
 #[derive(Clone, Copy, Debug, PartialEq, Eq)]

@@ -6,7 +6,7 @@ ghost use Rattle.kx_partition.specs.declared.fault.ReplyFault.{ReplyFault};
 ghost use Rattle.kx_partition.specs.declared.fault.ReplyFault.TheVariants.{Bytes, Memory};
 
 use kx_batch::BatchFault;
-use kx_wire::ErrorCode;
+use kx_message::ErrorCode;
 use std::alloc::AllocError;
 use thiserror::Error;
 

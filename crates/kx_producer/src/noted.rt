@@ -2,7 +2,7 @@
 ghost use Rattle.std.specs.Prelude.{◌≡◌};
 ghost use Rattle.kx_producer.specs.Known.{epoch_in, id_in};
 
-use kx_wire::{Epoch, ProducerId};
+use kx_message::{Epoch, ProducerId};
 
 /// A batch that a partition remembers of a producer, to know it when it comes again (KIP-98,
 /// "Idempotent Producer Guarantees").

@@ -9,7 +9,7 @@ ghost use Rattle.kx_producer.specs.Verdicts.{verdict_behind, verdict_of};
 use crate::noted::{Noted, RememberedBatch};
 use crate::verdict::Verdict;
 use circular_buffer::HeapCircularBuffer;
-use kx_wire::Epoch;
+use kx_message::Epoch;
 use std::alloc::{AllocError, Global};
 use std::marker::Model;
 

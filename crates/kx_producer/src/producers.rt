@@ -9,7 +9,7 @@ ghost use Rattle.kx_producer.specs.declared.noted.Noted.TheVariants.{Data, Marke
 use crate::noted::{Noted, RememberedBatch};
 use crate::producer::{Producer, Remembered, check_first, room};
 use crate::verdict::Verdict;
-use kx_wire::{Epoch, ProducerId};
+use kx_message::{Epoch, ProducerId};
 use std::alloc::{AllocError, Global};
 use std::collections::HashMap;
 use std::marker::Model;

@@ -4,8 +4,8 @@ use Rattle.std.proofs.Common.{cond}
 use Rattle.std.proofs.Common.{length, get_or, sym, ap, ◌∙◌, subst, Option, MatchResult, IfOk}
 use Rattle.std.specs.Prelude.{option_map, IsOk, OnOk}
 use Rattle.std.proofs.lemmas.Option.{slice_get-get_or}
-use Rattle.kx_wire.specs.declared.code.ErrorCode.{ErrorCode}
-use Rattle.kx_wire.specs.declared.code.ErrorCode.TheVariants.{MessageTooLarge}
+use Rattle.kx_message.specs.declared.code.ErrorCode.{ErrorCode}
+use Rattle.kx_message.specs.declared.code.ErrorCode.TheVariants.{MessageTooLarge}
 use Rattle.kx_batch.specs.Build.{batch_text}
 use Rattle.kx_model.specs.Log.{Stored}
 use Rattle.kx_model.specs.Page.{Page, fetched}

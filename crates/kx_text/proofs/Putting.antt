@@ -2,7 +2,7 @@
 use Rattle.std.proofs.Common.{◌≡◌, ℕ, ℤ, Bool, true, false, cond, List, Some}
 use Rattle.std.proofs.Common.{refl, sym, ap, ◌∙◌, subst, Option, Result, Ok, Err, IfOk}
 use Rattle.std.specs.Prelude.{OnErr}
-use Rattle.kx_wire.specs.declared.code.ErrorCode.TheVariants.{KafkaStorageError}
+use Rattle.kx_message.specs.declared.code.ErrorCode.TheVariants.{KafkaStorageError}
 use Rattle.kx_model.specs.Log.{Stored, end, entries}
 use Rattle.kx_model.specs.Produce.{Verdict, Next, Duplicate, Unverified, Refused, judge_text}
 use Rattle.kx_model.specs.Produce.{log_after, produced}

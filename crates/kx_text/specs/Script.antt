@@ -4,7 +4,7 @@ use Rattle.std.specs.Prelude.{Option, None, Some, IsSome, Result, Ok, Err, lengt
 use Rattle.std.specs.Prelude.{decimal, option_map, slice_get, slice_set}
 use Rattle.std.specs.Io.KnownBytes.{Appends, Keeps}
 use Rattle.kx_varint.specs.Text.{◌>>=◌}
-use Rattle.kx_wire.specs.declared.code.ErrorCode.{ErrorCode}
+use Rattle.kx_message.specs.declared.code.ErrorCode.{ErrorCode}
 use Rattle.kx_model.specs.Log.{Stored, end, entries}
 use Rattle.kx_model.specs.Page.{Page, fetched}
 use Rattle.kx_text.specs.Words.{before, lines_of, words_of}

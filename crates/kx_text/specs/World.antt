@@ -3,9 +3,9 @@ use Rattle.std.specs.Prelude.{◌≡◌, ℕ, ℤ, pos, negsuc, ◌+◌, ◌+ℤ
 use Rattle.std.specs.Prelude.{List, [], ◌∷◌, ◌++◌, Option, None}
 use Rattle.std.specs.Prelude.{Some, length, flat_map, codes, decimal, nat_lt, int_lt, if◌then◌else◌}
 use Rattle.std.specs.Fmt.{signed_decimal}
-use Rattle.kx_wire.specs.declared.code.ErrorCode.{ErrorCode}
-use Rattle.kx_wire.specs.declared.code.ErrorCode.TheVariants.{MessageTooLarge, InvalidTxnState}
-use Rattle.kx_wire.specs.Codes.{number_of}
+use Rattle.kx_message.specs.declared.code.ErrorCode.{ErrorCode}
+use Rattle.kx_message.specs.declared.code.ErrorCode.TheVariants.{MessageTooLarge, InvalidTxnState}
+use Rattle.kx_message.specs.Codes.{number_of}
 use Rattle.kx_batch.specs.Record.{Record}
 use Rattle.kx_batch.specs.Batch.{Batch, batch_limit, is_control}
 use Rattle.kx_batch.specs.Build.{batch_text, made, pushed, records_text}

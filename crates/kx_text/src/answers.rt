@@ -5,9 +5,9 @@ ghost use Rattle.kx_text.specs.World.{answer_text, batch_lines, end_text, offset
 ghost use Rattle.kx_text.specs.World.{record_text, refused_text, shown_lines, value_line};
 
 use kx_batch::{BatchView, RecordView};
+use kx_message::ErrorCode;
 use kx_partition::{FetchPage, Produced};
 use kx_reader::Committed;
-use kx_wire::ErrorCode;
 use std::io;
 use std::io::Write;
 

@@ -12,7 +12,7 @@ ghost use Rattle.kx_text.specs.declared.dump.DumpFault.TheVariants as dump_fault
 
 use crate::answers::offset_of;
 use kx_batch::{BatchFault, BatchView, RecordView};
-use kx_wire::Outcome;
+use kx_message::Outcome;
 use std::io;
 use std::io::Write;
 use thiserror::Error;

@@ -12,8 +12,8 @@ use crate::command::Mode;
 use crate::words::SomeWords;
 use kx_batch::{BatchBuilder, BuildFault};
 use kx_log::MemStore;
+use kx_message::ErrorCode;
 use kx_partition::{FetchFault, FetchPage, Partition, Produced};
-use kx_wire::ErrorCode;
 use std::alloc::{AllocError, Global};
 use std::marker::Model;
 

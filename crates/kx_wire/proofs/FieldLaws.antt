@@ -13,7 +13,8 @@ use Rattle.kx_message.specs.Ranges.{IsProducerId, IsPartition, IsTimeout, IsName
 use Rattle.kx_message.specs.Ranges.{IsOffsetCount}
 use Rattle.kx_message.specs.Codes.{number_of, outcome_byte}
 use Rattle.kx_message.specs.Values.{is_partition, is_timeout, is_name, is_offset_count}
-use Rattle.kx_message.specs.Values.{partition_with, timeout_with, name_with, code_with, outcome_with}
+use Rattle.kx_message.specs.Values.{partition_with, timeout_with, name_with, code_with}
+use Rattle.kx_message.specs.Values.{outcome_with}
 use Rattle.kx_message.specs.Values.{flag_with, held_with, optional_held_with, natural_with}
 use Rattle.kx_message.specs.Reader.{unsigned, signed}
 use Rattle.kx_wire.specs.Reading.{caller_at, partition_at, timeout_at, code_at, outcome_at}
@@ -21,7 +22,8 @@ use Rattle.kx_wire.specs.Reading.{flag_at, named, name_at, optional_named, optio
 use Rattle.kx_wire.specs.Reading.{held_at, marker_at, optional_held_at, bytes_at, offset_at}
 use Rattle.kx_wire.specs.Reading.{offset_count_at, offsets_at, id_at, aborted_txn_at, aborted_at}
 use Rattle.kx_message.specs.Fields.{caller_text, name_text, optional_text, held_text}
-use Rattle.kx_message.specs.Fields.{optional_held_text, code_text, outcome_field, flag_byte, flag_text}
+use Rattle.kx_message.specs.Fields.{optional_held_text, code_text, outcome_field, flag_byte}
+use Rattle.kx_message.specs.Fields.{flag_text}
 use Rattle.kx_message.specs.Fields.{bytes_text, offset_text, offsets_text, aborted_txn_text}
 use Rattle.kx_message.specs.Fields.{aborted_text}
 use Rattle.kx_message.specs.Message.{IsU16, IsU32, IsCaller, IsHeld, IsMarker, IsOffset, IsAborted}

@@ -4,7 +4,8 @@ use Rattle.std.specs.Prelude.{nat_lt, ◌&&◌, [], ◌∷◌, ◌≡◌, ◌≢
 use Rattle.std.specs.List.{slice_get}
 use Rattle.std.specs.Int.{w8, w16, w32, w64}
 use Rattle.kx_message.specs.Reader.{Reader, ◌>>=◌, gives, only, unsigned, signed, taken, repeated}
-use Rattle.kx_message.specs.Values.{natural_with, partition_with, timeout_with, name_with, code_with}
+use Rattle.kx_message.specs.Values.{natural_with, partition_with, timeout_with, name_with}
+use Rattle.kx_message.specs.Values.{code_with}
 use Rattle.kx_message.specs.Values.{outcome_with, flag_with, held_with, optional_held_with}
 use Rattle.kx_message.specs.Values.{marker_with, offset_count_with}
 use Rattle.kx_message.specs.declared.code.ErrorCode.{ErrorCode}

@@ -10,5 +10,5 @@ use Rattle.kx_coord.proofs.markers.push_missing.Given as goal
 abbrev pub invariant-loop-partition : goal.invariant-loop-partition
 invariant-loop-partition l = l.messages.items ≡ l.initial.messages.items
     ++ map (marker l.epoch l.row.txn l.held l.outcome) (filter (λ p. not (list_any
-    (same_answered (answered l.row.txn l.row.id l.row.epoch p)) l.noted))
+    (same_answered (answered l.row.txn (record { id = l.row.id; epoch = l.row.epoch }) p)) l.noted))
     (take l.partition-index l.partition-items))

@@ -3,7 +3,7 @@ use Rattle.std.proofs.Common.{length, refl, subst}
 use Rattle.std.specs.Int.{w64}
 use Rattle.std.specs.Io.KnownBytes.{Appends}
 use Rattle.std.proofs.lemmas.Int.{to_z-of_z}
-use Rattle.kx_wire.specs.declared.code.ErrorCode.{ErrorCode}
+use Rattle.kx_message.specs.declared.code.ErrorCode.{ErrorCode}
 use Rattle.kx_model.specs.Page.{Fetched, Page, as_fetched, fetched, fetched_of}
 use Rattle.kx_text.specs.Script.{fetched_text}
 use Rattle.kx_text.specs.World.{is_committed, page_text, refused_text}

@@ -3,7 +3,8 @@ use Rattle.std.specs.Global.{Vec}
 use Rattle.std.proofs.lemmas.Grind.{common_steps}
 use Rattle.kx_wire.proofs.Growing.{only_rest, none_some}
 use Rattle.kx_wire.proofs.frames.take_piece.Goals as goal
-use Rattle.kx_wire.proofs.frames.take_piece.Goals.{then-is_none+in_ok-extend_from_slice, else-is_none}
+use Rattle.kx_wire.proofs.frames.take_piece.Goals.{then-is_none+in_ok-extend_from_slice}
+use Rattle.kx_wire.proofs.frames.take_piece.Goals.{else-is_none}
 
 pub returns-then-is_empty-clause-splits : goal.returns-then-is_empty-clause-splits
 returns-then-is_empty-clause-splits c = grind (arith, common_steps)

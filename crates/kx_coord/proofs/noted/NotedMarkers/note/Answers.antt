@@ -12,12 +12,8 @@ use Rattle.kx_coord.proofs.noted.NotedMarkers.note.Goals as goal
 
 pub returns-clause-ok : goal.returns-clause-ok
 returns-clause-ok c =
-    let a = answered c.args.txn c.args.id c.args.epoch c.args.partition in
-    let marker : AnsweredMarker = record {
-      id = c.args.id;
-      epoch = c.args.epoch;
-      partition = c.args.partition;
-    } in
+    let a = answered c.args.txn c.args.held.now c.args.partition in
+    let marker : AnsweredMarker = record { held = c.args.held.now; partition = c.args.partition } in
     let old = c.args.self.now in
     let es = c.self.inside.by_txn.entries in
     let same : c.match-get.self-inside ≡ c.self.inside = elim c.match-get.branch [
@@ -42,7 +38,7 @@ returns-clause-ok c =
     λ q. c.in_ok-insert.ensures.updates.0 q
     ∙ (λ i. cond (bytes_eq c.args.txn q) (Some c.match-get.markers)
     (lookup (bytes_eq q) (same i).by_txn.entries)) in
-    let apart : list_any (is_marker c.args.id c.args.epoch c.args.partition)
+    let apart : list_any (is_marker c.args.held.now c.args.partition)
     (items_at (λ v. v.items) (lookup (bytes_eq c.args.txn) es)) ≡ false =
     sym (is_at_items (λ v. v.items) a (lookup (bytes_eq c.args.txn) es))
     ∙ sym (looked_up (λ v. v.items) a es c.self.invariant.0)
@@ -62,12 +58,8 @@ returns-clause-ok c =
 
 pub invariant_of-self-2 : goal.invariant_of-self-2
 invariant_of-self-2 c =
-    let a = answered c.args.txn c.args.id c.args.epoch c.args.partition in
-    let marker : AnsweredMarker = record {
-      id = c.args.id;
-      epoch = c.args.epoch;
-      partition = c.args.partition;
-    } in
+    let a = answered c.args.txn c.args.held.now c.args.partition in
+    let marker : AnsweredMarker = record { held = c.args.held.now; partition = c.args.partition } in
     let old = c.args.self.now in
     let es = c.self.inside.by_txn.entries in
     let same : c.match-get.self-inside ≡ c.self.inside = elim c.match-get.branch [
@@ -92,7 +84,7 @@ invariant_of-self-2 c =
     λ q. c.in_ok-insert.ensures.updates.0 q
     ∙ (λ i. cond (bytes_eq c.args.txn q) (Some c.match-get.markers)
     (lookup (bytes_eq q) (same i).by_txn.entries)) in
-    let apart : list_any (is_marker c.args.id c.args.epoch c.args.partition)
+    let apart : list_any (is_marker c.args.held.now c.args.partition)
     (items_at (λ v. v.items) (lookup (bytes_eq c.args.txn) es)) ≡ false =
     sym (is_at_items (λ v. v.items) a (lookup (bytes_eq c.args.txn) es))
     ∙ sym (looked_up (λ v. v.items) a es c.self.invariant.0)

@@ -1,6 +1,6 @@
 use Rattle.std.proofs.Common.{ap}
 use Rattle.kx_model.specs.Coordinator.{Row}
-use Rattle.kx_coord.proofs.rows.Fresh.takes_over.Goals as goal
+use Rattle.kx_coord.proofs.init_producer_id.takes_over.Goals as goal
 
 pub returns : goal.returns
 returns c = λ log next.

@@ -1,4 +1,4 @@
-use Rattle.kx_coord.proofs.rows.Fresh.init_first.Goals as goal
+use Rattle.kx_coord.proofs.init_producer_id.init_first.Goals as goal
 
 pub returns : goal.returns
 returns c = λ log next. c.writes.ensures _ (c.first_use.ensures log next)

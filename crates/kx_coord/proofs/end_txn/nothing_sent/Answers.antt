@@ -1,4 +1,4 @@
-use Rattle.kx_coord.proofs.rows.Fresh.nothing_sent.Goals as goal
+use Rattle.kx_coord.proofs.end_txn.nothing_sent.Goals as goal
 
 pub returns-in-Abort : goal.returns-in-Abort
 returns-in-Abort c = λ log next.

@@ -1,14 +1,15 @@
 //! A partition asks to be added to a transaction (KIP-890, "AddPartitionsToTxn").
-ghost use Rattle.std.specs.Prelude.{◌≡◌, ◌<◌, IfOk, not, false, Some, ◌&&◌, ◌||◌};
-ghost use Rattle.kx_model.specs.Coordinator.{is, spent_epoch};
+ghost use Rattle.std.specs.Prelude.{◌≡◌, ◌<◌, IfNone, IfOk, not, false, Some, ◌&&◌, ◌||◌};
+ghost use Rattle.kx_model.specs.Coordinator.{is};
+ghost use Rattle.kx_message.specs.Ranges.{spent_epoch};
 ghost use Rattle.kx_model.specs.Requests as model;
 ghost use Rattle.kx_txnlog.specs.Entry.{row_of};
 ghost use Rattle.kx_coord.specs.Answers.{IsAnswer};
 
 use crate::answer::{Answer, refuses, repeats, writes};
-use crate::rows::{SPENT_EPOCH, added};
+use crate::rows::added;
+use kx_message::{Epoch, ErrorCode, Held, PartitionId, ProducerId};
 use kx_txnlog::{Row, State};
-use kx_wire::{Epoch, ErrorCode, Held, PartitionId, ProducerId};
 use std::alloc::AllocError;
 
 /// Whether there is an id, and it is this one.
@@ -16,37 +17,38 @@ pub(crate) fn is(id: Option<ProducerId>, other: ProducerId) -> bool
     ensures { result ≡ is id other }
 {
     match id {
-        Some(id) => id.get() == other.get(),
+        Some(id) => id == other,
         None => false,
     }
 }
 
 /// What a request by this id and epoch is refused for first.
-pub(crate) fn refused_first(row: &Row, id: ProducerId, epoch: Epoch) -> Option<ErrorCode>
-    ensures { result ≡ model.refused_first (row_of row.now) (record { id = id; epoch = epoch }) }
+pub(crate) fn refused_first(row: &Row, held: &Held) -> Option<ErrorCode>
+    ensures value { result ≡ model.refused_first (row_of row.now) held.now }
+    ensures unspent { IfNone result (held.now.epoch < spent_epoch) }
 {
     let is_prepared = matches!(row.state, State::Prepare(_));
-    let is_next = is(row.next, id);
+    let is_next = is(row.next, held.id);
     if is_prepared && is_next {
         return Some(ErrorCode::ConcurrentTransactions);
     }
-    let is_own = row.id.get() == id.get();
-    let is_previous = is(row.previous, id);
+    let is_own = row.id == held.id;
+    let is_previous = is(row.previous, held.id);
     if !is_own && !is_previous {
         return Some(ErrorCode::InvalidProducerIdMapping);
     }
-    let number = epoch.get();
-    if number == SPENT_EPOCH || (is_own && row.epoch.get() < number) {
+    let is_spent = held.epoch.get() == Epoch::SPENT.get();
+    if is_spent || (is_own && row.epoch < held.epoch) {
         return Some(ErrorCode::InvalidProducerEpoch);
     }
     None
 }
 
 /// Whether the epoch is one before the row's, or the id the one before.
-pub(crate) fn is_old(row: &Row, id: ProducerId, epoch: Epoch) -> bool
-    ensures { result ≡ model.is_old (row_of row.now) (record { id = id; epoch = epoch }) }
+pub(crate) fn is_old(row: &Row, held: &Held) -> bool
+    ensures { result ≡ model.is_old (row_of row.now) held.now }
 {
-    row.id.get() != id.get() || epoch.get() < row.epoch.get()
+    row.id != held.id || held.epoch < row.epoch
 }
 
 // The partition is listed.
@@ -63,24 +65,23 @@ fn lists(row: &Row, partition: PartitionId, start: u64) -> Result<Answer, AllocE
 pub(crate) fn add_row(
     clock: u64,
     row: &Row,
-    id: ProducerId,
-    epoch: Epoch,
+    held: &Held,
     partition: PartitionId,
 ) -> Result<Answer, AllocError>
-    ensures { IfOk result (λ answer. IsAnswer answer (model.add_at clock (Some (row_of row.now))
-        (record { id = id; epoch = epoch }) partition)) }
+    ensures { IfOk result (λ answer.
+        IsAnswer answer (model.add_at clock (Some (row_of row.now)) held.now partition)) }
 {
-    if let Some(code) = refused_first(row, id, epoch) {
+    if let Some(code) = refused_first(row, held) {
         return Ok(refuses(code));
     }
-    if is_old(row, id, epoch) {
+    if is_old(row, held) {
         return Ok(refuses(ErrorCode::ProducerFenced));
     }
     match row.state {
         State::Prepare(_) => Ok(refuses(ErrorCode::ConcurrentTransactions)),
         State::Ongoing => {
             if row.partitions.contains(partition) {
-                return Ok(repeats(Held { id, epoch }));
+                return Ok(repeats(*held));
             }
             lists(row, partition, row.start)
         }

@@ -1,0 +1,104 @@
+//! A client asks for an id and an epoch (KIP-98, "InitProducerIdRequest").
+ghost use Rattle.std.specs.Prelude.{◌≡◌, ℕ, IfOk, List, None};
+ghost use Rattle.kx_model.specs.Coordinator.{Note, Ongoing};
+ghost use Rattle.kx_model.specs.Requests as model;
+ghost use Rattle.kx_txnlog.specs.Entry.{row_of};
+ghost use Rattle.kx_coord.specs.Answers.{IsAnswer, IsNextId};
+
+use crate::answer::{Answer, own_pair, refuses, repeats, writes};
+use crate::rows::Fresh;
+use kx_message::{ClientId, Epoch, ErrorCode, Held, Outcome, Timeout, TxnId};
+use kx_txnlog::{Cause, Entry, Row, State};
+use std::alloc::AllocError;
+
+// Its owner asks.
+fn asked_again(row: &Row) -> Answer
+    ensures { IsAnswer result
+        (model.asked_again (row_of row.now) (row_of row.now).state) }
+{
+    match row.state {
+        State::Empty => repeats(own_pair(row)),
+        State::Ongoing | State::Prepare(_) | State::Complete(_) => {
+            refuses(ErrorCode::InvalidTxnState)
+        }
+    }
+}
+
+// A later client takes the transactional id over.
+fn takes_over(fresh: Fresh, client: ClientId, timeout: Timeout, row: &Row) -> Answer
+    ensures { (log : List Note) → IsNextId log fresh.next
+        → IsAnswer result (model.takes_over log client timeout (row_of row.now)) }
+{
+    let Some(raised) = fresh.raised(row, State::Empty, Cause::Init) else {
+        return Answer::UsedUp;
+    };
+    let mut taken = raised;
+    taken.owner = client;
+    taken.timeout = timeout;
+    writes(Some(taken))
+}
+
+// The owner's transaction is aborted, and the newcomer is to ask again.
+fn fences_owner(fresh: Fresh, row: &Row) -> Result<Answer, AllocError>
+    requires { (row_of row.now).state ≡ Ongoing }
+    ensures { IfOk result (λ answer. (log : List Note) → IsNextId log fresh.next
+        → IsAnswer answer (model.fences_owner log (row_of row.now))) }
+{
+    let Some(prepared) = fresh.prepared(row, Outcome::Abort, Cause::Init)? else {
+        return Ok(Answer::UsedUp);
+    };
+    Ok(Answer::Writes {
+        entry: Entry::Row(prepared),
+        code: ErrorCode::ConcurrentTransactions,
+        held: None,
+    })
+}
+
+/// What a client is answered where the transactional id has a row.
+pub(crate) fn init_row(
+    fresh: Fresh,
+    client: ClientId,
+    timeout: Timeout,
+    row: &Row,
+) -> Result<Answer, AllocError>
+    ensures { IfOk result (λ answer. (log : List Note) → IsNextId log fresh.next
+        → IsAnswer answer (model.init_row log client timeout (row_of row.now))) }
+{
+    if client < row.owner {
+        return Ok(refuses(ErrorCode::ProducerFenced));
+    }
+    if client == row.owner {
+        return Ok(asked_again(row));
+    }
+    match row.state {
+        State::Empty | State::Complete(_) => Ok(takes_over(fresh, client, timeout, row)),
+        State::Ongoing => fences_owner(fresh, row),
+        State::Prepare(_) => Ok(refuses(ErrorCode::ConcurrentTransactions)),
+    }
+}
+
+/// What a client is answered whose transactional id is used for the first time.
+pub(crate) fn init_first(fresh: Fresh, client: ClientId, txn: TxnId, timeout: Timeout) -> Answer
+    ensures { (log : List Note) → IsNextId log fresh.next
+        → IsAnswer result (model.writes (model.first_use log client txn timeout)) }
+{
+    writes(fresh.first_use(client, txn, timeout))
+}
+
+/// What a client without a transactional id is answered.
+pub(crate) fn allot(fresh: Fresh) -> Answer
+    ensures { (log : List Note) (client timeout : ℕ) → IsNextId log fresh.next
+        → IsAnswer result (model.init log client None timeout) }
+{
+    let Some(id) = fresh.next else {
+        return Answer::UsedUp;
+    };
+    Answer::Writes {
+        entry: Entry::Allot(id),
+        code: ErrorCode::NoError,
+        held: Some(Held {
+            id,
+            epoch: Epoch::FIRST,
+        }),
+    }
+}
