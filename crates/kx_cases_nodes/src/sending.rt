@@ -45,12 +45,7 @@ fn fronts(alloc: Global, kept: &mut Kept, bytes: &[u8]) -> Result<String, StepFa
 }
 
 // The answers to the same batch, so many times.
-fn repeat(
-    alloc: Global,
-    kept: &mut Kept,
-    times: usize,
-    batch: &[u8],
-) -> Result<String, StepFault> {
+fn repeat(alloc: Global, kept: &mut Kept, times: usize, batch: &[u8]) -> Result<String, StepFault> {
     let mut runs = Runs::new(alloc);
     for number in 0..times {
         runs.push(number, numbered(alloc, kept, batch, number)?)?;
@@ -89,12 +84,7 @@ fn marked(alloc: Global, kept: &mut Kept, words: &[&str]) -> Result<String, Step
 }
 
 // The answers to the bytes of a step of this name.
-fn produces(
-    alloc: Global,
-    kept: &mut Kept,
-    name: &str,
-    bytes: &[u8],
-) -> Result<String, StepFault> {
+fn produces(alloc: Global, kept: &mut Kept, name: &str, bytes: &[u8]) -> Result<String, StepFault> {
     match name {
         "produce" => produced(alloc, kept, bytes, true),
         "unverified" => produced(alloc, kept, bytes, false),
