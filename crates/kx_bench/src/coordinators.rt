@@ -3,7 +3,9 @@ ghost use Rattle.std.specs.Prelude.{◌≤ℤ◌, negsuc};
 
 use kx_coord::Coordinator;
 use kx_log::MemStore;
-use kx_message::{ClientId, Epoch, ErrorCode, Held, Message, Outcome, PartitionId, Timeout, TxnId};
+use kx_message::{
+    Caller, ClientId, ErrorCode, Held, Message, Outcome, PartitionId, Timeout, TxnId,
+};
 use std::alloc::Global;
 
 // The client and the partition of all transactions.
@@ -14,6 +16,14 @@ const PARTITION: u16 = 0;
 // Longer than the benchmark takes, in milliseconds.
 const TIMEOUT: u32 = 900_000;
 
+// The one who asks; nothing here looks at the number of a request.
+fn caller() -> Caller {
+    Caller {
+        client: ClientId::from(CLIENT),
+        correlation: 0,
+    }
+}
+
 fn empty(alloc: Global) -> Option<Coordinator<MemStore>> {
     let store = MemStore::new(Vec::new(alloc));
     let (coordinator, _) = Coordinator::open(alloc, store, 0).ok()?;
@@ -23,9 +33,9 @@ fn empty(alloc: Global) -> Option<Coordinator<MemStore>> {
 // How many messages are handed out, where the first is a reply of code 0.
 fn count_of(messages: &[Message]) -> Option<i64> {
     let code = match messages.first()? {
-        Message::InitReply { code, .. } => *code,
-        Message::AddReply { code, .. } => *code,
-        Message::EndReply { code, .. } => *code,
+        Message::InitReply(reply) => reply.code,
+        Message::AddReply(reply) => reply.code,
+        Message::EndReply(reply) => reply.code,
         _ => return None,
     };
     if code != ErrorCode::NoError {
@@ -50,9 +60,8 @@ fn begins(coordinator: &mut Coordinator<MemStore>, txn: TxnId, held: Held) -> Op
 // A transactional id is used first, and its first transaction begins.
 fn first_used(alloc: Global, coordinator: &mut Coordinator<MemStore>, number: u64) -> Option<i64> {
     let txn = txn_of(alloc, number)?;
-    let client = ClientId::from(CLIENT);
     let timeout = Timeout::try_from(TIMEOUT).ok()?;
-    let messages = coordinator.init(client, 0, Some(txn), timeout).ok()?;
+    let messages = coordinator.init(caller(), Some(txn), timeout).ok()?;
     let count = count_of(messages.as_slice())?;
     let held = held_of(coordinator, number)?;
     count.checked_add(begins(coordinator, txn, held)?)
@@ -76,9 +85,8 @@ fn next_epoch(held: Held) -> Option<Held> {
 fn turn(alloc: Global, coordinator: &mut Coordinator<MemStore>, number: u64) -> Option<i64> {
     let txn = txn_of(alloc, number)?;
     let held = held_of(coordinator, number)?;
-    let client = ClientId::from(CLIENT);
     let messages = coordinator
-        .end_txn(client, 0, txn, held, Outcome::Commit)
+        .end_txn(caller(), txn, held, Outcome::Commit)
         .ok()?;
     let count = count_of(messages.as_slice())?;
     let held = next_epoch(held)?;

@@ -3,7 +3,8 @@
 //! by itself. `message FRAME` tells the one message of a frame, `fields FRAME` its fields,
 //! `receiver FRAME` where it goes. `random SEED COUNT BYTES` feeds random pieces of the bytes.
 use kx_cases::{Runs, StepFault, Subject, Texts, told_bytes, told_name, told_value, value};
-use kx_wire::{FrameFault, Frames, Message, put_frame};
+use kx_message::{Caller, EndReply, Join, Message};
+use kx_wire::{FrameFault, Frames, put_frame};
 use std::alloc::Global;
 
 /// The stream of a case.
@@ -50,10 +51,10 @@ fn is_written(alloc: Global, message: &Message, bytes: &[u8]) -> Result<bool, St
     Ok(frame(alloc, message)?.as_slice() == bytes)
 }
 
-// Whether its copy is.
+// Whether its copy is, and is equal to it.
 fn is_copied(alloc: Global, message: &Message, bytes: &[u8]) -> Result<bool, StepFault> {
     let copy = message.clone()?;
-    is_written(alloc, &copy, bytes)
+    Ok(copy == *message && is_written(alloc, &copy, bytes)?)
 }
 
 // A message as it is printed, where it is written, and its copy, as it was read.
@@ -70,19 +71,24 @@ fn printed(alloc: Global, message: &Message, bytes: &[u8]) -> Result<String, Ste
 // The fields of a Join or of an EndReply, by name.
 fn fields(alloc: Global, message: &Message) -> Result<String, StepFault> {
     match message {
-        Message::Join {
-            client,
-            correlation,
-            group,
-        } => {
+        Message::Join(Join { caller, group }) => {
+            let Caller {
+                client,
+                correlation,
+            } = caller;
             Ok(format!(in alloc; "Join client {client} correlation {correlation} group {group}")?)
         }
-        Message::EndReply {
-            client,
-            correlation,
-            code,
-            held: Some(held),
-        } => {
+        Message::EndReply(
+            EndReply {
+                caller,
+                code,
+                held: Some(held),
+            },
+        ) => {
+            let Caller {
+                client,
+                correlation,
+            } = caller;
             let by = format!(in alloc; "EndReply client {client} correlation {correlation}")?;
             Ok(format!(in alloc; "{by} code {code} id {} epoch {}", held.id, held.epoch)?)
         }

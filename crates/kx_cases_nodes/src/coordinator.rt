@@ -1,7 +1,7 @@
 //! Steps of the coordinator on a store that is made to fail. A step is answered with the messages
 //! that are handed out, each as `RECEIVER TEXT`.
 use crate::parts::{Parts, nothing};
-use crate::words::{client, code, held, partition};
+use crate::words::{caller, code, held, partition};
 use kx_cases::{StepFault, Subject, Texts, known, told_name, told_value, value};
 use kx_coord::Coordinator;
 use kx_log::{FaultStore, MemStore, Store};
@@ -68,7 +68,7 @@ fn init(
     txn: Option<TxnId>,
 ) -> Result<String, StepFault> {
     let timeout = known(Timeout::try_from(MINUTE))?;
-    let messages = running.init(client(name)?, 0, txn, timeout)?;
+    let messages = running.init(caller(name)?, txn, timeout)?;
     handed(alloc, messages.as_slice())
 }
 
@@ -95,8 +95,8 @@ fn end(alloc: Global, running: &mut Running, words: &[&str]) -> Result<String, S
     let [by, name, id, epoch, how] = words else {
         return Err(StepFault::Unknown);
     };
-    let (held, by) = (held(id, epoch)?, client(by)?);
-    let messages = running.end_txn(by, 0, value(name)?, held, value(how)?)?;
+    let (held, by) = (held(id, epoch)?, caller(by)?);
+    let messages = running.end_txn(by, value(name)?, held, value(how)?)?;
     handed(alloc, messages.as_slice())
 }
 

@@ -1,9 +1,11 @@
 //! Steps of a client that gets a reply and reads its page.
 use crate::parts::nothing;
 use crate::shown::shown;
-use crate::words::{code, producer};
+use crate::words::{caller, code, producer};
 use kx_cases::{StepFault, Subject, Texts, told_name, value};
-use kx_message::{AbortedTxn, AbortedTxns, Bytes, ClientId, ErrorCode, Message, PartitionId};
+use kx_message::{
+    AbortedTxn, AbortedTxns, Bytes, ErrorCode, FetchReply, LeaveReply, Message, PartitionId,
+};
 use kx_partition::FetchPage;
 use std::alloc::Global;
 
@@ -40,9 +42,8 @@ fn fetch_reply(alloc: Global, texts: &Texts, words: &[&str]) -> Result<Message, 
     let [answer, next, lso, end, txns, batches] = words else {
         return Err(StepFault::Unknown);
     };
-    Ok(Message::FetchReply {
-        client: ClientId::from(1),
-        correlation: 2,
+    Ok(Message::FetchReply(FetchReply {
+        caller: caller("1")?,
         partition: PartitionId::OFFSETS,
         code: code(answer)?,
         next: value(next)?,
@@ -50,16 +51,15 @@ fn fetch_reply(alloc: Global, texts: &Texts, words: &[&str]) -> Result<Message, 
         end: value(end)?,
         aborted: aborted(alloc, txns)?,
         batches: Bytes::from_vec(texts.bytes(batches)?),
-    })
+    }))
 }
 
 // A reply that has no page.
-fn leave_reply() -> Message {
-    Message::LeaveReply {
-        client: ClientId::from(1),
-        correlation: 2,
+fn leave_reply() -> Result<Message, StepFault> {
+    Ok(Message::LeaveReply(LeaveReply {
+        caller: caller("1")?,
         code: ErrorCode::NoError,
-    }
+    }))
 }
 
 // What is told of the page of a reply, or why it has none.
@@ -89,7 +89,7 @@ impl Subject for Replies {
                 let reply = fetch_reply(self.alloc, texts, fields)?;
                 self.comes(reply)
             }
-            ["left"] => self.comes(leave_reply()),
+            ["left"] => self.comes(leave_reply()?),
             [what, from] => match &self.reply {
                 Some(reply) => read(self.alloc, reply, what, from),
                 None => Err(StepFault::Unknown),

@@ -1,10 +1,13 @@
 //! The values that the words of a step write.
 use kx_cases::{StepFault, known, value};
-use kx_message::{ClientId, Epoch, ErrorCode, Held, PartitionId, ProducerId};
+use kx_message::{Caller, ClientId, Epoch, ErrorCode, Held, PartitionId, ProducerId};
 
-/// A client's number.
-pub fn client(word: &str) -> Result<ClientId, StepFault> {
-    Ok(ClientId::from(value::<u32>(word)?))
+/// A client, by its number; its requests have the correlation 0.
+pub fn caller(word: &str) -> Result<Caller, StepFault> {
+    Ok(Caller {
+        client: ClientId::from(value::<u32>(word)?),
+        correlation: 0,
+    })
 }
 
 /// A producer's id.

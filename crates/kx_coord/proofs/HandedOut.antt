@@ -11,7 +11,7 @@ use Rattle.std.specs.List.{flat_map, list_any}
 use Rattle.std.specs.Prelude.{not, OnErr, OnOk}
 use Rattle.kx_message.specs.declared.message.Held.{Held}
 use Rattle.kx_message.specs.declared.message.Message.{Message}
-use Rattle.kx_message.specs.declared.message.Message.TheVariants as msg
+use Rattle.kx_message.specs.Messages as the
 use Rattle.kx_message.specs.declared.outcome.Outcome.{Outcome}
 use Rattle.kx_model.specs.Coordinator.{Row, Prepare, coordinator_epoch, epoch_after}
 use Rattle.kx_model.specs.Markers.{Answered, is_answered, markers_in, markers_of, missing_of}
@@ -24,7 +24,7 @@ use Rattle.kx_txnlog.specs.declared.entry.Entry.{Entry}
 
 -- the marker to a partition, as the code makes it
 abbrev pub marker : ℤ → List ℕ → Held → Outcome → ℕ → Message
-marker epoch txn held outcome partition = msg.WriteMarker partition txn held epoch outcome
+marker epoch txn held outcome partition = the.WriteMarker partition txn held epoch outcome
 
 pub markers_are : (epoch : ℤ) (r : Row) (held : Held) (outcome : Outcome)
     → held ≡ own_pair r → r.state ≡ Prepare outcome

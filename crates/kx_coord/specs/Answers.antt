@@ -1,7 +1,7 @@
 -- What the code decides about a request, in the words of the definitions.
 use Rattle.std.specs.Prelude.{◌≡◌, ◌≤◌, ℕ, Bool, true, false, List, Option}
 use Rattle.std.specs.Prelude.{Some, None, MatchOption}
-use Rattle.kx_message.specs.declared.message.Message.TheVariants as msg
+use Rattle.kx_message.specs.Messages as the
 use Rattle.kx_model.specs.Coordinator as model
 use Rattle.kx_model.specs.Coordinator.{Note, State, Empty, Ongoing, Prepare, Complete}
 use Rattle.kx_model.specs.Coordinator.{Written, next_id}
@@ -36,9 +36,9 @@ IsAnswer (answer.Writes entry code held) a =
 
 -- whom a request is answered
 abbrev pub reply_by : ReplyTo → Reply
-reply_by (to.Init client correlation) = msg.InitReply client correlation
-reply_by (to.End client correlation) = msg.EndReply client correlation
-reply_by (to.Add partition txn held) = λ code after. msg.AddReply partition txn held code
+reply_by (to.Init caller) = the.InitReply caller
+reply_by (to.End caller) = the.EndReply caller
+reply_by (to.Add partition txn held) = λ code after. the.AddReply partition txn held code
 
 -- nothing is under way, and no markers are on their way
 abbrev pub is_settled : State → Bool

@@ -5,7 +5,9 @@ ghost use Rattle.kx_model.specs.Requests as model;
 ghost use Rattle.kx_txnlog.specs.Entry.{row_of};
 ghost use Rattle.kx_coord.specs.Answers.{IsAnswer, IsMade, reply_by};
 
-use kx_message::{ClientId, Epoch, ErrorCode, Held, Message, PartitionId, TxnId};
+use kx_message::{
+    AddReply, Caller, EndReply, Epoch, ErrorCode, Held, InitReply, Message, PartitionId, TxnId,
+};
 use kx_txnlog::{Entry, Row};
 
 /// What is done about a request.
@@ -85,15 +87,9 @@ pub(crate) fn writes(made: Option<Row>) -> Answer
 #[derive(Clone, Copy)]
 pub(crate) enum ReplyTo {
     /// A client that asked for an id.
-    Init {
-        client: ClientId,
-        correlation: u32,
-    },
+    Init(Caller),
     /// A client that ended its transaction.
-    End {
-        client: ClientId,
-        correlation: u32,
-    },
+    End(Caller),
     /// A partition that asked to be added to a transaction.
     Add {
         partition: PartitionId,
@@ -108,34 +104,18 @@ impl ReplyTo {
         ensures { result ≡ reply_by self code held }
     {
         match self {
-            ReplyTo::Init {
-                client,
-                correlation,
-            } => Message::InitReply {
-                client,
-                correlation,
-                code,
-                held,
-            },
-            ReplyTo::End {
-                client,
-                correlation,
-            } => Message::EndReply {
-                client,
-                correlation,
-                code,
-                held,
-            },
+            ReplyTo::Init(caller) => Message::InitReply(InitReply { caller, code, held }),
+            ReplyTo::End(caller) => Message::EndReply(EndReply { caller, code, held }),
             ReplyTo::Add {
                 partition,
                 txn,
                 held,
-            } => Message::AddReply {
+            } => Message::AddReply(AddReply {
                 partition,
                 txn,
                 held,
                 code,
-            },
+            }),
         }
     }
 }

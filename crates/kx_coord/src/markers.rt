@@ -6,7 +6,7 @@ ghost use Rattle.kx_txnlog.specs.Entry.{row_of};
 
 use crate::answer::own_pair;
 use crate::noted::NotedMarkers;
-use kx_message::{Message, Raised};
+use kx_message::{Message, Raised, WriteMarker};
 use kx_txnlog::{Row, State};
 use std::alloc::{AllocError, Global};
 
@@ -29,13 +29,13 @@ pub(crate) fn push_markers(
     };
     let held = Raised::try_from(own_pair(row)).unwrap();
     for partition in row.partitions.as_slice() {
-        messages.push(Message::WriteMarker {
+        messages.push(Message::WriteMarker(WriteMarker {
             partition: *partition,
             txn: row.txn,
             held,
             coordinator_epoch: epoch,
             outcome,
-        })?;
+        }))?;
     }
     Ok(())
 }
@@ -63,13 +63,13 @@ pub(crate) fn push_missing(
         if noted.contains(row.txn, &own_pair(row), *partition) {
             continue;
         }
-        messages.push(Message::WriteMarker {
+        messages.push(Message::WriteMarker(WriteMarker {
             partition: *partition,
             txn: row.txn,
             held,
             coordinator_epoch: epoch,
             outcome,
-        })?;
+        }))?;
     }
     Ok(())
 }

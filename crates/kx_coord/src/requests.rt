@@ -4,7 +4,7 @@ ghost use Rattle.kx_model.specs.Coordinator as coordinator;
 ghost use Rattle.kx_model.specs.Markers.{markers_after};
 ghost use Rattle.kx_model.specs.Requests as model;
 ghost use Rattle.kx_txnlog.specs.Entry.{note_of};
-ghost use Rattle.kx_message.specs.declared.message.Message.TheVariants as msg;
+ghost use Rattle.kx_message.specs.Messages as the;
 ghost use Rattle.kx_coord.specs.Answers.{IsAnswer, reply_by};
 ghost use Rattle.kx_coord.specs.Calls.{Hands, Responds};
 
@@ -15,7 +15,9 @@ use crate::end_txn::end_row;
 use crate::init_producer_id::{allot, init_first, init_row};
 use crate::markers::push_markers;
 use kx_log::Store;
-use kx_message::{ClientId, ErrorCode, Held, Message, Outcome, PartitionId, Timeout, TxnId};
+use kx_message::{
+    Caller, ClientId, ErrorCode, Held, Message, Outcome, PartitionId, Timeout, TxnId,
+};
 use kx_txnlog::Entry;
 use std::alloc::AllocError;
 
@@ -142,24 +144,17 @@ impl<S: Store> Coordinator<S> {
     /// Only for want of memory; then the coordinator is as before.
     pub fn init(
         &mut self,
-        client: ClientId,
-        correlation: u32,
+        caller: Caller,
         txn: Option<TxnId>,
         timeout: Timeout,
     ) -> Result<Vec<Message>, AllocError>
         ensures ok { IfOk result (λ handed. Responds self.old self.new
-            (model.init self.old.log.notes client txn timeout)
-            (msg.InitReply client correlation) handed.items) }
+            (model.init self.old.log.notes caller.client txn timeout)
+            (the.InitReply caller) handed.items) }
         ensures err { OnErr result (self.new ≡ self.old) }
     {
-        let answer = self.init_answer(client, txn, timeout)?;
-        self.respond(
-            answer,
-            ReplyTo::Init {
-                client,
-                correlation,
-            },
-        )
+        let answer = self.init_answer(caller.client, txn, timeout)?;
+        self.respond(answer, ReplyTo::Init(caller))
     }
 
     /// A partition asks to be added to the transaction of this id and epoch. Hands out its reply.
@@ -175,7 +170,7 @@ impl<S: Store> Coordinator<S> {
     ) -> Result<Vec<Message>, AllocError>
         ensures ok { IfOk result (λ handed. Responds self.old self.new
             (model.add self.old.log.notes self.old.clock txn held partition)
-            (λ code after. msg.AddReply partition txn held code) handed.items) }
+            (λ code after. the.AddReply partition txn held code) handed.items) }
         ensures err { OnErr result (self.new ≡ self.old) }
     {
         let answer = self.add_answer(txn, &held, partition)?;
@@ -196,24 +191,17 @@ impl<S: Store> Coordinator<S> {
     /// Only for want of memory; then the coordinator is as before.
     pub fn end_txn(
         &mut self,
-        client: ClientId,
-        correlation: u32,
+        caller: Caller,
         txn: TxnId,
         held: Held,
         outcome: Outcome,
     ) -> Result<Vec<Message>, AllocError>
         ensures ok { IfOk result (λ handed. Responds self.old self.new
             (model.end_txn self.old.log.notes txn held outcome)
-            (msg.EndReply client correlation) handed.items) }
+            (the.EndReply caller) handed.items) }
         ensures err { OnErr result (self.new ≡ self.old) }
     {
         let answer = self.end_answer(txn, &held, outcome)?;
-        self.respond(
-            answer,
-            ReplyTo::End {
-                client,
-                correlation,
-            },
-        )
+        self.respond(answer, ReplyTo::End(caller))
     }
 }

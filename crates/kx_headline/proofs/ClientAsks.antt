@@ -5,10 +5,12 @@ use Rattle.std.proofs.Common.{inl, inr, ⊎_elim}
 use Rattle.std.specs.List.{list_any}
 use Rattle.std.proofs.lemmas.List.Elements.{All-contains, All-push, Contains-append_left}
 use Rattle.std.proofs.lemmas.List.Elements.{Contains-push, Contains-push_cases}
+use Rattle.kx_message.specs.Messages.{caller_with}
 use Rattle.kx_message.specs.declared.code.ErrorCode.TheVariants.{NoError}
 use Rattle.kx_message.specs.declared.message.Held.{Held}
 use Rattle.kx_message.specs.declared.message.Message.{Message}
 use Rattle.kx_message.specs.declared.message.Message.TheVariants as msg
+use Rattle.kx_message.specs.Messages as the
 use Rattle.kx_message.specs.declared.outcome.Outcome.{Outcome}
 use Rattle.kx_message.specs.declared.outcome.Outcome.TheVariants.{Commit}
 use Rattle.kx_model.specs.Client.{Client, is_end, is_init, sequence_of}
@@ -25,12 +27,12 @@ use Rattle.kx_laws.proofs.Membership.{any_holds, any_keeps, no_element}
 pub answered_later : (sent later : List Message)
     → ((x : Message) → Contains sent x → Contains later x) → (m : Message) → Answered sent m
     → Answered later m
-answered_later sent later up (msg.Produce client correlation txn partition text) a =
-    (a.0, a.1, up (msg.ProduceReply client correlation a.0 NoError a.1) a.2)
+answered_later sent later up (msg.Produce it) a =
+    (a.0, a.1, up (the.ProduceReply it.caller a.0 NoError a.1) a.2)
 answered_later sent later up
-    (msg.TxnOffsetCommit client correlation txn group member generation held first offsets) a
+    (msg.TxnOffsetCommit it) a
     =
-    up (msg.OffsetsReply client correlation NoError) a
+    up (the.OffsetsReply it.caller NoError) a
 answered_later sent later up other a = absurd a
 
 module _ (sent later : List Message) (c : Client)
@@ -45,7 +47,8 @@ module _ (sent later : List Message) (c : Client)
     txn = h.txn;
     held = h.held;
     outcome = h.outcome;
-    there = back (msg.EndTxn c.number h.correlation h.txn h.held h.outcome) (h.there, refl);
+    there = back (the.EndTxn (caller_with c.number h.correlation) h.txn h.held h.outcome)
+        (h.there, refl);
     present = h.present;
   }
 
@@ -55,7 +58,7 @@ module _ (sent later : List Message) (c : Client)
     txn = h.txn;
     held = h.held;
     outcome = h.outcome;
-    there = up (msg.EndTxn c.number h.correlation h.txn h.held h.outcome) h.there;
+    there = up (the.EndTxn (caller_with c.number h.correlation) h.txn h.held h.outcome) h.there;
     present = h.present;
   }
 
@@ -71,7 +74,7 @@ module _ (sent later : List Message) (c : Client)
     within = λ m l a. k.within m l (its_before m a);
     ends_within = λ i txn held outcome there.
         k.ends_within i txn held outcome
-        (back (msg.EndTxn c.number i txn held outcome) (there, refl));
+        (back (the.EndTxn (caller_with c.number i) txn held outcome) (there, refl));
     behind = λ m l a. k.behind m l (its_before m a);
     once = λ m n l j a b. k.once m n l j (its_before m a) (its_before n b);
     waiting = All-from_contains (IsAwaited later c) c.waiting
@@ -88,7 +91,7 @@ module _ (sent later : List Message) (c : Client)
     committed = λ i txn held there m l its carries same.
         answered_later sent later up m
         (k.committed i txn held
-        (back (msg.EndTxn c.number i txn held Commit) (there, refl)) m l
+        (back (the.EndTxn (caller_with c.number i) txn held Commit) (there, refl)) m l
         (its_before m its) carries same);
   }
 
@@ -100,28 +103,29 @@ up_to_itself held = same_id refl (omega arith)
 -- an EndTxn of this client, by its test
 pub data IsEndTxn (client : ℕ) : Message → Type 0 where
   it_ends : (k : ℕ) (txn : List ℕ) (held : Held) (outcome : Outcome)
-      → IsEndTxn client (msg.EndTxn client k txn held outcome)
+      → IsEndTxn client (the.EndTxn (caller_with client k) txn held outcome)
 
 pub end_is : (client : ℕ) (m : Message) → is_end m ≡ true → sender m ≡ Some client
     → IsEndTxn client m
-end_is client (msg.EndTxn n k txn held outcome) e s =
-    let same : n ≡ client = cc in
-    subst (λ x. IsEndTxn client (msg.EndTxn x k txn held outcome)) (sym same)
-    (it_ends k txn held outcome)
+end_is client (msg.EndTxn it) e s =
+    let same : it.caller.client ≡ client = cc in
+    subst (λ x. IsEndTxn client
+    (the.EndTxn (caller_with x it.caller.correlation) it.txn it.held it.outcome)) (sym same)
+    (it_ends it.caller.correlation it.txn it.held it.outcome)
 end_is client m e s = absurd cc
 
 pub is_a_batch : (m : Message) (l : Load) → Carries m l → is_batch m ≡ true
-is_a_batch m l (with_batch client correlation txn partition transactional held first records a b) =
+is_a_batch m l (with_batch caller txn partition transactional held first records a b) =
     refl
 is_a_batch m l
-    (with_offsets client correlation txn group member generation held first offsets a b)
+    (with_offsets caller txn group member generation held first offsets a b)
     =
     refl
 
 pub no_end : (m : Message) (l : Load) → Carries m l → is_end m ≡ true → ⊥
-no_end m l (with_batch client correlation txn partition transactional held first records a b) e =
+no_end m l (with_batch caller txn partition transactional held first records a b) e =
     cc
-no_end m l (with_offsets client correlation txn group member generation held first offsets a b) e =
+no_end m l (with_offsets caller txn group member generation held first offsets a b) e =
     cc
 
 -- given all messages, of a client that hands out one more: what it is in between, and the request
@@ -151,7 +155,7 @@ module _ (sent : List Message) (c : Client) (k : Knows sent c) (b : Client) (m :
     pub batch : is_batch m ≡ true → (is_end m ≡ false) × (list_any is_end c.waiting ≡ false)
     pub offsets : is_offsets m ≡ true → c.in_transaction ≡ true
     pub ending : (i : ℕ) (txn : List ℕ) (held : Held) (outcome : Outcome)
-        → m ≡ msg.EndTxn c.number i txn held outcome
+        → m ≡ the.EndTxn (caller_with c.number i) txn held outcome
         → (c.held ≡ Some held) × (b.waiting ≡ []) × (outcome ≡ Commit → (x : Message) (l : Load)
         → IsIts sent c x → Carries x l → l.held ≡ held → Answered sent x)
     pub init : is_init m ≡ true → (c.held ≡ None) × (list_any is_init c.waiting ≡ false)
@@ -174,13 +178,13 @@ module _ (sent : List Message) (c : Client) (k : Knows sent c) (b : Client) (m :
       (Contains-push_cases sent m x its.0)
 
   ends_before : (i : ℕ) (txn : List ℕ) (held : Held) (outcome : Outcome)
-      → Contains later' (msg.EndTxn b.number i txn held outcome)
-      → Contains sent (msg.EndTxn c.number i txn held outcome)
-      ⊎ (m ≡ msg.EndTxn c.number i txn held outcome)
+      → Contains later' (the.EndTxn (caller_with b.number i) txn held outcome)
+      → Contains sent (the.EndTxn (caller_with c.number i) txn held outcome)
+      ⊎ (m ≡ the.EndTxn (caller_with c.number i) txn held outcome)
   ends_before i txn held outcome there =
-      let same = ap (λ n. msg.EndTxn n i txn held outcome) asks.number in
+      let same = ap (λ n. the.EndTxn (caller_with n i) txn held outcome) asks.number in
       ⊎_elim (λ old. inl (subst (Contains sent) same old)) (λ e. inr (e ∙ same))
-      (Contains-push_cases sent m (msg.EndTxn b.number i txn held outcome) there)
+      (Contains-push_cases sent m (the.EndTxn (caller_with b.number i) txn held outcome) there)
 
   an_end : (x : Message) → Contains c.waiting x → is_end x ≡ true
       → list_any is_end c.waiting ≡ true
@@ -191,7 +195,7 @@ module _ (sent : List Message) (c : Client) (k : Knows sent c) (b : Client) (m :
   no_end_waits batch e = let none = (asks.batch batch).1 in absurd (cc)
 
   ended_old : (i : ℕ) (txn : List ℕ) (held : Held) (outcome : Outcome)
-      → Contains sent (msg.EndTxn c.number i txn held outcome) → c.held ≡ Some held
+      → Contains sent (the.EndTxn (caller_with c.number i) txn held outcome) → c.held ≡ Some held
       → list_any is_end c.waiting ≡ true
   ended_old i txn held outcome there e =
       k.ended asks.works (record {
@@ -240,7 +244,8 @@ module _ (sent : List Message) (c : Client) (k : Knows sent c) (b : Client) (m :
       (λ new. at_top l.held (asks.load l (of_new x l new carries)).0) (old_or_new x its)
 
   ends_within : (i : ℕ) (txn : List ℕ) (held : Held) (outcome : Outcome)
-      → Contains later' (msg.EndTxn b.number i txn held outcome) → IsWithin held b.held
+      → Contains later' (the.EndTxn (caller_with b.number i) txn held outcome)
+      → IsWithin held b.held
   ends_within i txn held outcome there =
       ⊎_elim
       (λ old. subst (IsWithin held) (sym asks.held) (k.ends_within i txn held outcome old))
@@ -286,7 +291,7 @@ module _ (sent : List Message) (c : Client) (k : Knows sent c) (b : Client) (m :
     load = λ l carries. asks.held ∙ a.load l carries;
     ends = λ i txn held outcome e.
         asks.held ∙ a.ends i txn held outcome
-        (e ∙ ap (λ n. msg.EndTxn n i txn held outcome) asks.number);
+        (e ∙ ap (λ n. the.EndTxn (caller_with n i) txn held outcome) asks.number);
   }
 
   awaited_now : IsAwaited later' after' m
@@ -295,7 +300,7 @@ module _ (sent : List Message) (c : Client) (k : Knows sent c) (b : Client) (m :
     load = λ l carries. asks.held ∙ (asks.load l carries).0;
     ends = λ i txn held outcome e.
         asks.held ∙ (asks.ending i txn held outcome
-        (e ∙ ap (λ n. msg.EndTxn n i txn held outcome) asks.number)).0;
+        (e ∙ ap (λ n. the.EndTxn (caller_with n i) txn held outcome) asks.number)).0;
   }
 
   waiting : All (IsAwaited later' after') after'.waiting
@@ -389,7 +394,7 @@ module _ (sent : List Message) (c : Client) (k : Knows sent c) (b : Client) (m :
         held = held;
         outcome = outcome;
         there = subst (Contains later')
-            (same ∙ ap (λ n. msg.EndTxn n i txn held outcome) (sym asks.number))
+            (same ∙ ap (λ n. the.EndTxn (caller_with n i) txn held outcome) (sym asks.number))
             (Contains-push sent m);
         present = asks.held ∙ (asks.ending i txn held outcome same).0;
       }
@@ -400,9 +405,10 @@ module _ (sent : List Message) (c : Client) (k : Knows sent c) (b : Client) (m :
     txn = h.txn;
     held = h.held;
     outcome = h.outcome;
-    there = subst (λ n. Contains later' (msg.EndTxn n h.correlation h.txn h.held h.outcome))
+    there = subst (λ n. Contains later'
+        (the.EndTxn (caller_with n h.correlation) h.txn h.held h.outcome))
         (sym asks.number)
-        (up (msg.EndTxn c.number h.correlation h.txn h.held h.outcome) h.there);
+        (up (the.EndTxn (caller_with c.number h.correlation) h.txn h.held h.outcome) h.there);
     present = asks.held ∙ h.present;
   }
 
@@ -441,13 +447,14 @@ module _ (sent : List Message) (c : Client) (k : Knows sent c) (b : Client) (m :
       (ends_before h.correlation h.txn h.held h.outcome h.there)
 
   committed : (i : ℕ) (txn : List ℕ) (held : Held)
-      → Contains later' (msg.EndTxn b.number i txn held Commit) → (x : Message) (l : Load)
+      → Contains later' (the.EndTxn (caller_with b.number i) txn held Commit)
+      → (x : Message) (l : Load)
       → IsIts later' after' x → Carries x l → l.held ≡ held → Answered later' x
   committed i txn held there x l its carries same =
       by (ends_before i txn held Commit there) (old_or_new x its)
     where
-      by : Contains sent (msg.EndTxn c.number i txn held Commit)
-          ⊎ (m ≡ msg.EndTxn c.number i txn held Commit)
+      by : Contains sent (the.EndTxn (caller_with c.number i) txn held Commit)
+          ⊎ (m ≡ the.EndTxn (caller_with c.number i) txn held Commit)
           → IsIts sent c x ⊎ (m ≡ x) → Answered later' x
       by (inl p) (inl q) =
           answered_later sent later' up x (k.committed i txn held p x l q carries same)

@@ -8,10 +8,12 @@ use Rattle.std.proofs.lemmas.Bool.{cond_both, or_parts}
 use Rattle.std.proofs.lemmas.Bool.Decides.{nat_tests}
 use Rattle.std.proofs.lemmas.List.Elements.{All-contains, All-nil, Contains-append_cases}
 use Rattle.std.proofs.lemmas.List.Elements.{Contains-append_left, Contains-push_cases}
+use Rattle.kx_model.specs.Client.{caller_of}
 use Rattle.kx_message.specs.Ranges.{offsets_partition}
 use Rattle.kx_message.specs.declared.message.Held.{Held}
 use Rattle.kx_message.specs.declared.message.Message.{Message}
 use Rattle.kx_message.specs.declared.message.Message.TheVariants as msg
+use Rattle.kx_message.specs.Messages as the
 use Rattle.kx_message.specs.declared.outcome.Outcome.{Outcome}
 use Rattle.kx_message.specs.declared.outcome.Outcome.TheVariants.{Abort, Commit}
 use Rattle.kx_message.specs.declared.payload.PartitionOffset.{PartitionOffset}
@@ -22,6 +24,7 @@ use Rattle.kx_model.specs.Client.{asks, client_batch, command, does, is_end, is_
 use Rattle.kx_model.specs.Client.{leaves, refusals, sending, sends, sends_end, sends_offsets}
 use Rattle.kx_model.specs.Client.{sequence_of, unless, value_records, with_sequence}
 use Rattle.kx_model.specs.Replies.{correlation_of}
+use Rattle.kx_headline.proofs.Codes.{end_of}
 use Rattle.kx_headline.proofs.ClientAsks as ask
 use Rattle.kx_headline.proofs.ClientAsks.{Asks, asked, knows_later}
 use Rattle.kx_headline.proofs.ClientRequests.{Answered, Carries, HasEnded, HeldFits}
@@ -111,14 +114,12 @@ sequence_now ss p n =
 
 -- a message that goes out carries no batch, or one of the pair that its client holds
 abbrev pub Makes : Client → Message → Type 0
-Makes c (msg.Produce client correlation txn partition text) =
-    (l : Load) × Carries (msg.Produce client correlation txn partition text) l
+Makes c (msg.Produce it) =
+    (l : Load) × Carries (msg.Produce it) l
     × (c.held ≡ Some l.held)
-Makes c
-    (msg.TxnOffsetCommit client correlation txn group member generation held first offsets)
-    =
+Makes c (msg.TxnOffsetCommit it) =
     (l : Load) × Carries
-    (msg.TxnOffsetCommit client correlation txn group member generation held first offsets) l
+    (msg.TxnOffsetCommit it) l
     × (c.held ≡ Some l.held)
 Makes c m = Unit {0}
 
@@ -260,14 +261,14 @@ module _ (sent : List Message) (c : Client) (k : Knows sent c)
   sends_goes partition value more (Some held) there passed =
       let records = value_records (value ∷ more) in
       let first = sequence_of c.sequences partition in
-      let m = msg.Produce c.number c.correlation c.txn partition
+      let m = the.Produce (caller_of c) c.txn partition
       (client_batch (is_some c.txn) held first records) in
       let ready = or_parts (is_none c.held || is_ending c) _ passed.1.0 in
       let none = (or_parts (is_none c.held) (is_ending c) ready.0).1 in
       let used = (or_parts _ (nat_lt (2147483647 + 1) (first + length (value ∷ more)))
       passed.1.1.1.1.0).1 in
       let low : first < 2147483648 = grind (arith, nat_tests) in
-      let carries = with_batch c.number c.correlation c.txn partition (is_some c.txn) held first
+      let carries = with_batch (caller_of c) c.txn partition (is_some c.txn) held first
       records (fits held there) low in
       asks_goes (sending c partition (length records)) m
       (carrying partition (length records) m held there passed.0 none (omega arith) refl refl
@@ -283,7 +284,7 @@ module _ (sent : List Message) (c : Client) (k : Knows sent c)
   offsets_go offset more (Some txn) (Some held) None there passed = declined _
   offsets_go offset more (Some txn) (Some held) (Some place) there passed =
       let first = sequence_of c.sequences offsets_partition in
-      let m = msg.TxnOffsetCommit c.number c.correlation txn place.group c.number place.generation
+      let m = the.TxnOffsetCommit (caller_of c) txn place.group c.number place.generation
       held (pos first) (offset ∷ more) in
       let ready = or_parts (not c.in_transaction || is_none c.held || is_ending c) _
       passed.1.1.0 in
@@ -293,7 +294,7 @@ module _ (sent : List Message) (c : Client) (k : Knows sent c)
       let used = (or_parts _ (nat_lt (2147483647 + 1) (first + length (offset ∷ more)))
       passed.1.1.1.1.1.0).1 in
       let low : first < 2147483648 = grind (arith, nat_tests) in
-      let carries = with_offsets c.number c.correlation txn place.group c.number place.generation
+      let carries = with_offsets (caller_of c) txn place.group c.number place.generation
       held first (offset ∷ more) (fits held there) low in
       asks_goes (sending c offsets_partition (length (offset ∷ more))) m
       (carrying offsets_partition (length (offset ∷ more)) m held there passed.0 inside.1
@@ -311,7 +312,7 @@ module _ (sent : List Message) (c : Client) (k : Knows sent c)
       → b.sequences ≡ c.sequences → b.waiting ≡ [] → c.failed ≡ false
       → (outcome ≡ Commit → (x : Message) (l : Load) → IsIts sent c x → Carries x l
       → l.held ≡ held → Answered sent x)
-      → Asks sent c k b (msg.EndTxn c.number c.correlation txn held outcome)
+      → Asks sent c k b (the.EndTxn (caller_of c) txn held outcome)
   ending b txn held outcome there number same correlation aborting inside sequences empty works
       answered = record {
         number = number;
@@ -326,12 +327,18 @@ module _ (sent : List Message) (c : Client) (k : Knows sent c)
         waiting = λ x w. absurd (no_element x (subst (λ l. Contains l x) empty w));
         kept = inr refl;
         load = λ l carries. absurd (ask.no_end
-            (msg.EndTxn c.number c.correlation txn held outcome) l carries refl);
+            (the.EndTxn (caller_of c) txn held outcome) l carries refl);
         batch = λ e. absurd cc;
         offsets = λ e. absurd cc;
         ending = λ i t h o e.
-            let pair : held ≡ h = cc in
-            let so : outcome ≡ o = cc in (
+            let it = ap (end_of (record {
+              caller = caller_of c;
+              txn = txn;
+              held = held;
+              outcome = outcome;
+            })) e in
+            let pair : held ≡ h = ap (λ x. x.held) it in
+            let so : outcome ≡ o = ap (λ x. x.outcome) it in (
               there ∙ ap Some pair,
               empty,
               λ commit x l its carries eq. answered (so ∙ commit) x l its carries (eq ∙ sym pair),
@@ -355,7 +362,7 @@ module _ (sent : List Message) (c : Client) (k : Knows sent c)
   ends_go Abort None held there passed = declined _
   ends_go Abort (Some txn) None there passed = declined _
   ends_go Abort (Some txn) (Some held) there passed =
-      asks_goes (record c { waiting = [] }) (msg.EndTxn c.number c.correlation txn held Abort)
+      asks_goes (record c { waiting = [] }) (the.EndTxn (caller_of c) txn held Abort)
       (ending (record c { waiting = [] }) txn held Abort there refl refl refl refl refl refl refl
       passed.0 (λ e. absurd cc)) tt
   ends_go Commit (Some txn) (Some held) there passed =
@@ -363,9 +370,9 @@ module _ (sent : List Message) (c : Client) (k : Knows sent c)
       passed.1.1.0).1 in
       let going : c.must_abort ≡ false = passed.1.1.1.0 in
       let empty = nothing_waits c.waiting passed.1.1.1.1.0 in
-      cond_both c.sent_some (asks c (msg.EndTxn c.number c.correlation txn held Commit))
+      cond_both c.sent_some (asks c (the.EndTxn (caller_of c) txn held Commit))
       (Does (record c { in_transaction = false }) []) (Goes sent c)
-      (λ e. asks_goes c (msg.EndTxn c.number c.correlation txn held Commit)
+      (λ e. asks_goes c (the.EndTxn (caller_of c) txn held Commit)
       (ending c txn held Commit there refl refl refl refl refl refl empty passed.0
       (λ commit. all_answered held there passed.0 going none empty)) tt)
       (λ e. quietly (record c { in_transaction = false }) refl (record {
@@ -411,8 +418,8 @@ module _ (sent : List Message) (c : Client) (k : Knows sent c)
   leaves_go : (place : Option Place) → Passed (refusals c LeaveGroup) → Goes sent c (leaves c place)
   leaves_go None passed = declined _
   leaves_go (Some place) passed =
-      asks_goes c (msg.Leave c.number c.correlation place.group)
-      (plain c (msg.Leave c.number c.correlation place.group) refl refl refl passed.0 refl refl
+      asks_goes c (the.Leave (caller_of c) place.group)
+      (plain c (the.Leave (caller_of c) place.group) refl refl refl passed.0 refl refl
       refl refl refl refl (λ l carries. elim carries [ ]) refl refl refl (λ e. absurd cc)) tt
 
   none_held : (o : Option Held) → is_some o ≡ false → o ≡ None
@@ -468,7 +475,7 @@ module _ (sent : List Message) (c : Client) (k : Knows sent c)
   does_goes : (what : Command) → Passed (refusals c what) → Goes sent c (does c what)
   does_goes Init passed =
       let none = (or_parts (is_some c.held) (is_ending c) passed.1.0).0 in
-      let m = msg.InitProducerId c.number c.correlation c.txn c.timeout in
+      let m = the.InitProducerId (caller_of c) c.txn c.timeout in
       cond_both (list_any is_init c.waiting) (Does c (filter is_init c.waiting)) (asks c m)
       (Goes sent c)
       (λ e. repeats (filter is_init c.waiting)
@@ -479,7 +486,7 @@ module _ (sent : List Message) (c : Client) (k : Knows sent c)
   does_goes (Send partition value more) passed =
       sends_goes partition value more c.held refl passed
   does_goes (JoinGroup group) passed =
-      let m = msg.Join c.number c.correlation group in
+      let m = the.Join (caller_of c) group in
       asks_goes (record c { group = Some group }) m
       (plain (record c { group = Some group }) m refl refl refl passed.0 refl refl refl refl refl
       refl (λ l carries. elim carries [ ]) refl refl refl (λ e. absurd cc)) tt

@@ -8,12 +8,15 @@ use Rattle.std.specs.List.{list_any}
 use Rattle.std.proofs.lemmas.Bool.{and_parts, cond_both}
 use Rattle.std.proofs.lemmas.Bool.Decides.{nat_tests}
 use Rattle.std.proofs.lemmas.List.Elements.{All-cons, All-filter, All-nil, All-push, All-weaker}
+use Rattle.kx_message.specs.Messages.{caller_with}
+use Rattle.kx_model.specs.Client.{caller_of}
 use Rattle.kx_message.specs.Receiver.{receiver_of}
 use Rattle.kx_message.specs.declared.code.ErrorCode.{ErrorCode}
 use Rattle.kx_message.specs.declared.code.ErrorCode.TheVariants as code
 use Rattle.kx_message.specs.declared.message.Held.{Held}
 use Rattle.kx_message.specs.declared.message.Message.{Message}
 use Rattle.kx_message.specs.declared.message.Message.TheVariants as msg
+use Rattle.kx_message.specs.Messages as the
 use Rattle.kx_message.specs.declared.message.Node.{Node}
 use Rattle.kx_message.specs.declared.message.Node.TheVariants as node
 use Rattle.kx_message.specs.declared.outcome.Outcome.{Outcome}
@@ -49,15 +52,15 @@ awaited_here c m e =
 -- a reply of code 0 gave the client this id and epoch
 pub data Handed (sent : List Message) (client : ℕ) (held : Held) : Type 0 where
   by_init : (correlation : ℕ)
-      → Contains sent (msg.InitReply client correlation code.NoError (Some held))
+      → Contains sent (the.InitReply (caller_with client correlation) code.NoError (Some held))
       → Handed sent client held
   by_end : (correlation : ℕ)
-      → Contains sent (msg.EndReply client correlation code.NoError (Some held))
+      → Contains sent (the.EndReply (caller_with client correlation) code.NoError (Some held))
       → Handed sent client held
 
 -- an EndTxn is of a pair that its client was handed
 abbrev pub IsEntitled : List Message → Message → Type 0
-IsEntitled sent (msg.EndTxn client correlation txn held outcome) = Handed sent client held
+IsEntitled sent (msg.EndTxn it) = Handed sent it.caller.client it.held
 IsEntitled sent m = ⊤
 
 pub record HoldsOwn (sent : List Message) (c : Client) : Type 0 where
@@ -75,7 +78,7 @@ handed_later up (by_end k c) = by_end k (up _ c)
 pub entitled_later : (sent later : List Message)
     → ((m : Message) → Contains sent m → Contains later m) → (m : Message)
     → IsEntitled sent m → IsEntitled later m
-entitled_later sent later up (msg.EndTxn client correlation txn held outcome) h =
+entitled_later sent later up (msg.EndTxn it) h =
     handed_later up h
 entitled_later sent later up m h = tt
 
@@ -126,7 +129,7 @@ module _ (sent : List Message) (c : Client) (own : HoldsOwn sent c) where
   end_goes : (outcome : Outcome) (txn : Option (List ℕ)) (held : Option Held)
       → IfSome held (Handed sent c.number) → Goes (sends_end c outcome txn held)
   end_goes Commit (Some txn) (Some held) h =
-      cond_both c.sent_some (asks c (msg.EndTxn c.number c.correlation txn held Commit))
+      cond_both c.sent_some (asks c (the.EndTxn (caller_of c) txn held Commit))
       (Does (record c { in_transaction = false }) []) Goes
       (λ e. asking c _ refl refl own.waiting h) (λ e. quietly _ refl refl own.waiting)
   end_goes Abort (Some txn) (Some held) h =
@@ -232,42 +235,48 @@ module _ (sent : List Message) (c : Client) (own : HoldsOwn sent c) where
       done_code code.ProducerFenced e = absurd cc
 
       init_handed : (client k : ℕ) (x : ErrorCode) (held : Option Held) → client ≡ c.number
-          → Contains sent (msg.InitReply client k x held) → x ≡ code.NoError
+          → Contains sent (the.InitReply (caller_with client k) x held) → x ≡ code.NoError
           → IfSome held (Handed sent c.number)
       init_handed client k x None n m e = tt
       init_handed client k x (Some held) n m e =
-          by_init k (subst (λ y. Contains sent (msg.InitReply c.number k y (Some held))) e
-          (subst (λ y. Contains sent (msg.InitReply y k x (Some held))) n m))
+          by_init k (subst (λ y. Contains sent
+          (the.InitReply (caller_with c.number k) y (Some held))) e
+          (subst (λ y. Contains sent (the.InitReply (caller_with y k) x (Some held))) n m))
 
       end_handed : (client k : ℕ) (x : ErrorCode) (held : Option Held) → client ≡ c.number
-          → Contains sent (msg.EndReply client k x held) → x ≡ code.NoError
+          → Contains sent (the.EndReply (caller_with client k) x held) → x ≡ code.NoError
           → IfSome held (Handed sent c.number)
       end_handed client k x None n m e = tt
       end_handed client k x (Some held) n m e =
-          by_end k (subst (λ y. Contains sent (msg.EndReply c.number k y (Some held))) e
-          (subst (λ y. Contains sent (msg.EndReply y k x (Some held))) n m))
+          by_end k (subst (λ y. Contains sent
+          (the.EndReply (caller_with c.number k) y (Some held))) e
+          (subst (λ y. Contains sent (the.EndReply (caller_with y k) x (Some held))) n m))
 
       told_own : (m : Message) → Contains sent m → receiver_of m ≡ node.Client c.number
           → IsOwn (told c answered m)
-      told_own (msg.InitReply client k x held) m to =
-          let n : client ≡ c.number = cc in
-          learns_own (meaning x) (holding answered held)
-          (λ e. holding_own held (init_handed client k x held n m (done_code x e)))
-      told_own (msg.EndReply client k x held) m to =
-          let n : client ≡ c.number = cc in
-          learns_own (meaning x)
-          (record (holding answered held) { in_transaction = false; must_abort = false })
-          (λ e. let h = holding_own held (end_handed client k x held n m (done_code x e)) in
+      told_own (msg.InitReply it) m to =
+          let n : it.caller.client ≡ c.number = cc in
+          learns_own (meaning it.code) (holding answered it.held)
+          (λ e. holding_own it.held
+          (init_handed it.caller.client it.caller.correlation it.code it.held n m
+          (done_code it.code e)))
+      told_own (msg.EndReply it) m to =
+          let n : it.caller.client ≡ c.number = cc in
+          learns_own (meaning it.code)
+          (record (holding answered it.held) { in_transaction = false; must_abort = false })
+          (λ e. let h = holding_own it.held
+          (end_handed it.caller.client it.caller.correlation it.code it.held n m
+          (done_code it.code e)) in
           (record { held = h.0.held; waiting = h.0.waiting }, h.1))
-      told_own (msg.ProduceReply client k partition x offset) m to =
-          learns_own (meaning x) answered (λ e. (holds, same))
-      told_own (msg.JoinReply client k x generation number count) m to =
-          learns_own (meaning x) _
+      told_own (msg.ProduceReply it) m to =
+          learns_own (meaning it.code) answered (λ e. (holds, same))
+      told_own (msg.JoinReply it) m to =
+          learns_own (meaning it.code) _
           (λ e. (record { held = holds.held; waiting = holds.waiting }, same))
-      told_own (msg.LeaveReply client k x) m to =
-          learns_own (meaning x) answered (λ e. (holds, same))
-      told_own (msg.OffsetsReply client k x) m to =
-          learns_own (offsets_meaning x) answered (λ e. (holds, same))
+      told_own (msg.LeaveReply it) m to =
+          learns_own (meaning it.code) answered (λ e. (holds, same))
+      told_own (msg.OffsetsReply it) m to =
+          learns_own (offsets_meaning it.code) answered (λ e. (holds, same))
       told_own other m to = (own, refl)
 
   pub reply_holds : (m : Message) → Contains sent m

@@ -6,6 +6,8 @@ use Rattle.std.specs.List.{list_any}
 use Rattle.std.proofs.lemmas.Bool.{and_parts, cond_both}
 use Rattle.std.proofs.lemmas.Bool.Decides.{nat_tests}
 use Rattle.std.proofs.lemmas.List.Elements.{All-contains}
+use Rattle.kx_message.specs.declared.requests.Caller.{Caller}
+use Rattle.kx_message.specs.Messages.{caller_with}
 use Rattle.kx_message.specs.Fields.{kind_of}
 use Rattle.kx_message.specs.Receiver.{receiver_of}
 use Rattle.kx_message.specs.declared.code.ErrorCode.{ErrorCode}
@@ -13,6 +15,7 @@ use Rattle.kx_message.specs.declared.code.ErrorCode.TheVariants as code
 use Rattle.kx_message.specs.declared.message.Held.{Held}
 use Rattle.kx_message.specs.declared.message.Message.{Message}
 use Rattle.kx_message.specs.declared.message.Message.TheVariants as msg
+use Rattle.kx_message.specs.Messages as the
 use Rattle.kx_message.specs.declared.message.Node.TheVariants as node
 use Rattle.kx_message.specs.declared.outcome.Outcome.{Outcome}
 use Rattle.kx_model.specs.Client.{Client, Place, is_end, is_init}
@@ -57,37 +60,37 @@ answers_kind m x e =
     )
 
 batch_kind : (x : Message) → is_batch x ≡ true → (kind_of x ≡ 5) ⊎ (kind_of x ≡ 17)
-batch_kind (msg.Produce client correlation txn partition text) e = inl refl
+batch_kind (msg.Produce it) e = inl refl
 batch_kind
-    (msg.TxnOffsetCommit client correlation txn group member generation held first offsets) e
+    (msg.TxnOffsetCommit it) e
     =
     inr refl
 batch_kind other e = absurd cc
 
 end_kind : (x : Message) → is_end x ≡ true → kind_of x ≡ 3
-end_kind (msg.EndTxn client correlation txn held outcome) e = refl
+end_kind (msg.EndTxn it) e = refl
 end_kind other e = absurd cc
 
 offsets_kind : (x : Message) → is_offsets x ≡ true → kind_of x ≡ 17
 offsets_kind
-    (msg.TxnOffsetCommit client correlation txn group member generation held first offsets) e
+    (msg.TxnOffsetCommit it) e
     =
     refl
 offsets_kind other e = absurd cc
 
 kind_offsets : (x : Message) → kind_of x ≡ 17 → is_offsets x ≡ true
 kind_offsets
-    (msg.TxnOffsetCommit client correlation txn group member generation held first offsets) e
+    (msg.TxnOffsetCommit it) e
     =
     refl
 kind_offsets other e = absurd (omega (arith, e))
 
 kind_end : (x : Message) → kind_of x ≡ 3 → is_end x ≡ true
-kind_end (msg.EndTxn client correlation txn held outcome) e = refl
+kind_end (msg.EndTxn it) e = refl
 kind_end other e = absurd (omega (arith, e))
 
 kind_init : (x : Message) → kind_of x ≡ 1 → is_init x ≡ true
-kind_init (msg.InitProducerId client correlation txn timeout) e = refl
+kind_init (msg.InitProducerId it) e = refl
 kind_init other e = absurd (omega (arith, e))
 
 ------ a client that waits for less
@@ -252,7 +255,7 @@ pub record Raises (sent : List Message) (client correlation : ℕ) (held : Optio
   pub txn : List ℕ
   pub ending : Held
   pub outcome : Outcome
-  pub asked : Contains sent (msg.EndTxn client correlation txn ending outcome)
+  pub asked : Contains sent (the.EndTxn (caller_with client correlation) txn ending outcome)
   pub below : IsBelow ending given
 
 up_to_below : (a b c : Held) → IsUpTo a b → IsBelow b c → IsUpTo a c
@@ -323,7 +326,8 @@ module _ (sent : List Message) (c : Client) (k : Knows sent c) (m : Message) whe
 
   -- the pair after a transaction that ended
   module _ (correlation : ℕ) (held : Option Held) (kind : kind_of m ≡ 4)
-      (number : correlation_of m ≡ correlation) (awaited : list_any (is_answer_to m) c.waiting ≡ true)
+      (number : correlation_of m ≡ correlation)
+      (awaited : list_any (is_answer_to m) c.waiting ≡ true)
       (raises : Raises sent c.number correlation held) where
     abbrev next : Held
     next = raises.given
@@ -348,7 +352,8 @@ module _ (sent : List Message) (c : Client) (k : Knows sent c) (m : Message) whe
         let p = answers_kind m x is in
         let ends = kind_end x (omega (arith, kind, p.0)) in
         let a = All-contains (IsAwaited sent c) c.waiting x k.waiting there in
-        let asked = msg.EndTxn c.number correlation raises.txn raises.ending raises.outcome in
+        let caller = caller_with c.number correlation in
+        let asked = the.EndTxn caller raises.txn raises.ending raises.outcome in
         let same = k.distinct x asked a.its (raises.asked, refl) (sym p.1 ∙ number) in
         record {
           request = x;
@@ -379,7 +384,7 @@ module _ (sent : List Message) (c : Client) (k : Knows sent c) (m : Message) whe
 
     is_offsets_batch : (y : Message) → is_offsets y ≡ true → is_batch y ≡ true
     is_offsets_batch
-        (msg.TxnOffsetCommit client k txn group member generation held first offsets) e
+        (msg.TxnOffsetCommit it) e
         =
         refl
     is_offsets_batch other e = absurd cc
@@ -422,47 +427,45 @@ module _ (sent : List Message) (c : Client) (k : Knows sent c) (m : Message) whe
 
 module _ (sent : List Message) (c : Client) (k : Knows sent c)
     (raised : (i : ℕ) (held : Option Held)
-    → Contains sent (msg.EndReply c.number i code.NoError held) → Raises sent c.number i held) where
+    → Contains sent (the.EndReply (caller_with c.number i) code.NoError held)
+    → Raises sent c.number i held) where
   -- the request of this client that is answered with code 0
   produce_answered : (client i p : ℕ) (offset : ℤ) → client ≡ c.number
-      → Contains sent (msg.ProduceReply client i p code.NoError offset) → (x : Message)
+      → Contains sent (the.ProduceReply (caller_with client i) p code.NoError offset)
+      → (x : Message)
       → IsIts sent c x → is_batch x ≡ true
-      → is_answer_to (msg.ProduceReply client i p code.NoError offset) x ≡ true
+      → is_answer_to (the.ProduceReply (caller_with client i) p code.NoError offset) x ≡ true
       → Answered sent x
-  produce_answered client i p offset n there (msg.Produce d j txn q text) its is a =
-      let kinds = answers_kind (msg.ProduceReply client i p code.NoError offset)
-      (msg.Produce d j txn q text) a in
-      let sender : d ≡ c.number = cc in (
+  produce_answered client i p offset n there (msg.Produce it) its is a =
+      let reply = λ (c k : ℕ). the.ProduceReply (caller_with c k) p code.NoError offset in
+      let kinds = answers_kind (reply client i) (msg.Produce it) a in
+      let sender : it.caller.client ≡ c.number = cc in (
         p,
         offset,
-        subst (λ y. Contains sent (msg.ProduceReply y j p code.NoError offset)) (n ∙ sym sender)
-            (subst (λ y. Contains sent (msg.ProduceReply client y p code.NoError offset)) kinds.1
-            there),
+        subst (λ y. Contains sent (reply y it.caller.correlation)) (n ∙ sym sender)
+            (subst (λ y. Contains sent (reply client y)) kinds.1 there),
       )
-  produce_answered client i p offset n there
-      (msg.TxnOffsetCommit d j txn group member generation held first offsets) its is a
-      =
-      let kinds = answers_kind (msg.ProduceReply client i p code.NoError offset)
-      (msg.TxnOffsetCommit d j txn group member generation held first offsets) a in
+  produce_answered client i p offset n there (msg.TxnOffsetCommit it) its is a =
+      let kinds = answers_kind (the.ProduceReply (caller_with client i) p code.NoError offset)
+      (msg.TxnOffsetCommit it) a in
       absurd (omega (arith, kinds.0))
   produce_answered client i p offset n there other its is a = absurd cc
 
   offsets_answered : (client i : ℕ) → client ≡ c.number
-      → Contains sent (msg.OffsetsReply client i code.NoError) → (x : Message)
+      → Contains sent (the.OffsetsReply (caller_with client i) code.NoError) → (x : Message)
       → IsIts sent c x → is_batch x ≡ true
-      → is_answer_to (msg.OffsetsReply client i code.NoError) x ≡ true → Answered sent x
-  offsets_answered client i n there (msg.Produce d j txn q text) its is a =
-      let kinds = answers_kind (msg.OffsetsReply client i code.NoError)
-      (msg.Produce d j txn q text) a in
+      → is_answer_to (the.OffsetsReply (caller_with client i) code.NoError) x ≡ true
+      → Answered sent x
+  offsets_answered client i n there (msg.Produce it) its is a =
+      let kinds = answers_kind (the.OffsetsReply (caller_with client i) code.NoError)
+      (msg.Produce it) a in
       absurd (omega (arith, kinds.0))
-  offsets_answered client i n there
-      (msg.TxnOffsetCommit d j txn group member generation held first offsets) its is a
-      =
-      let kinds = answers_kind (msg.OffsetsReply client i code.NoError)
-      (msg.TxnOffsetCommit d j txn group member generation held first offsets) a in
-      let sender : d ≡ c.number = cc in
-      subst (λ y. Contains sent (msg.OffsetsReply y j code.NoError)) (n ∙ sym sender)
-      (subst (λ y. Contains sent (msg.OffsetsReply client y code.NoError)) kinds.1 there)
+  offsets_answered client i n there (msg.TxnOffsetCommit it) its is a =
+      let reply = λ (c k : ℕ). the.OffsetsReply (caller_with c k) code.NoError in
+      let kinds = answers_kind (reply client i) (msg.TxnOffsetCommit it) a in
+      let sender : it.caller.client ≡ c.number = cc in
+      subst (λ y. Contains sent (reply y it.caller.correlation)) (n ∙ sym sender)
+      (subst (λ y. Contains sent (reply client y)) kinds.1 there)
   offsets_answered client i n there other its is a = absurd cc
 
   no_batch : (m : Message) → (kind_of m ≡ 6 → ⊥) → (kind_of m ≡ 18 → ⊥) → (x : Message)
@@ -473,72 +476,77 @@ module _ (sent : List Message) (c : Client) (k : Knows sent c)
       (λ q. absurd (not18 (omega (arith, p.0, q)))) (batch_kind x is)
 
   told_knows : (m : Message) → Contains sent m → receiver_of m ≡ node.Client c.number
-      → list_any (is_answer_to m) c.waiting ≡ true → Knows sent (told c (answered_client sent c k m) m)
-  told_knows (msg.InitReply client i x held) there to awaited =
-      let m = msg.InitReply client i x held in
-      learns_knows sent c k m (meaning x) (holding (answered_client sent c k m) held)
-      (λ e. by held) (λ e. absurd (no_abort x e))
+      → list_any (is_answer_to m) c.waiting ≡ true
+      → Knows sent (told c (answered_client sent c k m) m)
+  told_knows (msg.InitReply it) there to awaited =
+      let m = msg.InitReply it in
+      learns_knows sent c k m (meaning it.code) (holding (answered_client sent c k m) it.held)
+      (λ e. by it.held) (λ e. absurd (no_abort it.code e))
     where
       by : (h : Option Held) → Knows sent
-          (holding (answered_client sent c k (msg.InitReply client i x held)) h)
+          (holding (answered_client sent c k (msg.InitReply it)) h)
       by None =
-          done_knows sent c k (msg.InitReply client i x held) c.place (λ e. omega (arith, e))
-          (no_batch (msg.InitReply client i x held) (λ e. omega (arith, e))
+          done_knows sent c k (msg.InitReply it) c.place (λ e. omega (arith, e))
+          (no_batch (msg.InitReply it) (λ e. omega (arith, e))
           (λ e. omega (arith, e)))
-      by (Some h) = first_pair sent c k (msg.InitReply client i x held) h refl awaited
-  told_knows (msg.EndReply client i x held) there to awaited =
-      let m = msg.EndReply client i x held in
-      let n : client ≡ c.number = cc in
-      learns_knows sent c k m (meaning x)
-      (record (holding (answered_client sent c k m) held) {
+      by (Some h) = first_pair sent c k (msg.InitReply it) h refl awaited
+  told_knows (msg.EndReply it) there to awaited =
+      let m = msg.EndReply it in
+      let n : it.caller.client ≡ c.number = cc in
+      learns_knows sent c k m (meaning it.code)
+      (record (holding (answered_client sent c k m) it.held) {
         in_transaction = false;
         must_abort = false;
       })
-      (λ e. ended (raised i held
-      (subst (λ y. Contains sent (msg.EndReply c.number i y held)) (done_code x e)
-      (subst (λ y. Contains sent (msg.EndReply y i x held)) n there))))
-      (λ e. absurd (no_abort x e))
+      (λ e. ended (raised it.caller.correlation it.held
+      (subst (λ y. Contains sent
+      (the.EndReply (caller_with c.number it.caller.correlation) y it.held)) (done_code it.code e)
+      (subst (λ y. Contains sent
+      (the.EndReply (caller_with y it.caller.correlation) it.code it.held)) n there))))
+      (λ e. absurd (no_abort it.code e))
     where
-      ended : Raises sent c.number i held → Knows sent
-          (record (holding (answered_client sent c k (msg.EndReply client i x held)) held) {
+      ended : Raises sent c.number it.caller.correlation it.held → Knows sent
+          (record (holding (answered_client sent c k (msg.EndReply it)) it.held) {
             in_transaction = false;
             must_abort = false;
           })
       ended r =
           subst (λ h. Knows sent
-          (record (holding (answered_client sent c k (msg.EndReply client i x held)) h) {
+          (record (holding (answered_client sent c k (msg.EndReply it)) h) {
             in_transaction = false;
             must_abort = false;
           })) (sym r.is)
-          (next_pair sent c k (msg.EndReply client i x held) i held refl refl awaited r)
-  told_knows (msg.ProduceReply client i p x offset) there to awaited =
-      let m = msg.ProduceReply client i p x offset in
-      let n : client ≡ c.number = cc in
-      learns_knows sent c k m (meaning x) (answered_client sent c k m)
+          (next_pair sent c k (msg.EndReply it) it.caller.correlation it.held refl refl awaited r)
+  told_knows (msg.ProduceReply it) there to awaited =
+      let m = msg.ProduceReply it in
+      let n : it.caller.client ≡ c.number = cc in
+      learns_knows sent c k m (meaning it.code) (answered_client sent c k m)
       (λ e. done_knows sent c k m c.place (λ f. omega (arith, f))
-      (λ y its is a. produce_answered client i p offset n
-      (subst (λ z. Contains sent (msg.ProduceReply client i p z offset)) (done_code x e) there)
+      (λ y its is a.
+      produce_answered it.caller.client it.caller.correlation it.partition it.offset n
+      (subst (λ z. Contains sent (the.ProduceReply it.caller it.partition z it.offset))
+      (done_code it.code e) there)
       y its is a))
-      (λ e. absurd (no_abort x e))
-  told_knows (msg.JoinReply client i x generation number count) there to awaited =
-      let m = msg.JoinReply client i x generation number count in
-      learns_knows sent c k m (meaning x) _
+      (λ e. absurd (no_abort it.code e))
+  told_knows (msg.JoinReply it) there to awaited =
+      let m = msg.JoinReply it in
+      learns_knows sent c k m (meaning it.code) _
       (λ e. done_knows sent c k m _ (λ f. omega (arith, f))
       (no_batch m (λ f. omega (arith, f)) (λ f. omega (arith, f))))
-      (λ e. absurd (no_abort x e))
-  told_knows (msg.LeaveReply client i x) there to awaited =
-      let m = msg.LeaveReply client i x in
-      learns_knows sent c k m (meaning x) (answered_client sent c k m)
+      (λ e. absurd (no_abort it.code e))
+  told_knows (msg.LeaveReply it) there to awaited =
+      let m = msg.LeaveReply it in
+      learns_knows sent c k m (meaning it.code) (answered_client sent c k m)
       (λ e. done_knows sent c k m c.place (λ f. omega (arith, f))
       (no_batch m (λ f. omega (arith, f)) (λ f. omega (arith, f))))
-      (λ e. absurd (no_abort x e))
-  told_knows (msg.OffsetsReply client i x) there to awaited =
-      let m = msg.OffsetsReply client i x in
-      let n : client ≡ c.number = cc in
-      learns_knows sent c k m (offsets_meaning x) (answered_client sent c k m)
+      (λ e. absurd (no_abort it.code e))
+  told_knows (msg.OffsetsReply it) there to awaited =
+      let m = msg.OffsetsReply it in
+      let n : it.caller.client ≡ c.number = cc in
+      learns_knows sent c k m (offsets_meaning it.code) (answered_client sent c k m)
       (λ e. done_knows sent c k m c.place (λ f. omega (arith, f))
-      (λ y its is a. offsets_answered client i n
-      (subst (λ z. Contains sent (msg.OffsetsReply client i z)) (offsets_done x e) there)
+      (λ y its is a. offsets_answered it.caller.client it.caller.correlation n
+      (subst (λ z. Contains sent (the.OffsetsReply it.caller z)) (offsets_done it.code e) there)
       y its is a))
       (λ e. let (y, w, is) = any_holds (is_answer_to m) c.waiting awaited in
       let p = answers_kind m y is in

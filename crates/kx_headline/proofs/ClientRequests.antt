@@ -3,11 +3,14 @@
 use Rattle.std.proofs.Common.{◌≡◌, ◌⊎◌, ◌<◌, ◌≤◌, ◌^◌, ℕ, ℤ, pos, Bool, true, false, List}
 use Rattle.std.proofs.Common.{map, Option, Some, None, Contains, All}
 use Rattle.std.specs.List.{list_any}
+use Rattle.kx_message.specs.declared.requests.Caller.{Caller}
+use Rattle.kx_message.specs.Messages.{caller_with}
 use Rattle.kx_message.specs.Ranges.{offsets_partition}
 use Rattle.kx_message.specs.declared.code.ErrorCode.TheVariants.{NoError}
 use Rattle.kx_message.specs.declared.message.Held.{Held}
 use Rattle.kx_message.specs.declared.message.Message.{Message}
 use Rattle.kx_message.specs.declared.message.Message.TheVariants as msg
+use Rattle.kx_message.specs.Messages as the
 use Rattle.kx_message.specs.declared.outcome.Outcome.{Outcome}
 use Rattle.kx_message.specs.declared.outcome.Outcome.TheVariants.{Commit}
 use Rattle.kx_message.specs.declared.payload.PartitionOffset.{PartitionOffset}
@@ -22,23 +25,21 @@ use Rattle.kx_headline.proofs.OneHolder.{HoldersStand}
 
 -- the client that sent it, if it is a client's request
 abbrev pub sender : Message → Option ℕ
-sender (msg.InitProducerId client correlation txn timeout) = Some client
-sender (msg.EndTxn client correlation txn held outcome) = Some client
-sender (msg.Produce client correlation txn partition text) = Some client
-sender (msg.TxnOffsetCommit client correlation txn group member generation held first offsets) =
-    Some client
-sender (msg.Join client correlation group) = Some client
-sender (msg.Leave client correlation group) = Some client
+sender (msg.InitProducerId it) = Some it.caller.client
+sender (msg.EndTxn it) = Some it.caller.client
+sender (msg.Produce it) = Some it.caller.client
+sender (msg.TxnOffsetCommit it) =
+    Some it.caller.client
+sender (msg.Join it) = Some it.caller.client
+sender (msg.Leave it) = Some it.caller.client
 sender m = None
 
 abbrev pub is_offsets : Message → Bool
-is_offsets
-    (msg.TxnOffsetCommit client correlation txn group member generation held first offsets)
-    = true
+is_offsets (msg.TxnOffsetCommit it) = true
 is_offsets m = false
 
 abbrev pub is_batch : Message → Bool
-is_batch (msg.Produce client correlation txn partition text) = true
+is_batch (msg.Produce it) = true
 is_batch m = is_offsets m
 
 -- what a batch is to its client: its partition, the id and epoch, and the first sequence
@@ -54,25 +55,23 @@ pub record HeldFits (held : Held) : Type 0 where
 
 -- the request carries it
 pub data Carries : Message → Load → Type 0 where
-  with_batch : (client correlation : ℕ) (txn : Option (List ℕ)) (partition : ℕ)
+  with_batch : (caller : Caller) (txn : Option (List ℕ)) (partition : ℕ)
       (transactional : Bool) (held : Held) (first : ℕ) (records : List Record)
       → HeldFits held → first < 2 ^ 31 → Carries
-      (msg.Produce client correlation txn partition (client_batch transactional held first records))
+      (the.Produce caller txn partition (client_batch transactional held first records))
       (record { partition = partition; held = held; first = first })
-  with_offsets : (client correlation : ℕ) (txn group : List ℕ) (member : ℕ) (generation : ℤ)
+  with_offsets : (caller : Caller) (txn group : List ℕ) (member : ℕ) (generation : ℤ)
       (held : Held) (first : ℕ) (offsets : List PartitionOffset)
       → HeldFits held → first < 2 ^ 31 → Carries
-      (msg.TxnOffsetCommit client correlation txn group member generation held (pos first) offsets)
+      (the.TxnOffsetCommit caller txn group member generation held (pos first) offsets)
       (record { partition = offsets_partition; held = held; first = first })
 
 -- it was answered with code 0
 abbrev pub Answered : List Message → Message → Type 0
-Answered sent (msg.Produce client correlation txn partition text) =
+Answered sent (msg.Produce it) =
     (p : ℕ) × (offset : ℤ)
-    × Contains sent (msg.ProduceReply client correlation p NoError offset)
-Answered sent
-    (msg.TxnOffsetCommit client correlation txn group member generation held first offsets)
-    = Contains sent (msg.OffsetsReply client correlation NoError)
+    × Contains sent (the.ProduceReply it.caller p NoError offset)
+Answered sent (msg.TxnOffsetCommit it) = Contains sent (the.OffsetsReply it.caller NoError)
 Answered sent m = ⊥
 
 -- an id and epoch isn't above another, ids compared first
@@ -97,7 +96,7 @@ module _ (sent : List Message) (c : Client) where
     pub txn : List ℕ
     pub held : Held
     pub outcome : Outcome
-    pub there : Contains sent (msg.EndTxn c.number correlation txn held outcome)
+    pub there : Contains sent (the.EndTxn (caller_with c.number correlation) txn held outcome)
     pub present : c.held ≡ Some held
 
   -- a request that it waits for
@@ -105,7 +104,7 @@ module _ (sent : List Message) (c : Client) where
     pub its : IsIts m
     pub load : (l : Load) → Carries m l → c.held ≡ Some l.held
     pub ends : (k : ℕ) (txn : List ℕ) (held : Held) (outcome : Outcome)
-        → m ≡ msg.EndTxn c.number k txn held outcome → c.held ≡ Some held
+        → m ≡ the.EndTxn (caller_with c.number k) txn held outcome → c.held ≡ Some held
 
   pub record Knows : Type 0 where
     pub numbered : (m : Message) → IsIts m → correlation_of m < c.correlation
@@ -113,7 +112,8 @@ module _ (sent : List Message) (c : Client) where
         → m ≡ n
     pub within : (m : Message) (l : Load) → IsIts m → Carries m l → IsWithin l.held c.held
     pub ends_within : (k : ℕ) (txn : List ℕ) (held : Held) (outcome : Outcome)
-        → Contains sent (msg.EndTxn c.number k txn held outcome) → IsWithin held c.held
+        → Contains sent (the.EndTxn (caller_with c.number k) txn held outcome)
+        → IsWithin held c.held
     pub behind : (m : Message) (l : Load) → IsIts m → Carries m l → c.held ≡ Some l.held
         → l.first < sequence_of c.sequences l.partition
     pub once : (m n : Message) (l j : Load) → IsIts m → IsIts n → Carries m l → Carries n j
@@ -134,7 +134,8 @@ module _ (sent : List Message) (c : Client) where
         → Contains c.waiting m ⊎ Answered sent m
     pub ended : c.failed ≡ false → HasEnded → list_any is_end c.waiting ≡ true
     pub committed : (k : ℕ) (txn : List ℕ) (held : Held)
-        → Contains sent (msg.EndTxn c.number k txn held Commit) → (m : Message) (l : Load)
+        → Contains sent (the.EndTxn (caller_with c.number k) txn held Commit)
+        → (m : Message) (l : Load)
         → IsIts m → Carries m l → l.held ≡ held → Answered sent m
 
 ------ a world
@@ -149,12 +150,10 @@ pub record IsMade (sent : List Message) (m : Message) : Type 0 where
 
 -- each Produce and each TxnOffsetCommit is such a batch
 abbrev pub AreMade : List Message → Message → Type 0
-AreMade sent (msg.Produce client correlation txn partition text) =
-    IsMade sent (msg.Produce client correlation txn partition text)
-AreMade sent
-    (msg.TxnOffsetCommit client correlation txn group member generation held first offsets)
-    = IsMade sent
-    (msg.TxnOffsetCommit client correlation txn group member generation held first offsets)
+AreMade sent (msg.Produce it) =
+    IsMade sent (msg.Produce it)
+AreMade sent (msg.TxnOffsetCommit it) = IsMade sent
+    (msg.TxnOffsetCommit it)
 AreMade sent m = Unit {0}
 
 pub record RequestsStand (w : World) : Type 0 where

@@ -2,11 +2,13 @@
 use Rattle.std.proofs.Common.{◌≡◌, ℕ, ℤ, pos, negsuc, Option, Some, None, Contains}
 use Rattle.std.proofs.Common.{sym, ap, ◌∙◌, subst}
 use Rattle.std.proofs.lemmas.List.Elements.{All-contains}
+use Rattle.kx_message.specs.Messages.{caller_with}
 use Rattle.kx_message.specs.Ranges.{offsets_partition}
 use Rattle.kx_message.specs.declared.code.ErrorCode.TheVariants.{NoError}
 use Rattle.kx_message.specs.declared.message.Held.{Held}
 use Rattle.kx_message.specs.declared.message.Message.{Message}
 use Rattle.kx_message.specs.declared.message.Message.TheVariants as msg
+use Rattle.kx_message.specs.Messages as the
 use Rattle.kx_message.specs.declared.outcome.Outcome.{Outcome}
 use Rattle.kx_message.specs.declared.outcome.Outcome.TheVariants.{Commit}
 use Rattle.kx_batch.specs.Batch.{Batch, batch_of}
@@ -67,17 +69,15 @@ numbers_of v d e = by (end_marker_of v) e
 
 -- the client and the correlation of a request are those of its message
 request_is : (m : Message) (r : Request) → request_of m ≡ Some r
-    → (sender m ≡ Some r.client) × (correlation_of m ≡ r.correlation)
-request_is (msg.Produce client correlation txn partition text) r e = (
-  ap (λ (x : Request). Some x.client) (same_request _ r e),
-  ap (λ (x : Request). x.correlation) (same_request _ r e),
+    → (sender m ≡ Some r.caller.client) × (correlation_of m ≡ r.caller.correlation)
+request_is (msg.Produce it) r e = (
+  ap (λ (x : Request). Some x.caller.client) (same_request _ r e),
+  ap (λ (x : Request). x.caller.correlation) (same_request _ r e),
 )
-request_is
-    (msg.TxnOffsetCommit client correlation txn group member generation held first offsets) r e
-    = (
-      ap (λ (x : Request). Some x.client) (same_request _ r e),
-      ap (λ (x : Request). x.correlation) (same_request _ r e),
-    )
+request_is (msg.TxnOffsetCommit it) r e = (
+  ap (λ (x : Request). Some x.caller.client) (same_request _ r e),
+  ap (λ (x : Request). x.caller.correlation) (same_request _ r e),
+)
 request_is other r e = absurd cc
 
 ------ in a world
@@ -85,16 +85,10 @@ request_is other r e = absurd cc
 module _ (w : World) (h : RequestsStand w) where
   is_made : (m : Message) (r : Request) → Contains w.sent m → request_of m ≡ Some r
       → IsMade w.sent m
-  is_made (msg.Produce client correlation txn partition text) r there e =
-      All-contains (AreMade w.sent) w.sent (msg.Produce client correlation txn partition text)
-      h.made there
-  is_made
-      (msg.TxnOffsetCommit client correlation txn group member generation held first offsets) r
-      there e
-      =
-      All-contains (AreMade w.sent) w.sent
-      (msg.TxnOffsetCommit client correlation txn group member generation held first offsets)
-      h.made there
+  is_made (msg.Produce it) r there e =
+      All-contains (AreMade w.sent) w.sent (msg.Produce it) h.made there
+  is_made (msg.TxnOffsetCommit it) r there e =
+      All-contains (AreMade w.sent) w.sent (msg.TxnOffsetCommit it) h.made there
   is_made other r there e = absurd cc
 
   -- the client that sent it
@@ -165,15 +159,15 @@ module _ (w : World) (h : RequestsStand w) where
       (same_request r s (sym is ∙ ap request_of same ∙ is'))
 
   one_request : (m n : Message) (r s : Request) → Contains w.sent m → Contains w.sent n
-      → request_of m ≡ Some r → request_of n ≡ Some s → r.client ≡ s.client
-      → r.correlation ≡ s.correlation → r ≡ s
-  one_request m n r s there there' is is' client correlation =
+      → request_of m ≡ Some r → request_of n ≡ Some s → r.caller ≡ s.caller → r ≡ s
+  one_request m n r s there there' is is' caller =
       let a = request_is m r is in
       let b = request_is n s is' in
-      let (u, number) = sent_by m r.client there a.0 in
+      let (u, number) = sent_by m r.caller.client there a.0 in
       let its' : IsIts w.sent u.client n =
-      (there', b.0 ∙ ap Some (sym client ∙ sym number)) in
-      let same = u.knows.distinct m n u.its its' (a.1 ∙ correlation ∙ sym b.1) in
+      (there', b.0 ∙ ap Some (sym (ap (λ x. x.client) caller) ∙ sym number)) in
+      let same = u.knows.distinct m n u.its its'
+      (a.1 ∙ ap (λ x. x.correlation) caller ∙ sym b.1) in
       same_request r s (sym is ∙ ap request_of same ∙ is')
 
   -- what is decided to commit has each of its batches answered
@@ -184,14 +178,15 @@ module _ (w : World) (h : RequestsStand w) where
       let x = loaded m r d there is reads in
       let a = commit_asked w.sent (notes w) h.holders.stands.coordinator.history d.id d.epoch e in
       let pair : Held = record { id = d.id; epoch = d.epoch } in
-      let entitled : Handed w.sent a.client pair =
-      All-contains (IsEntitled w.sent) w.sent (msg.EndTxn a.client a.correlation a.txn pair Commit)
+      let entitled : Handed w.sent a.caller.client pair =
+      All-contains (IsEntitled w.sent) w.sent (the.EndTxn a.caller a.txn pair Commit)
       h.holders.entitled a.asked in
-      let client = one_client w h.holders a.client x.made.client pair entitled
+      let client = one_client w h.holders a.caller.client x.made.client pair entitled
       (subst (Handed w.sent x.made.client) x.pair x.made.handed) in
       let (u, number) = sent_by m x.made.client there x.made.its_sender in
-      u.knows.committed a.correlation a.txn pair
-      (subst (λ c. Contains w.sent (msg.EndTxn c a.correlation a.txn pair Commit))
+      u.knows.committed a.caller.correlation a.txn pair
+      (subst (λ c. Contains w.sent
+      (the.EndTxn (caller_with c a.caller.correlation) a.txn pair Commit))
       (client ∙ sym number) a.asked) m x.made.load u.its x.made.carries x.pair
 
   module _ (stand : PartitionsStand w) where
@@ -201,20 +196,20 @@ module _ (w : World) (h : RequestsStand w) where
     -- its reply of code 0 is a promise
     is_answered : (m : Message) (r : Request) → request_of m ≡ Some r → Answered w.sent m
         → IsAnswered w r
-    is_answered (msg.Produce client correlation txn partition text) r e a =
+    is_answered (msg.Produce it) r e a =
         let same = same_request _ r e in
         subst (IsAnswered w) same (record {
           partition = a.0;
-          stored = promised (msg.ProduceReply client correlation a.0 NoError a.1) a.2;
+          stored = promised (the.ProduceReply it.caller a.0 NoError a.1) a.2;
         })
     is_answered
-        (msg.TxnOffsetCommit client correlation txn group member generation held first offsets) r
+        (msg.TxnOffsetCommit it) r
         e a
         =
         let same = same_request _ r e in
         subst (IsAnswered w) same (record {
           partition = offsets_partition;
-          stored = promised (msg.OffsetsReply client correlation NoError) a;
+          stored = promised (the.OffsetsReply it.caller NoError) a;
         })
     is_answered other r e a = absurd cc
 

@@ -2,8 +2,9 @@
 use Rattle.std.proofs.Common.{◌≡◌, ℕ, List, Option, Some, None, Contains}
 use Rattle.std.proofs.Common.{ap, ◌∙◌, subst, arith, ⊎_elim}
 use Rattle.std.proofs.lemmas.List.Elements.{Contains-push_cases}
+use Rattle.kx_message.specs.declared.requests.Caller.{Caller}
 use Rattle.kx_message.specs.declared.message.Message.{Message}
-use Rattle.kx_message.specs.declared.message.Message.TheVariants as msg
+use Rattle.kx_message.specs.Messages as the
 use Rattle.kx_message.specs.declared.outcome.Outcome.{Outcome}
 use Rattle.kx_message.specs.declared.outcome.Outcome.TheVariants.{Commit}
 use Rattle.kx_model.specs.Coordinator.{Cause, Note, Row, Written}
@@ -21,10 +22,9 @@ use Rattle.kx_headline.proofs.CoordinatorSound.{Sound}
 
 -- an EndTxn asks for the commit of this id and epoch
 pub record CommitAsked (sent : List Message) (id epoch : ℕ) : Type 0 where
-  pub client : ℕ
-  pub correlation : ℕ
+  pub caller : Caller
   pub txn : List ℕ
-  pub asked : Contains sent (msg.EndTxn client correlation txn
+  pub asked : Contains sent (the.EndTxn caller txn
       (record { id = id; epoch = epoch }) Commit)
 
 -- a row that ends a transaction by a commit was asked for
@@ -39,17 +39,16 @@ module _ (sent : List Message) (log : List Note) (sound : Sound log)
     (asked : RowsAsked sent log) where
   by_reason : (s : Row) (o : Outcome) (cause : Cause) → Reason sent s o cause → o ≡ Commit
       → (id epoch : ℕ) → Ends id epoch (prepared log s o cause) → CommitAsked sent id epoch
-  by_reason s o cause (follows.by_end u client k m) is id epoch (one_higher a b d) =
+  by_reason s o cause (follows.by_end u caller m) is id epoch (one_higher a b d) =
       let same : s.epoch ≡ epoch = omega (arith, b) in
       record {
-        client = client;
-        correlation = k;
+        caller = caller;
         txn = s.txn;
-        asked = subst (λ x. Contains sent (msg.EndTxn client k s.txn
+        asked = subst (λ x. Contains sent (the.EndTxn caller s.txn
             (record { id = id; epoch = epoch }) x)) is
-            (subst (λ x. Contains sent (msg.EndTxn client k s.txn
+            (subst (λ x. Contains sent (the.EndTxn caller s.txn
             (record { id = id; epoch = x }) o)) same
-            (subst (λ x. Contains sent (msg.EndTxn client k s.txn
+            (subst (λ x. Contains sent (the.EndTxn caller s.txn
             (record { id = x; epoch = s.epoch }) o)) a m));
       }
   by_reason s o cause follows.by_init is id epoch e = absurd cc
@@ -60,17 +59,17 @@ module _ (sent : List Message) (log : List Note) (sound : Sound log)
       → RowAsked sent r
   unfolding RowAsked RowsAsked
   new_row note (follows.opens h) r e = absurd cc
-  new_row note (follows.allots client k timeout m) r e = absurd cc
-  new_row note (follows.begins txn client k timeout none m) r e =
-      let same : first_use log client txn timeout ≡ r = cc in
+  new_row note (follows.allots caller timeout m) r e = absurd cc
+  new_row note (follows.begins txn caller timeout none m) r e =
+      let same : first_use log caller.client txn timeout ≡ r = cc in
       subst (RowAsked sent) same (λ o id epoch d. absurd cc)
   new_row note (follows.adds s start p found active m) r e =
       let same : with_added s start p ≡ r = cc in
       subst (RowAsked sent) same (λ o id epoch d. absurd cc)
-  new_row note (follows.takes_over s client k t found resting above m) r e =
-      let same : taken_over log s client t ≡ r = cc in
+  new_row note (follows.takes_over s caller t found resting above m) r e =
+      let same : taken_over log s caller.client t ≡ r = cc in
       subst (RowAsked sent) same (λ o id epoch d. absurd cc)
-  new_row note (follows.gives_up s client k found resting m) r e =
+  new_row note (follows.gives_up s caller found resting m) r e =
       let same : given_up log s ≡ r = cc in
       subst (RowAsked sent) same (λ o id epoch d. absurd cc)
   new_row note (follows.prepares s o cause found going reason) r e =

@@ -16,11 +16,13 @@ use Rattle.std.proofs.lemmas.Bool.Decides.{nat_tests}
 use Rattle.std.proofs.lemmas.List.Elements.{All-append, All-cons, All-filter, All-nil, All-weaker}
 use Rattle.std.proofs.lemmas.List.Elements.{All-map}
 use Rattle.std.proofs.lemmas.List.Elements.{Contains-push}
+use Rattle.kx_message.specs.declared.requests.Caller.{Caller}
 use Rattle.kx_message.specs.declared.code.ErrorCode.{ErrorCode}
 use Rattle.kx_message.specs.declared.code.ErrorCode.TheVariants as code
 use Rattle.kx_message.specs.declared.message.Held.{Held}
 use Rattle.kx_message.specs.declared.message.Message.{Message}
 use Rattle.kx_message.specs.declared.message.Message.TheVariants as msg
+use Rattle.kx_message.specs.Messages as the
 use Rattle.kx_message.specs.declared.outcome.Outcome.{Outcome}
 use Rattle.kx_model.specs.Coordinator.{Row, Note, CoordinatorEpoch, Allot, Written, State, Empty}
 use Rattle.kx_model.specs.Coordinator.{Ongoing, Prepare, Complete, coordinator_epoch, ends, next_id}
@@ -37,6 +39,7 @@ use Rattle.kx_model.specs.Markers.{expire, greatest_epoch, is_answered, marker_m
 use Rattle.kx_model.specs.Markers.{markers_after, markers_in, markers_of}
 use Rattle.kx_model.specs.Markers.{reopen, settle, without_row}
 use Rattle.kx_model.specs.Requests.{Answer, add, end_txn, init, own_pair}
+use Rattle.kx_headline.proofs.Codes.{WithNoError, with_no_error, OfGiven, of_given, OfNext, of_next}
 use Rattle.kx_headline.proofs.CoordinatorFollows
 use Rattle.kx_headline.proofs.CoordinatorFollows.{Follows}
 use Rattle.kx_headline.proofs.CoordinatorGrows.{Next, Grows, none, more, History, grows_later}
@@ -71,12 +74,12 @@ pub data Has (log : List Note) (client : ℕ) (held : Held) : Type 0 where
   by_allotment : Contains log (Allot held.id) → held.epoch ≡ 0 → Has log client held
 
 -- a row ends the transaction of an EndTxn that was sent, and gives the pair after it
-pub record GivesNext (sent : List Message) (log : List Note) (client correlation : ℕ)
+pub record GivesNext (sent : List Message) (log : List Note) (caller : Caller)
     (held : Held) : Type 0 where
   pub txn : List ℕ
   pub ending : Held
   pub outcome : Outcome
-  pub asked : Contains sent (msg.EndTxn client correlation txn ending outcome)
+  pub asked : Contains sent (the.EndTxn caller txn ending outcome)
   pub row : Row
   pub written : Contains log (Written row)
   pub its_end : ends ending.id ending.epoch row ≡ true
@@ -84,36 +87,35 @@ pub record GivesNext (sent : List Message) (log : List Note) (client correlation
 
 -- what a message says for good of the coordinator's log
 abbrev pub Says : List Message → List Note → Message → Type 0
-Says sent log (msg.WriteMarker partition txn held coordinator outcome) =
-    Marks log partition held coordinator outcome
-Says sent log (msg.AddReply partition txn held code.NoError) =
-    Listed log partition held.id held.epoch
-Says sent log (msg.InitReply client correlation code.NoError (Some held)) = Has log client held
-Says sent log (msg.EndReply client correlation code.NoError (Some held)) =
-    GivesNext sent log client correlation held
-Says sent log (msg.EndReply client correlation code.NoError None) = ⊥
+Says sent log (msg.WriteMarker it) =
+    Marks log it.partition it.held it.coordinator_epoch it.outcome
+Says sent log (msg.AddReply it) =
+    WithNoError it.code (Listed log it.partition it.held.id it.held.epoch)
+Says sent log (msg.InitReply it) = OfGiven it.code it.held (Has log it.caller.client)
+Says sent log (msg.EndReply it) =
+    OfNext it.code it.held (GivesNext sent log it.caller)
 Says sent log m = ⊤
 
 -- the kinds that the coordinator hands out
 pub data IsCoordinators : Message → Type 0 where
   marker : {partition : ℕ} {txn : List ℕ} {held : Held} {coordinator : ℤ} {outcome : Outcome}
-      → IsCoordinators (msg.WriteMarker partition txn held coordinator outcome)
+      → IsCoordinators (the.WriteMarker partition txn held coordinator outcome)
   add_reply : {partition : ℕ} {txn : List ℕ} {held : Held} {code : ErrorCode}
-      → IsCoordinators (msg.AddReply partition txn held code)
-  init_reply : {client correlation : ℕ} {code : ErrorCode} {held : Option Held}
-      → IsCoordinators (msg.InitReply client correlation code held)
-  end_reply : {client correlation : ℕ} {code : ErrorCode} {held : Option Held}
-      → IsCoordinators (msg.EndReply client correlation code held)
+      → IsCoordinators (the.AddReply partition txn held code)
+  init_reply : {caller : Caller} {code : ErrorCode} {held : Option Held}
+      → IsCoordinators (the.InitReply caller code held)
+  end_reply : {caller : Caller} {code : ErrorCode} {held : Option Held}
+      → IsCoordinators (the.EndReply caller code held)
 
 -- an id that is handed out by itself is allotted now
 abbrev pub IsNew : List Note → List Note → Message → Type 0
-IsNew before log (msg.InitReply client correlation code.NoError (Some held)) =
-    ((r : Row) × Contains log (Written r) × (held ≡ own_pair r)) ⊎ (held.id ≡ next_id before)
+IsNew before log (msg.InitReply it) = OfGiven it.code it.held (λ held.
+    ((r : Row) × Contains log (Written r) × (held ≡ own_pair r)) ⊎ (held.id ≡ next_id before))
 IsNew before log m = ⊤
 
 -- the answer to a client that asks for an id goes to this client
 abbrev pub IsFor : ℕ → Message → Type 0
-IsFor client (msg.InitReply c correlation code held) = c ≡ client
+IsFor client (msg.InitReply it) = it.caller.client ≡ client
 IsFor client m = ⊤
 
 pub record Out (client : ℕ) (sent : List Message) (before log : List Note) (m : Message) :
@@ -125,11 +127,16 @@ pub record Out (client : ℕ) (sent : List Message) (before log : List Note) (m 
 
 ------ what stands as more is sent, and the log grows
 
+has_later : (log log' : List Note) → ((note : Note) → Contains log note → Contains log' note)
+    → (client : ℕ) (held : Held) → Has log client held → Has log' client held
+has_later log log' on client held (by_row r w o e) = by_row r (on (Written r) w) o e
+has_later log log' on client held (by_allotment w e) = by_allotment (on (Allot held.id) w) e
+
 pub says_later : (sent later : List Message) (log log' : List Note)
     → ((m : Message) → Contains sent m → Contains later m)
     → ((note : Note) → Contains log note → Contains log' note)
     → (m : Message) → Says sent log m → Says later log' m
-says_later sent later log log' up on (msg.WriteMarker p txn held k o) s = record {
+says_later sent later log log' up on (msg.WriteMarker it) s = record {
   row = s.row;
   written = on (Written s.row) s.written;
   waits = s.waits;
@@ -137,31 +144,28 @@ says_later sent later log log' up on (msg.WriteMarker p txn held k o) s = record
   listed = s.listed;
   in_range = s.in_range;
 }
-says_later sent later log log' up on (msg.AddReply p txn held code.NoError) s = record {
-  row = s.row;
-  written = on (Written s.row) s.written;
-  its_id = s.its_id;
-  its_epoch = s.its_epoch;
-  going = s.going;
-  listed = s.listed;
-}
-says_later sent later log log' up on (msg.InitReply c k code.NoError (Some held))
-    (by_row r w o e) =
-    by_row r (on (Written r) w) o e
-says_later sent later log log' up on (msg.InitReply c k code.NoError (Some held))
-    (by_allotment w e) =
-    by_allotment (on (Allot held.id) w) e
-says_later sent later log log' up on (msg.EndReply c k code.NoError (Some held)) s = record {
-  txn = s.txn;
-  ending = s.ending;
-  outcome = s.outcome;
-  asked = up (msg.EndTxn c k s.txn s.ending s.outcome) s.asked;
-  row = s.row;
-  written = on (Written s.row) s.written;
-  its_end = s.its_end;
-  given = s.given;
-}
-says_later sent later log log' up on (msg.EndReply c k code.NoError None) s = absurd s
+says_later sent later log log' up on (msg.AddReply it) said =
+    with_no_error it.code (λ s. record {
+      row = s.row;
+      written = on (Written s.row) s.written;
+      its_id = s.its_id;
+      its_epoch = s.its_epoch;
+      going = s.going;
+      listed = s.listed;
+    }) said
+says_later sent later log log' up on (msg.InitReply it) said =
+    of_given it.code it.held (has_later log log' on it.caller.client) said
+says_later sent later log log' up on (msg.EndReply it) said =
+    of_next it.code it.held (λ held s. record {
+      txn = s.txn;
+      ending = s.ending;
+      outcome = s.outcome;
+      asked = up (the.EndTxn it.caller s.txn s.ending s.outcome) s.asked;
+      row = s.row;
+      written = on (Written s.row) s.written;
+      its_end = s.its_end;
+      given = s.given;
+    }) said
 says_later sent later log log' up on m s = tt
 
 ------ the coordinator, and its steps
@@ -197,7 +201,7 @@ ok_later {sent} {later} {co} up ok = record {
   hidden = if_some_more (Next sent (notes_of co)) (Next later (notes_of co))
       (λ note n. next_later up n) co.disk.hidden ok.hidden;
   answered = All-weaker (IsReplied sent) (IsReplied later)
-      (λ a c. up (msg.MarkerReply a.partition a.txn a.held code.NoError) c) co.answered
+      (λ a c. up (the.MarkerReply a.partition a.txn a.held code.NoError) c) co.answered
       ok.answered;
 }
 
@@ -364,15 +368,16 @@ module _ (sent : List Message) (co : Coordinator) (ok : CoordinatorOk sent co) w
 
   ------ requests
 
-  init_out : (client correlation : ℕ) (entry : Option Note) (c : ErrorCode) (held : Option Held)
-      → (c ≡ code.NoError → InitSays (notes_of co) client entry held)
-      → Out client sent (notes_of co) (log_after (notes_of co) entry)
-      (msg.InitReply client correlation c held)
-  init_out client correlation entry code.NoError held h = by entry held (h refl)
+  init_out : (caller : Caller) (entry : Option Note) (c : ErrorCode) (held : Option Held)
+      → (c ≡ code.NoError → InitSays (notes_of co) caller.client entry held)
+      → Out caller.client sent (notes_of co) (log_after (notes_of co) entry)
+      (the.InitReply caller c held)
+  init_out caller entry code.NoError held h = by entry held (h refl)
     where
-      by : (entry : Option Note) (held : Option Held) → InitSays (notes_of co) client entry held
-          → Out client sent (notes_of co) (log_after (notes_of co) entry)
-          (msg.InitReply client correlation code.NoError held)
+      by : (entry : Option Note) (held : Option Held)
+          → InitSays (notes_of co) caller.client entry held
+          → Out caller.client sent (notes_of co) (log_after (notes_of co) entry)
+          (the.InitReply caller code.NoError held)
       by _ x (owned entry r there same) = record {
         says = by_row r there same refl;
         kind = init_reply;
@@ -385,13 +390,13 @@ module _ (sent : List Message) (co : Coordinator) (ok : CoordinatorOk sent co) w
         is_new = inr refl;
         addressed = refl;
       }
-  init_out client correlation entry c held h =
+  init_out caller entry c held h =
       record { says = tt; kind = init_reply; is_new = tt; addressed = refl }
 
   add_out : (partition : ℕ) (txn : List ℕ) (held : Held) (entry : Option Note) (c : ErrorCode)
       → (c ≡ code.NoError → Listed (log_after (notes_of co) entry) partition held.id held.epoch)
       → Out 0 sent (notes_of co) (log_after (notes_of co) entry)
-      (msg.AddReply partition txn held c)
+      (the.AddReply partition txn held c)
   add_out partition txn held entry code.NoError h =
       record { says = h refl; kind = add_reply; is_new = tt; addressed = tt }
   add_out partition txn held entry c h = record {
@@ -401,18 +406,18 @@ module _ (sent : List Message) (co : Coordinator) (ok : CoordinatorOk sent co) w
     addressed = tt;
   }
 
-  end_out : (client correlation : ℕ) (txn : List ℕ) (ending : Held) (outcome : Outcome)
-      → Contains sent (msg.EndTxn client correlation txn ending outcome) → (entry : Option Note)
+  end_out : (caller : Caller) (txn : List ℕ) (ending : Held) (outcome : Outcome)
+      → Contains sent (the.EndTxn caller txn ending outcome) → (entry : Option Note)
       (c : ErrorCode) (held : Option Held)
       → (c ≡ code.NoError → EndSays (notes_of co) ending entry held)
       → Out 0 sent (notes_of co) (log_after (notes_of co) entry)
-      (msg.EndReply client correlation c held)
-  end_out client correlation txn ending outcome m entry code.NoError held h =
+      (the.EndReply caller c held)
+  end_out caller txn ending outcome m entry code.NoError held h =
       by entry held (h refl)
     where
       by : (entry : Option Note) (held : Option Held) → EndSays (notes_of co) ending entry held
           → Out 0 sent (notes_of co) (log_after (notes_of co) entry)
-          (msg.EndReply client correlation code.NoError held)
+          (the.EndReply caller code.NoError held)
       by _ x (ended entry r given there its_end gives) = record {
         says = record {
           txn = txn;
@@ -428,42 +433,42 @@ module _ (sent : List Message) (co : Coordinator) (ok : CoordinatorOk sent co) w
         is_new = tt;
         addressed = tt;
       }
-  end_out client correlation txn ending outcome m entry c held h =
+  end_out caller txn ending outcome m entry c held h =
       record { says = tt; kind = end_reply; is_new = tt; addressed = tt }
 
-  init_request_does : (store : Store) (client correlation : ℕ) (txn : Option (List ℕ))
-      (timeout : ℕ) → Contains sent (msg.InitProducerId client correlation txn timeout)
+  init_request_does : (store : Store) (caller : Caller) (txn : Option (List ℕ))
+      (timeout : ℕ) → Contains sent (the.InitProducerId caller txn timeout)
       → CoordinatorDoes sent co
-      (coordinator_takes co store (msg.InitProducerId client correlation txn timeout))
-  init_request_does store client correlation txn timeout m =
-      let a : Answer = init (notes_of co) client txn timeout in
-      replies_does client store (InitSays (notes_of co) client) a
-      (msg.InitReply client correlation)
-      (init_does sent (notes_of co) client correlation timeout txn m)
-      (λ h. init_out client correlation a.note a.code a.held h)
+      (coordinator_takes co store (the.InitProducerId caller txn timeout))
+  init_request_does store caller txn timeout m =
+      let a : Answer = init (notes_of co) caller.client txn timeout in
+      replies_does caller.client store (InitSays (notes_of co) caller.client) a
+      (the.InitReply caller)
+      (init_does sent (notes_of co) caller timeout txn m)
+      (λ h. init_out caller a.note a.code a.held h)
       (record { says = tt; kind = init_reply; is_new = tt; addressed = refl })
 
   add_request_does : (store : Store) (txn : List ℕ) (held : Held) (partition : ℕ)
-      → Contains sent (msg.AddPartition txn held partition)
-      → CoordinatorDoes sent co (coordinator_takes co store (msg.AddPartition txn held partition))
+      → Contains sent (the.AddPartition txn held partition)
+      → CoordinatorDoes sent co (coordinator_takes co store (the.AddPartition txn held partition))
   add_request_does store txn held partition m =
       let a : Answer = add (notes_of co) co.clock txn held partition in
       replies_does 0 store
       (λ note after. Listed (log_after (notes_of co) note) partition held.id held.epoch) a
-      (λ code after. msg.AddReply partition txn held code)
+      (λ code after. the.AddReply partition txn held code)
       (add_does sent (notes_of co) co.clock held partition txn m)
       (λ h. add_out partition txn held a.note a.code h)
       (record { says = tt; kind = add_reply; is_new = tt; addressed = tt })
 
-  end_request_does : (store : Store) (client correlation : ℕ) (txn : List ℕ) (held : Held)
-      (outcome : Outcome) → Contains sent (msg.EndTxn client correlation txn held outcome)
+  end_request_does : (store : Store) (caller : Caller) (txn : List ℕ) (held : Held)
+      (outcome : Outcome) → Contains sent (the.EndTxn caller txn held outcome)
       → CoordinatorDoes sent co
-      (coordinator_takes co store (msg.EndTxn client correlation txn held outcome))
-  end_request_does store client correlation txn held outcome m =
+      (coordinator_takes co store (the.EndTxn caller txn held outcome))
+  end_request_does store caller txn held outcome m =
       let a : Answer = end_txn (notes_of co) txn held outcome in
-      replies_does 0 store (EndSays (notes_of co) held) a (msg.EndReply client correlation)
-      (end_does sent (notes_of co) sound client correlation held outcome txn m)
-      (λ h. end_out client correlation txn held outcome m a.note a.code a.held h)
+      replies_does 0 store (EndSays (notes_of co) held) a (the.EndReply caller)
+      (end_does sent (notes_of co) sound caller held outcome txn m)
+      (λ h. end_out caller txn held outcome m a.note a.code a.held h)
       (record { says = tt; kind = end_reply; is_new = tt; addressed = tt })
 
   ------ markers answered, time, reminders and restarts
@@ -494,7 +499,7 @@ module _ (sent : List Message) (co : Coordinator) (ok : CoordinatorOk sent co) w
       }
 
   marker_reply_does : (store : Store) (a : Answered) (c : ErrorCode)
-      → Contains sent (msg.MarkerReply a.partition a.txn a.held c)
+      → Contains sent (the.MarkerReply a.partition a.txn a.held c)
       → CoordinatorDoes sent co (on_marker_reply co store a c)
   marker_reply_does store a code.NoError m =
       settled_does store a m (settle (notes_of co) co.answered a)
@@ -503,14 +508,15 @@ module _ (sent : List Message) (co : Coordinator) (ok : CoordinatorOk sent co) w
 
   pub takes_does : (store : Store) (m : Message) → Contains sent m
       → CoordinatorDoes sent co (coordinator_takes co store m)
-  takes_does store (msg.InitProducerId client correlation txn timeout) m =
-      init_request_does store client correlation txn timeout m
-  takes_does store (msg.EndTxn client correlation txn held outcome) m =
-      end_request_does store client correlation txn held outcome m
-  takes_does store (msg.AddPartition txn held partition) m =
-      add_request_does store txn held partition m
-  takes_does store (msg.MarkerReply partition txn held c) m =
-      marker_reply_does store (record { txn = txn; held = held; partition = partition }) c m
+  takes_does store (msg.InitProducerId it) m =
+      init_request_does store it.caller it.txn it.timeout m
+  takes_does store (msg.EndTxn it) m =
+      end_request_does store it.caller it.txn it.held it.outcome m
+  takes_does store (msg.AddPartition it) m =
+      add_request_does store it.txn it.held it.partition m
+  takes_does store (msg.MarkerReply it) m =
+      marker_reply_does store
+      (record { txn = it.txn; held = it.held; partition = it.partition }) it.code m
   takes_does store other m = still 0 co.clock [] (silent 0 (notes_of co))
 
   pub passes_does : CoordinatorDoes sent co (co, [])

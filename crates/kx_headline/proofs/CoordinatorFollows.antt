@@ -10,9 +10,10 @@ use Rattle.std.proofs.lemmas.Bool.{cond_both}
 use Rattle.std.proofs.lemmas.Bool.Decides.{nat_tests}
 use Rattle.std.proofs.lemmas.List.Elements.{Contains-append_left, Contains-push}
 use Rattle.std.specs.List.{list_any}
+use Rattle.kx_message.specs.declared.requests.Caller.{Caller}
 use Rattle.kx_message.specs.declared.code.ErrorCode.TheVariants.{NoError}
 use Rattle.kx_message.specs.declared.message.Message.{Message}
-use Rattle.kx_message.specs.declared.message.Message.TheVariants as msg
+use Rattle.kx_message.specs.Messages as the
 use Rattle.kx_message.specs.declared.outcome.Outcome.{Outcome}
 use Rattle.kx_message.specs.declared.outcome.Outcome.TheVariants.{Abort}
 use Rattle.kx_model.specs.Coordinator.{Row, Note, CoordinatorEpoch, Allot, Written, State, Empty}
@@ -44,8 +45,8 @@ pub data IsActive : State → Type 0 where
 -- why a transaction ends, among the messages that were sent: its client asks, a later client comes,
 -- or it lasts too long
 pub data Reason (sent : List Message) (s : Row) : Outcome → Cause → Type 0 where
-  by_end : (o : Outcome) (client correlation : ℕ)
-      → Contains sent (msg.EndTxn client correlation s.txn (own_pair s) o) → Reason sent s o ByEnd
+  by_end : (o : Outcome) (caller : Caller)
+      → Contains sent (the.EndTxn caller s.txn (own_pair s) o) → Reason sent s o ByEnd
   by_init : Reason sent s Abort ByInit
   by_expiry : Reason sent s Abort ByExpiry
 
@@ -73,28 +74,28 @@ given_up log s = raised log s (Complete Abort) ByEnd
 pub data Follows (sent : List Message) (log : List Note) : Note → Type 0 where
   opens : coordinator_epoch log <ℤ greatest_epoch
       → Follows sent log (CoordinatorEpoch (coordinator_epoch log +ℤ pos 1))
-  allots : (client correlation timeout : ℕ)
-      → Contains sent (msg.InitProducerId client correlation None timeout)
+  allots : (caller : Caller) (timeout : ℕ)
+      → Contains sent (the.InitProducerId caller None timeout)
       → Follows sent log (Allot (next_id log))
-  begins : (txn : List ℕ) (client correlation timeout : ℕ) → row_of log txn ≡ None
-      → Contains sent (msg.InitProducerId client correlation (Some txn) timeout)
-      → Follows sent log (Written (first_use log client txn timeout))
+  begins : (txn : List ℕ) (caller : Caller) (timeout : ℕ) → row_of log txn ≡ None
+      → Contains sent (the.InitProducerId caller (Some txn) timeout)
+      → Follows sent log (Written (first_use log caller.client txn timeout))
   adds : (s : Row) (start partition : ℕ) → row_of log s.txn ≡ Some s → IsActive s.state
-      → Contains sent (msg.AddPartition s.txn (own_pair s) partition)
+      → Contains sent (the.AddPartition s.txn (own_pair s) partition)
       → Follows sent log (Written (with_added s start partition))
   prepares : (s : Row) (o : Outcome) (cause : Cause) → row_of log s.txn ≡ Some s
       → s.state ≡ Ongoing → Reason sent s o cause
       → Follows sent log (Written (prepared log s o cause))
-  takes_over : (s : Row) (client correlation timeout : ℕ) → row_of log s.txn ≡ Some s
-      → IsSettled s.state → s.owner < client
-      → Contains sent (msg.InitProducerId client correlation (Some s.txn) timeout)
-      → Follows sent log (Written (taken_over log s client timeout))
-  gives_up : (s : Row) (client correlation : ℕ) → row_of log s.txn ≡ Some s → IsSettled s.state
-      → Contains sent (msg.EndTxn client correlation s.txn (own_pair s) Abort)
+  takes_over : (s : Row) (caller : Caller) (timeout : ℕ) → row_of log s.txn ≡ Some s
+      → IsSettled s.state → s.owner < caller.client
+      → Contains sent (the.InitProducerId caller (Some s.txn) timeout)
+      → Follows sent log (Written (taken_over log s caller.client timeout))
+  gives_up : (s : Row) (caller : Caller) → row_of log s.txn ≡ Some s → IsSettled s.state
+      → Contains sent (the.EndTxn caller s.txn (own_pair s) Abort)
       → Follows sent log (Written (given_up log s))
   completes : (s : Row) (o : Outcome) → row_of log s.txn ≡ Some s → s.state ≡ Prepare o
       → ((p : ℕ) → Contains s.partitions p
-      → Contains sent (msg.MarkerReply p s.txn (own_pair s) NoError))
+      → Contains sent (the.MarkerReply p s.txn (own_pair s) NoError))
       → Follows sent log (Written (completed log s o))
 
 -- what may be written may be written when more was sent
@@ -102,19 +103,19 @@ pub follows_later : {sent later : List Message} {log : List Note} {note : Note}
     → ((m : Message) → Contains sent m → Contains later m) → Follows sent log note
     → Follows later log note
 follows_later up (opens e) = opens e
-follows_later up (allots c k t m) = allots c k t (up _ m)
-follows_later up (begins txn c k t none m) = begins txn c k t none (up _ m)
+follows_later up (allots c t m) = allots c t (up _ m)
+follows_later up (begins txn c t none m) = begins txn c t none (up _ m)
 follows_later up (adds s start p found active m) = adds s start p found active (up _ m)
 follows_later {sent} {later} up (prepares s o cause found going why) =
     prepares s o cause found going (by why)
   where
     by : {o : Outcome} {cause : Cause} → Reason sent s o cause → Reason later s o cause
-    by (by_end o c k m) = by_end o c k (up _ m)
+    by (by_end o c m) = by_end o c (up _ m)
     by by_init = by_init
     by by_expiry = by_expiry
-follows_later up (takes_over s c k t found resting above m) =
-    takes_over s c k t found resting above (up _ m)
-follows_later up (gives_up s c k found resting m) = gives_up s c k found resting (up _ m)
+follows_later up (takes_over s c t found resting above m) =
+    takes_over s c t found resting above (up _ m)
+follows_later up (gives_up s c found resting m) = gives_up s c found resting (up _ m)
 follows_later up (completes s o found was m) = completes s o found was (λ p c. up _ (m p c))
 
 pub not_prepare : (st : State) → IsSettled st → (o : Outcome) → st ≡ Prepare o → ⊥
@@ -477,19 +478,19 @@ pub sound_next : {sent : List Message} {log : List Note} {note : Note} → Sound
 sound_next {log} sound (opens e) =
     sound_other log (CoordinatorEpoch (coordinator_epoch log +ℤ pos 1)) sound (λ r e. cc)
     (λ test. refl)
-sound_next {log} sound (allots c k t m) =
+sound_next {log} sound (allots c t m) =
     sound_other log (Allot (next_id log)) sound (λ r e. cc) (λ test. refl)
-sound_next {log} sound (begins txn c k t none m) =
-    sound_written log (first_use log c txn t) sound (fits_begins sound txn c t none)
+sound_next {log} sound (begins txn c t none m) =
+    sound_written log (first_use log c.client txn t) sound (fits_begins sound txn c.client t none)
 sound_next {log} sound (adds s start p found active m) =
     sound_written log (with_added s start p) sound (fits_adds sound found start p active)
 sound_next {log} sound (prepares s o cause found going why) =
     sound_written log (prepared log s o cause) sound (fits_prepares sound found o cause going)
-sound_next {log} sound (takes_over s c k t found resting above m) =
-    sound_written log (taken_over log s c t) sound
-    (fits_raised sound found (taken_over log s c t) refl refl resting empty
-    (is_taken_over log s c t))
-sound_next {log} sound (gives_up s c k found resting m) =
+sound_next {log} sound (takes_over s c t found resting above m) =
+    sound_written log (taken_over log s c.client t) sound
+    (fits_raised sound found (taken_over log s c.client t) refl refl resting empty
+    (is_taken_over log s c.client t))
+sound_next {log} sound (gives_up s c found resting m) =
     sound_written log (given_up log s) sound
     (fits_raised sound found (given_up log s) refl refl resting (complete Abort)
     (is_raised log s (Complete Abort) ByEnd))

@@ -85,7 +85,8 @@ History sent log = Grows sent (CoordinatorEpoch (pos 1) ∷ []) log
 
 pub no_first_row : (r : Row) → Contains (CoordinatorEpoch (pos 1) ∷ []) (Written r) → ⊥
 no_first_row r c =
-    ⊎_elim (λ e. cc) (no_element (Written r)) (cons_cases (CoordinatorEpoch (pos 1)) (Written r) [] c)
+    ⊎_elim (λ e. cc) (no_element (Written r))
+    (cons_cases (CoordinatorEpoch (pos 1)) (Written r) [] c)
 
 pub first_sound : Sound (CoordinatorEpoch (pos 1) ∷ [])
 first_sound = record {
@@ -125,12 +126,12 @@ in_range_next {sent} mid note before n = record { ids = ids; epochs = epochs }
     after : (note : Note) → Follows sent mid note
         → FitsSigned w32 (epoch_after (coordinator_epoch mid) note)
     after note (opens low) = one_above (coordinator_epoch mid) before.epochs low
-    after note (allots c k t m) = before.epochs
-    after note (begins txn c k t unused m) = before.epochs
+    after note (allots c t m) = before.epochs
+    after note (begins txn c t unused m) = before.epochs
     after note (adds s start p found active m) = before.epochs
     after note (prepares s o cause found going why) = before.epochs
-    after note (takes_over s c k t found resting above m) = before.epochs
-    after note (gives_up s c k found resting m) = before.epochs
+    after note (takes_over s c t found resting above m) = before.epochs
+    after note (gives_up s c found resting m) = before.epochs
     after note (completes s o found was m) = before.epochs
 
     epochs : FitsSigned w32 (coordinator_epoch (mid ++ note ∷ []))

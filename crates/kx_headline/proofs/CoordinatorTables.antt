@@ -12,6 +12,7 @@ use Rattle.std.specs.Prelude.{is_some, option_map, ◌≤◌}
 use Rattle.std.proofs.lemmas.Bool.Decides.{nat_tests}
 use Rattle.std.proofs.lemmas.List.Elements.{All-contains, All-push, Contains-push}
 use Rattle.std.proofs.lemmas.Slice.Eq.{bytes_eq-Decides}
+use Rattle.kx_message.specs.declared.requests.Caller.{Caller}
 use Rattle.kx_message.specs.declared.code.ErrorCode.{ErrorCode}
 use Rattle.kx_message.specs.declared.code.ErrorCode.TheVariants.{NoError, InvalidProducerEpoch}
 use Rattle.kx_message.specs.declared.code.ErrorCode.TheVariants.{InvalidTxnState, ProducerFenced}
@@ -19,7 +20,7 @@ use Rattle.kx_message.specs.declared.code.ErrorCode.TheVariants.{InvalidProducer
 use Rattle.kx_message.specs.declared.code.ErrorCode.TheVariants.{ConcurrentTransactions}
 use Rattle.kx_message.specs.declared.message.Held.{Held}
 use Rattle.kx_message.specs.declared.message.Message.{Message}
-use Rattle.kx_message.specs.declared.message.Message.TheVariants as msg
+use Rattle.kx_message.specs.Messages as the
 use Rattle.kx_message.specs.declared.outcome.Outcome.{Outcome}
 use Rattle.kx_message.specs.declared.outcome.Outcome.TheVariants.{Abort, Commit}
 use Rattle.kx_model.specs.Coordinator.{Row, Note, Allot, Written, State, Empty, Ongoing, Prepare}
@@ -77,13 +78,13 @@ pub data InitSays (log : List Note) (client : ℕ) : Option Note → Option Held
   allotted : InitSays log client (Some (Allot (next_id log)))
       (Some (record { id = next_id log; epoch = 0 }))
 
-module _ (sent : List Message) (log : List Note) (client correlation timeout : ℕ) where
+module _ (sent : List Message) (log : List Note) (caller : Caller) (timeout : ℕ) where
   abbrev InitDoes : Answer → Type 0
-  InitDoes a = Does sent log (InitSays log client) a
+  InitDoes a = Does sent log (InitSays log caller.client) a
 
   module _ (r : Row) (found : row_of log r.txn ≡ Some r)
-      (m : Contains sent (msg.InitProducerId client correlation (Some r.txn) timeout)) where
-    again : (st : State) → client ≡ r.owner → InitDoes (asked_again r st)
+      (m : Contains sent (the.InitProducerId caller (Some r.txn) timeout)) where
+    again : (st : State) → caller.client ≡ r.owner → InitDoes (asked_again r st)
     again Empty same = record {
       follows = tt;
       says = λ e. owned None r (row_of-found log r.txn r found).0 (sym same);
@@ -92,14 +93,14 @@ module _ (sent : List Message) (log : List Note) (client correlation timeout : �
     again (Prepare o) same = refused InvalidTxnState (λ e. cc)
     again (Complete o) same = refused InvalidTxnState (λ e. cc)
 
-    takes : IsSettled r.state → r.owner < client
-        → InitDoes (writes (taken_over log r client timeout))
+    takes : IsSettled r.state → r.owner < caller.client
+        → InitDoes (writes (taken_over log r caller.client timeout))
     takes resting above = record {
       follows =
-          CoordinatorFollows.takes_over r client correlation timeout found resting above m;
-      says = λ e. owned (Some (Written (taken_over log r client timeout)))
-          (taken_over log r client timeout)
-          (Contains-push log (Written (taken_over log r client timeout))) refl;
+          CoordinatorFollows.takes_over r caller timeout found resting above m;
+      says = λ e. owned (Some (Written (taken_over log r caller.client timeout)))
+          (taken_over log r caller.client timeout)
+          (Contains-push log (Written (taken_over log r caller.client timeout))) refl;
     }
 
     fences : r.state ≡ Ongoing → InitDoes (fences_owner log r)
@@ -108,42 +109,44 @@ module _ (sent : List Message) (log : List Note) (client correlation timeout : �
       says = λ e. absurd cc;
     }
 
-    new : (st : State) → r.state ≡ st → r.owner < client
-        → InitDoes (newcomer log client timeout r st)
+    new : (st : State) → r.state ≡ st → r.owner < caller.client
+        → InitDoes (newcomer log caller.client timeout r st)
     new Empty e above = takes (subst IsSettled (sym e) empty) above
     new Ongoing e above = fences e
     new (Prepare o) e above = refused ConcurrentTransactions (λ e. cc)
     new (Complete o) e above = takes (subst IsSettled (sym e) (complete o)) above
 
-    row_does : InitDoes (init_row log client timeout r)
+    row_does : InitDoes (init_row log caller.client timeout r)
     row_does =
-        cond_both (nat_lt client r.owner) (refuses ProducerFenced)
-        (cond (client == r.owner) (asked_again r r.state) (newcomer log client timeout r r.state))
+        cond_both (nat_lt caller.client r.owner) (refuses ProducerFenced)
+        (cond (caller.client == r.owner) (asked_again r r.state)
+        (newcomer log caller.client timeout r r.state))
         InitDoes (λ e. refused ProducerFenced (λ e. cc))
-        (λ e. cond_both (client == r.owner) (asked_again r r.state)
-        (newcomer log client timeout r r.state) InitDoes
+        (λ e. cond_both (caller.client == r.owner) (asked_again r r.state)
+        (newcomer log caller.client timeout r r.state) InitDoes
         (λ f. again r.state (grind (arith, nat_tests)))
         (λ f. new r.state refl (grind (arith, nat_tests))))
 
   pub init_does : (txn : Option (List ℕ))
-      → Contains sent (msg.InitProducerId client correlation txn timeout)
-      → InitDoes (init log client txn timeout)
+      → Contains sent (the.InitProducerId caller txn timeout)
+      → InitDoes (init log caller.client txn timeout)
   init_does None m =
-      record { follows = allots client correlation timeout m; says = λ e. allotted }
+      record { follows = allots caller timeout m; says = λ e. allotted }
   init_does (Some txn) m = at (row_of log txn) refl
     where
-      at : (o : Option Row) → row_of log txn ≡ o → InitDoes (init_at log client txn timeout o)
+      at : (o : Option Row) → row_of log txn ≡ o
+          → InitDoes (init_at log caller.client txn timeout o)
       at None none =
-          let first = first_use log client txn timeout in
+          let first = first_use log caller.client txn timeout in
           record {
-            follows = begins txn client correlation timeout none m;
+            follows = begins txn caller timeout none m;
             says = λ e. owned (Some (Written first)) first
                 (Contains-push log (Written first)) refl;
           }
       at (Some r) found =
           let same : r.txn ≡ txn = (row_of-found log txn r found).1 in
           row_does r (row_of-own_txn log txn r found)
-          (subst (λ t. Contains sent (msg.InitProducerId client correlation (Some t) timeout))
+          (subst (λ t. Contains sent (the.InitProducerId caller (Some t) timeout))
           (sym same) m)
 
 ------ what both other requests are refused for first
@@ -216,11 +219,11 @@ module _ (sent : List Message) (log : List Note) (clock : ℕ) (held : Held) (pa
       Does sent log (λ note after. Listed (log_after log note) partition held.id held.epoch) a
 
   module _ (r : Row) (found : row_of log r.txn ≡ Some r) (own : held ≡ own_pair r)
-      (m : Contains sent (msg.AddPartition r.txn held partition)) where
+      (m : Contains sent (the.AddPartition r.txn held partition)) where
     adds_it : (start : ℕ) → IsActive r.state → AddDoes (writes (with_added r start partition))
     adds_it start active = record {
       follows = adds r start partition found active
-          (subst (λ h. Contains sent (msg.AddPartition r.txn h partition)) own m);
+          (subst (λ h. Contains sent (the.AddPartition r.txn h partition)) own m);
       says = λ e. record {
         row = with_added r start partition;
         written = Contains-push log (Written (with_added r start partition));
@@ -255,7 +258,7 @@ module _ (sent : List Message) (log : List Note) (clock : ℕ) (held : Held) (pa
     add_in_does (Prepare o) e = refused ConcurrentTransactions (λ e. cc)
     add_in_does (Complete o) e = adds_it clock (settled (subst IsSettled (sym e) (complete o)))
 
-  pub add_does : (txn : List ℕ) → Contains sent (msg.AddPartition txn held partition)
+  pub add_does : (txn : List ℕ) → Contains sent (the.AddPartition txn held partition)
       → AddDoes (add log clock txn held partition)
   add_does txn m = at (row_of log txn) refl
     where
@@ -267,7 +270,7 @@ module _ (sent : List Message) (log : List Note) (clock : ℕ) (held : Held) (pa
           (λ first. cond_both (is_old r held) (refuses ProducerFenced) last AddDoes
           (λ old. refused ProducerFenced (λ e. cc))
           (λ old. add_in_does r (row_of-own_txn log txn r found) (own_passes r held first old)
-          (subst (λ t. Contains sent (msg.AddPartition t held partition)) (sym same) m) r.state
+          (subst (λ t. Contains sent (the.AddPartition t held partition)) (sym same) m) r.state
           refl))
 
       at : (o : Option Row) → row_of log txn ≡ o → AddDoes (add_at clock o held partition)
@@ -305,22 +308,22 @@ raised_ends log s r (anew a b c d) low now =
     let at_first : (r.epoch == 0) ≡ true = grind (arith, nat_tests) in
     or_right _ _ (and_from _ _ (and_from _ _ (and_from _ _ at_last was) at_first) done)
 
-module _ (sent : List Message) (log : List Note) (sound : Sound log) (client correlation : ℕ)
+module _ (sent : List Message) (log : List Note) (sound : Sound log) (caller : Caller)
     (held : Held) (outcome : Outcome) where
   abbrev EndDoes : Answer → Type 0
   EndDoes a = Does sent log (EndSays log held) a
 
   module _ (r : Row) (found : row_of log r.txn ≡ Some r)
-      (m : Contains sent (msg.EndTxn client correlation r.txn held outcome)) where
+      (m : Contains sent (the.EndTxn caller r.txn held outcome)) where
     its_row : Contains log (Written r)
     its_row = (row_of-found log r.txn r found).0
 
     gives : held ≡ own_pair r → IsSettled r.state
-        → Contains sent (msg.EndTxn client correlation r.txn held Abort)
+        → Contains sent (the.EndTxn caller r.txn held Abort)
         → EndDoes (writes (given_up log r))
     gives own resting m = record {
-      follows = gives_up r client correlation found resting
-          (subst (λ h. Contains sent (msg.EndTxn client correlation r.txn h Abort)) own m);
+      follows = gives_up r caller found resting
+          (subst (λ h. Contains sent (the.EndTxn caller r.txn h Abort)) own m);
       says = λ e. ended (Some (Written (given_up log r))) (given_up log r)
           (held_after (given_up log r))
           (Contains-push log (Written (given_up log r)))
@@ -330,7 +333,7 @@ module _ (sent : List Message) (log : List Note) (sound : Sound log) (client cor
     }
 
     nothing : (o : Outcome) → held ≡ own_pair r → IsSettled r.state
-        → Contains sent (msg.EndTxn client correlation r.txn held o)
+        → Contains sent (the.EndTxn caller r.txn held o)
         → EndDoes (nothing_sent log r o)
     nothing Abort own resting m = gives own resting m
     nothing Commit own resting m = refused InvalidTxnState (λ e. cc)
@@ -338,8 +341,8 @@ module _ (sent : List Message) (log : List Note) (sound : Sound log) (client cor
     prepares_it : held ≡ own_pair r → r.state ≡ Ongoing
         → EndDoes (writes (prepared log r outcome ByEnd))
     prepares_it own going = record {
-      follows = prepares r outcome ByEnd found going (by_end outcome client correlation
-          (subst (λ h. Contains sent (msg.EndTxn client correlation r.txn h outcome)) own m));
+      follows = prepares r outcome ByEnd found going (by_end outcome caller
+          (subst (λ h. Contains sent (the.EndTxn caller r.txn h outcome)) own m));
       says = λ e. ended (Some (Written (prepared log r outcome ByEnd)))
           (prepared log r outcome ByEnd) (held_after (prepared log r outcome ByEnd))
           (Contains-push log (Written (prepared log r outcome ByEnd)))
@@ -378,7 +381,7 @@ module _ (sent : List Message) (log : List Note) (sound : Sound log) (client cor
         (λ old. refused ProducerFenced (λ e. cc))
         (λ old. in_does r.state refl (own_passes r held first old)))
 
-  pub end_does : (txn : List ℕ) → Contains sent (msg.EndTxn client correlation txn held outcome)
+  pub end_does : (txn : List ℕ) → Contains sent (the.EndTxn caller txn held outcome)
       → EndDoes (end_txn log txn held outcome)
   end_does txn m = at (row_of log txn) refl
     where
@@ -388,14 +391,14 @@ module _ (sent : List Message) (log : List Note) (sound : Sound log) (client cor
           let same : r.txn ≡ txn = (row_of-found log txn r found).1 in
           or_answer_does r held (end_row log r held outcome)
           (end_row_does r (row_of-own_txn log txn r found)
-          (subst (λ t. Contains sent (msg.EndTxn client correlation t held outcome))
+          (subst (λ t. Contains sent (the.EndTxn caller t held outcome))
           (sym same) m))
 
 ------ markers answered
 
 -- a reply of code 0 to the marker was sent
 abbrev pub IsReplied : List Message → Answered → Type 0
-IsReplied sent a = Contains sent (msg.MarkerReply a.partition a.txn a.held NoError)
+IsReplied sent a = Contains sent (the.MarkerReply a.partition a.txn a.held NoError)
 
 pub same_answered_tells : (a b : Answered) → same_answered a b ≡ true → a ≡ b
 same_answered_tells a b h =

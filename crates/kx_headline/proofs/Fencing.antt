@@ -122,7 +122,7 @@ aborted_row r id epoch h d = at (ends id epoch r) d
 -- a row written by a fence or an expiry doesn't commit
 fencing_aborts : {sent : List Message} {s : Row} (o : Outcome) (cause : Cause)
     → Reason sent s o cause → is_fencing cause ≡ true → o ≡ Abort
-fencing_aborts o cause (by_end p c k m) h = absurd cc
+fencing_aborts o cause (by_end p c m) h = absurd cc
 fencing_aborts o cause by_init h = refl
 fencing_aborts o cause by_expiry h = refl
 
@@ -130,9 +130,9 @@ fence_aborts : {sent : List Message} (log : List Note) (note : Note) (f : Row) (
     → Follows sent log note → note ≡ Written f → is_fencing f.cause ≡ true
     → decides_now note id epoch ≡ Some Commit → ⊥
 fence_aborts log note f id epoch (opens low) e c d = cc
-fence_aborts log note f id epoch (allots client k t m) e c d = cc
-fence_aborts log note f id epoch (begins txn client k t first m) e c d =
-    undecided_row (first_use log client txn t) id epoch Commit refl d
+fence_aborts log note f id epoch (allots caller t m) e c d = cc
+fence_aborts log note f id epoch (begins txn caller t first m) e c d =
+    undecided_row (first_use log caller.client txn t) id epoch Commit refl d
 fence_aborts log note f id epoch (adds s start p found active m) e c d =
     undecided_row (with_added s start p) id epoch Commit refl d
 fence_aborts log note f id epoch (prepares s o cause found going why) e c d =
@@ -140,9 +140,9 @@ fence_aborts log note f id epoch (prepares s o cause found going why) e c d =
     aborted_row (prepared log s o cause) id epoch
     (ap Some (fencing_aborts o cause why
     (subst (λ x. is_fencing x ≡ true) (sym (ap (λ x. x.cause) same)) c))) d
-fence_aborts log note f id epoch (takes_over s client k t found resting above m) e c d =
-    undecided_row (taken_over log s client t) id epoch Commit refl d
-fence_aborts log note f id epoch (gives_up s client k found resting m) e c d =
+fence_aborts log note f id epoch (takes_over s caller t found resting above m) e c d =
+    undecided_row (taken_over log s caller.client t) id epoch Commit refl d
+fence_aborts log note f id epoch (gives_up s caller found resting m) e c d =
     aborted_row (given_up log s) id epoch refl d
 fence_aborts log note f id epoch (completes s o found was m) e c d =
     let same : completed log s o ≡ f = cc in
@@ -168,9 +168,9 @@ module _ {log : List Note} (sound : Sound log) where
       → ((s : Row) → row_of log s.txn ≡ Some s → s.id ≡ id → f.txn ≡ s.txn)
       → decision log id epoch ≡ None → decides_now note id epoch ≡ Some Commit → ⊥
   commits_late note f id epoch (opens low) c p t u d = cc
-  commits_late note f id epoch (allots client k tt m) c p t u d = cc
-  commits_late note f id epoch (begins txn client k time first m) c p t u d =
-      undecided_row (first_use log client txn time) id epoch Commit refl d
+  commits_late note f id epoch (allots caller tt m) c p t u d = cc
+  commits_late note f id epoch (begins txn caller time first m) c p t u d =
+      undecided_row (first_use log caller.client txn time) id epoch Commit refl d
   commits_late note f id epoch (adds s start q found active m) c p t u d =
       undecided_row (with_added s start q) id epoch Commit refl d
   commits_late note f id epoch (prepares s o cause found going why) c p t u d =
@@ -181,9 +181,9 @@ module _ {log : List Note} (sound : Sound log) where
       at (one_higher a b e) =
           not_both id epoch f s p (fence_behind f s c (t s found a) found) a (omega arith)
       at (replaced a b e g) = cc
-  commits_late note f id epoch (takes_over s client k time found resting above m) c p t u d =
-      undecided_row (taken_over log s client time) id epoch Commit refl d
-  commits_late note f id epoch (gives_up s client k found resting m) c p t u d =
+  commits_late note f id epoch (takes_over s caller time found resting above m) c p t u d =
+      undecided_row (taken_over log s caller.client time) id epoch Commit refl d
+  commits_late note f id epoch (gives_up s caller found resting m) c p t u d =
       aborted_row (given_up log s) id epoch refl d
   commits_late note f id epoch (completes s o found was m) c p t u d =
       let r = completed log s o in

@@ -1,3 +1,4 @@
+pub mod Codes
 pub mod ClientAsks
 pub mod ClientCommands
 pub mod ClientHolds

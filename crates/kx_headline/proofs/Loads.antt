@@ -18,7 +18,7 @@ pub record Reads (m : Message) (l : Load) : Type 0 where
 
 pub carries_reads : (m : Message) (l : Load) → Carries m l → Reads m l
 carries_reads m l
-    (with_batch client correlation txn partition transactional held first records fits low)
+    (with_batch caller txn partition transactional held first records fits low)
     =
     record {
       request = _;
@@ -29,7 +29,7 @@ carries_reads m l
       first = reads_sequence _ (record { sfits = omega (arith, low) });
     }
 carries_reads m l
-    (with_offsets client correlation txn group member generation held first offsets fits low)
+    (with_offsets caller txn group member generation held first offsets fits low)
     =
     record {
       request = _;

@@ -10,7 +10,7 @@ use Rattle.std.proofs.lemmas.List.Elements.{Contains-push_cases}
 use Rattle.kx_message.specs.declared.code.ErrorCode.TheVariants.{NoError}
 use Rattle.kx_message.specs.declared.message.Held.{Held}
 use Rattle.kx_message.specs.declared.message.Message.{Message}
-use Rattle.kx_message.specs.declared.message.Message.TheVariants as msg
+use Rattle.kx_message.specs.Messages as the
 use Rattle.kx_message.specs.declared.outcome.Outcome.{Outcome}
 use Rattle.kx_batch.specs.Batch.{Batch, batch_of}
 use Rattle.kx_model.specs.Log.{Entry, Data, Control, Marker, Placed, Sequenced, Stored, entries}
@@ -63,7 +63,7 @@ module _ (sent : List Message) (number : ℕ) where
     pub held : Held
     pub coordinator : ℤ
     pub outcome : Outcome
-    pub handed : Contains sent (msg.WriteMarker number txn held coordinator outcome)
+    pub handed : Contains sent (the.WriteMarker number txn held coordinator outcome)
     pub is : marker_of held coordinator outcome ≡ m
     pub verdict : judge_marker (entries before) m ≡ Appends
 
@@ -163,7 +163,7 @@ module _ (sent : List Message) (number : ℕ) where
     pub record WasAdded (id epoch : ℕ) : Type 0 where
       pub txn : List ℕ
       pub handed : Contains sent
-          (msg.AddReply number txn (record { id = id; epoch = epoch }) NoError)
+          (the.AddReply number txn (record { id = id; epoch = epoch }) NoError)
 
     same_pair : (a b : Held) → Some a ≡ Some b → a ≡ b
     same_pair a b e = cc
@@ -216,7 +216,7 @@ module _ (sent : List Message) (number : ℕ) where
             (batch_tells (entries earlier) false d v).may_open t) before
         by_list r verified (listed txn held h p) e v before = record {
           txn = txn;
-          handed = subst (λ k. Contains sent (msg.AddReply number txn k NoError))
+          handed = subst (λ k. Contains sent (the.AddReply number txn k NoError))
               (its_pair r held e p) h;
         }
 

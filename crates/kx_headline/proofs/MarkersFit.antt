@@ -3,7 +3,7 @@ use Rattle.std.proofs.Common.{◌≡◌, ℕ, ℤ, List, refl, ap}
 use Rattle.std.proofs.Common.{arith}
 use Rattle.std.proofs.lemmas.List.Elements.{All-contains}
 use Rattle.kx_message.specs.declared.message.Held.{Held}
-use Rattle.kx_message.specs.declared.message.Message.TheVariants as msg
+use Rattle.kx_message.specs.Messages as the
 use Rattle.kx_message.specs.declared.outcome.Outcome.{Outcome}
 use Rattle.kx_model.specs.Coordinator.{Row}
 use Rattle.kx_model.specs.Log.{MarkerFits}
@@ -17,7 +17,7 @@ use Rattle.kx_headline.proofs.PartitionHolds.{MarkersFit}
 
 module _ (w : World) (stands : CoordinatorStands w) where
   by_row : (partition : ℕ) (txn : List ℕ) (held : Held) (coordinator : ℤ) (outcome : Outcome)
-      → Says w.sent (notes w) (msg.WriteMarker partition txn held coordinator outcome)
+      → Says w.sent (notes w) (the.WriteMarker partition txn held coordinator outcome)
       → MarkerFits (marker_of held coordinator outcome)
   by_row partition txn held coordinator outcome marks =
       let r : Row = marks.row in
@@ -38,4 +38,4 @@ module _ (w : World) (stands : CoordinatorStands w) where
   markers_fit partition txn held coordinator outcome c =
       by_row partition txn held coordinator outcome
       (All-contains (Says w.sent (notes w)) w.sent
-      (msg.WriteMarker partition txn held coordinator outcome) stands.says c)
+      (the.WriteMarker partition txn held coordinator outcome) stands.says c)

@@ -10,10 +10,15 @@ use Rattle.std.proofs.lemmas.Bool.Decides.{nat_tests}
 use Rattle.std.proofs.lemmas.List.Elements.{All-append, All-contains, All-map, All-nil, All-push}
 use Rattle.std.proofs.lemmas.List.Elements.{All-weaker, Contains-append_cases}
 use Rattle.std.proofs.lemmas.List.Elements.{Contains-append_left, Contains-push_cases}
+use Rattle.kx_message.specs.Messages.{caller_with}
+use Rattle.kx_message.specs.declared.requests.Caller.{Caller}
+use Rattle.kx_model.specs.World.{is_given}
+use Rattle.kx_message.specs.declared.code.ErrorCode.{ErrorCode}
 use Rattle.kx_message.specs.declared.code.ErrorCode.TheVariants as code
 use Rattle.kx_message.specs.declared.message.Held.{Held}
 use Rattle.kx_message.specs.declared.message.Message.{Message}
 use Rattle.kx_message.specs.declared.message.Message.TheVariants as msg
+use Rattle.kx_message.specs.Messages as the
 use Rattle.kx_model.specs.Client.{Client, new_client}
 use Rattle.kx_model.specs.Coordinator.{Row, Note, Allot, Written, ends, next_id}
 use Rattle.kx_model.specs.CoordinatorNode.{Coordinated, notes_of}
@@ -88,8 +93,9 @@ names_ended r id epoch h = by (ends_tells id epoch r h)
 -- two clients that were handed an allotted id are one
 abbrev pub AllottedOnce : List Message → List Note → Type 0
 AllottedOnce sent log = (c d k l : ℕ) (held other : Held)
-    → Contains sent (msg.InitReply c k code.NoError (Some held))
-    → Contains sent (msg.InitReply d l code.NoError (Some other)) → Contains log (Allot held.id)
+    → Contains sent (the.InitReply (caller_with c k) code.NoError (Some held))
+    → Contains sent (the.InitReply (caller_with d l) code.NoError (Some other))
+    → Contains log (Allot held.id)
     → held.id ≡ other.id → c ≡ d
 
 pub record HoldersStand (w : World) : Type 0 where
@@ -118,29 +124,35 @@ data HandsNone : Message → Type 0 where
   partitions_own : {m : Message} → IsPartitions m → HandsNone m
   clients_own : {m : Message} → IsClients m → HandsNone m
 
-no_init : (c k : ℕ) (held : Held) → HandsNone (msg.InitReply c k code.NoError (Some held)) → ⊥
+no_init : (c k : ℕ) (held : Held)
+    → HandsNone (the.InitReply (caller_with c k) code.NoError (Some held)) → ⊥
 no_init c k held (partitions_own p) = elim p [ ]
 no_init c k held (clients_own p) = elim p [ ]
 
-no_end : (c k : ℕ) (held : Held) → HandsNone (msg.EndReply c k code.NoError (Some held)) → ⊥
+no_end : (c k : ℕ) (held : Held)
+    → HandsNone (the.EndReply (caller_with c k) code.NoError (Some held)) → ⊥
 no_end c k held (partitions_own p) = elim p [ ]
 no_end c k held (clients_own p) = elim p [ ]
 
 module _ (sent messages : List Message) (quiet : All HandsNone messages) where
   init_before : (c k : ℕ) (held : Held)
-      → Contains (sent ++ messages) (msg.InitReply c k code.NoError (Some held))
-      → Contains sent (msg.InitReply c k code.NoError (Some held))
+      → Contains (sent ++ messages) (the.InitReply (caller_with c k) code.NoError (Some held))
+      → Contains sent (the.InitReply (caller_with c k) code.NoError (Some held))
   init_before c k held there =
       ⊎_elim (λ c. c) (λ new. absurd (no_init c k held
-      (All-contains HandsNone messages (msg.InitReply c k code.NoError (Some held)) quiet new)))
-      (Contains-append_cases sent messages (msg.InitReply c k code.NoError (Some held)) there)
+      (All-contains HandsNone messages
+      (the.InitReply (caller_with c k) code.NoError (Some held)) quiet new)))
+      (Contains-append_cases sent messages
+      (the.InitReply (caller_with c k) code.NoError (Some held)) there)
 
   handed_before : (c : ℕ) (held : Held) → Handed (sent ++ messages) c held → Handed sent c held
   handed_before c held (by_init k there) = by_init k (init_before c k held there)
   handed_before c held (by_end k there) =
       ⊎_elim (λ c. by_end k c) (λ new. absurd (no_end c k held
-      (All-contains HandsNone messages (msg.EndReply c k code.NoError (Some held)) quiet new)))
-      (Contains-append_cases sent messages (msg.EndReply c k code.NoError (Some held)) there)
+      (All-contains HandsNone messages
+      (the.EndReply (caller_with c k) code.NoError (Some held)) quiet new)))
+      (Contains-append_cases sent messages
+      (the.EndReply (caller_with c k) code.NoError (Some held)) there)
 
 ------ the coordinator's turn
 
@@ -171,9 +183,10 @@ module _ (w : World) (h : HoldersStand w) (s : Coordinated)
   on = note_grows d.grows
 
   owned_init : (c k : ℕ) (held : Held)
-      → Contains s.1 (msg.InitReply c k code.NoError (Some held)) → Owned (notes_of s.0) c held
+      → Contains s.1 (the.InitReply (caller_with c k) code.NoError (Some held))
+      → Owned (notes_of s.0) c held
   owned_init c k held there =
-      by (out (msg.InitReply c k code.NoError (Some held)) there).says
+      by (out (the.InitReply (caller_with c k) code.NoError (Some held)) there).says
     where
       by : Has (notes_of s.0) c held → Owned (notes_of s.0) c held
       by (by_row r at o e) =
@@ -192,12 +205,14 @@ module _ (w : World) (h : HoldersStand w) (s : Coordinated)
       (names_ended r ending.id ending.epoch e))
 
   owned_end : (c k : ℕ) (held : Held)
-      → Contains s.1 (msg.EndReply c k code.NoError (Some held)) → Owned (notes_of s.0) c held
+      → Contains s.1 (the.EndReply (caller_with c k) code.NoError (Some held))
+      → Owned (notes_of s.0) c held
   owned_end c k held there =
-      let g : GivesNext w.sent (notes_of s.0) c k held =
-      (out (msg.EndReply c k code.NoError (Some held)) there).says in
+      let g : GivesNext w.sent (notes_of s.0) (caller_with c k) held =
+      (out (the.EndReply (caller_with c k) code.NoError (Some held)) there).says in
       let entitled : Handed w.sent c g.ending =
-      All-contains (IsEntitled w.sent) w.sent (msg.EndTxn c k g.txn g.ending g.outcome) h.entitled
+      All-contains (IsEntitled w.sent) w.sent
+      (the.EndTxn (caller_with c k) g.txn g.ending g.outcome) h.entitled
       g.asked in
       let o = ended_owner c g.ending (h.owned c g.ending entitled) g.row g.written g.its_end in
       by_pair g.row g.written o
@@ -207,35 +222,39 @@ module _ (w : World) (h : HoldersStand w) (s : Coordinated)
       → Owned (notes_of s.0) c held
   owned_next c held (by_init k there) =
       ⊎_elim (λ old. owned_later on (h.owned c held (by_init k old))) (owned_init c k held)
-      (Contains-append_cases w.sent s.1 (msg.InitReply c k code.NoError (Some held)) there)
+      (Contains-append_cases w.sent s.1
+      (the.InitReply (caller_with c k) code.NoError (Some held)) there)
   owned_next c held (by_end k there) =
       ⊎_elim (λ old. owned_later on (h.owned c held (by_end k old))) (owned_end c k held)
-      (Contains-append_cases w.sent s.1 (msg.EndReply c k code.NoError (Some held)) there)
+      (Contains-append_cases w.sent s.1
+      (the.EndReply (caller_with c k) code.NoError (Some held)) there)
 
   -- an id that is allotted and handed out now is the next id
   handed_now : (c k : ℕ) (held : Held)
-      → Contains s.1 (msg.InitReply c k code.NoError (Some held))
+      → Contains s.1 (the.InitReply (caller_with c k) code.NoError (Some held))
       → Contains (notes_of s.0) (Allot held.id) → held.id ≡ next_id (notes w)
   handed_now c k held there allotted =
       ⊎_elim (λ r. absurd (unnamed history held.id allotted r.0 r.1
       (own (sym (ap (λ x. x.id) r.2))))) (λ e. e)
-      (out (msg.InitReply c k code.NoError (Some held)) there).is_new
+      (out (the.InitReply (caller_with c k) code.NoError (Some held)) there).is_new
 
   handed_below : (c k : ℕ) (held : Held)
-      → Contains w.sent (msg.InitReply c k code.NoError (Some held))
+      → Contains w.sent (the.InitReply (caller_with c k) code.NoError (Some held))
       → held.id < next_id (notes w)
   handed_below c k held there =
       owned_below (notes w) c held (h.owned c held (by_init k there))
 
   once_next : AllottedOnce (w.sent ++ s.1) (notes_of s.0)
   once_next c d' k l held other there there' allotted same =
-      by (Contains-append_cases w.sent s.1 (msg.InitReply c k code.NoError (Some held)) there)
-      (Contains-append_cases w.sent s.1 (msg.InitReply d' l code.NoError (Some other)) there')
+      by (Contains-append_cases w.sent s.1
+      (the.InitReply (caller_with c k) code.NoError (Some held)) there)
+      (Contains-append_cases w.sent s.1
+      (the.InitReply (caller_with d' l) code.NoError (Some other)) there')
     where
-      by : Contains w.sent (msg.InitReply c k code.NoError (Some held))
-          ⊎ Contains s.1 (msg.InitReply c k code.NoError (Some held))
-          → Contains w.sent (msg.InitReply d' l code.NoError (Some other))
-          ⊎ Contains s.1 (msg.InitReply d' l code.NoError (Some other)) → c ≡ d'
+      by : Contains w.sent (the.InitReply (caller_with c k) code.NoError (Some held))
+          ⊎ Contains s.1 (the.InitReply (caller_with c k) code.NoError (Some held))
+          → Contains w.sent (the.InitReply (caller_with d' l) code.NoError (Some other))
+          ⊎ Contains s.1 (the.InitReply (caller_with d' l) code.NoError (Some other)) → c ≡ d'
       by (inl a) (inl b) =
           h.once c d' k l held other a b
           (allotted_before d.grows held.id (handed_below c k held a) allotted) same
@@ -249,8 +268,8 @@ module _ (w : World) (h : HoldersStand w) (s : Coordinated)
           let low = handed_below d' l other b in
           absurd (omega arith)
       by (inr a) (inr b) =
-          (out (msg.InitReply c k code.NoError (Some held)) a).addressed
-          ∙ sym (out (msg.InitReply d' l code.NoError (Some other)) b).addressed
+          (out (the.InitReply (caller_with c k) code.NoError (Some held)) a).addressed
+          ∙ sym (out (the.InitReply (caller_with d' l) code.NoError (Some other)) b).addressed
 
   -- the coordinator asks for no end of a transaction
   entitled_now : (m : Message) → IsCoordinators m → IsEntitled (w.sent ++ s.1) m
@@ -390,28 +409,36 @@ holders_stand_always = always HoldersStand holders_first holders_next
 
 ------ one holder
 
+-- the reply is the client's, with the code 0 and this pair
+given_tells : (c : ℕ) (held : Held) (caller : Caller) (k : ErrorCode) (given : Option Held)
+    → is_given c held caller k given ≡ true
+    → (k ≡ code.NoError) × (given ≡ Some held) × (caller.client ≡ c)
+given_tells c held caller code.NoError (Some given) h =
+    let a = and_parts (caller.client == c) (same_pair given held) h in
+    let b = and_parts (given.id == held.id) (given.epoch == held.epoch) a.1 in
+    let id : given.id ≡ held.id = grind (arith, nat_tests, b.0) in
+    let epoch : given.epoch ≡ held.epoch = grind (arith, nat_tests, b.1) in
+    let client : caller.client ≡ c = grind (arith, nat_tests, a.0) in
+    (refl, λ i. Some (record { id = id i; epoch = epoch i }), client)
+given_tells c held caller k given h = absurd cc
+
 -- what is handed over by the message
 hands_tells : (w : World) (c : ℕ) (held : Held) (m : Message) → Contains w.sent m
     → hands c held m ≡ true → Handed w.sent c held
-hands_tells w c held (msg.InitReply client k code.NoError (Some given)) there h =
-    let a = and_parts (client == c) (same_pair given held) h in
-    let b = and_parts (given.id == held.id) (given.epoch == held.epoch) a.1 in
-    let same_client : client ≡ c = grind (arith, nat_tests, a.0) in
-    let id : given.id ≡ held.id = grind (arith, nat_tests, b.0) in
-    let epoch : given.epoch ≡ held.epoch = grind (arith, nat_tests, b.1) in
-    let same : given ≡ held = λ i. record { id = id i; epoch = epoch i } in
-    by_init k (subst (λ x. Contains w.sent (msg.InitReply c k code.NoError (Some x))) same
-    (subst (λ x. Contains w.sent (msg.InitReply x k code.NoError (Some given))) same_client
-    there))
-hands_tells w c held (msg.EndReply client k code.NoError (Some given)) there h =
-    let a = and_parts (client == c) (same_pair given held) h in
-    let b = and_parts (given.id == held.id) (given.epoch == held.epoch) a.1 in
-    let same_client : client ≡ c = grind (arith, nat_tests, a.0) in
-    let id : given.id ≡ held.id = grind (arith, nat_tests, b.0) in
-    let epoch : given.epoch ≡ held.epoch = grind (arith, nat_tests, b.1) in
-    let same : given ≡ held = λ i. record { id = id i; epoch = epoch i } in
-    by_end k (subst (λ x. Contains w.sent (msg.EndReply c k code.NoError (Some x))) same
-    (subst (λ x. Contains w.sent (msg.EndReply x k code.NoError (Some given))) same_client there))
+hands_tells w c held (msg.InitReply it) there h =
+    let (zero, given, client) = given_tells c held it.caller it.code it.held h in
+    by_init it.caller.correlation
+    (subst (λ x. Contains w.sent
+    (the.InitReply (caller_with x it.caller.correlation) code.NoError (Some held))) client
+    (subst (λ x. Contains w.sent (the.InitReply it.caller x (Some held))) zero
+    (subst (λ x. Contains w.sent (the.InitReply it.caller it.code x)) given there)))
+hands_tells w c held (msg.EndReply it) there h =
+    let (zero, given, client) = given_tells c held it.caller it.code it.held h in
+    by_end it.caller.correlation
+    (subst (λ x. Contains w.sent
+    (the.EndReply (caller_with x it.caller.correlation) code.NoError (Some held))) client
+    (subst (λ x. Contains w.sent (the.EndReply it.caller x (Some held))) zero
+    (subst (λ x. Contains w.sent (the.EndReply it.caller it.code x)) given there)))
 hands_tells w c held m there h = absurd cc
 
 pub holds_tells : (w : World) (c : ℕ) (held : Held) → holds w c held ≡ true
@@ -426,11 +453,12 @@ module _ (w : World) (h : HoldersStand w) where
 
   -- what the end of a transaction gives, a row names
   end_named : (c k : ℕ) (held : Held)
-      → Contains w.sent (msg.EndReply c k code.NoError (Some held))
+      → Contains w.sent (the.EndReply (caller_with c k) code.NoError (Some held))
       → Contains (notes w) (Allot held.id) → ⊥
   end_named c k held there allotted =
-      let g : GivesNext w.sent (notes w) c k held =
-      All-contains (Says w.sent (notes w)) w.sent (msg.EndReply c k code.NoError (Some held))
+      let g : GivesNext w.sent (notes w) (caller_with c k) held =
+      All-contains (Says w.sent (notes w)) w.sent
+      (the.EndReply (caller_with c k) code.NoError (Some held))
       h.stands.says there in
       unnamed history_now held.id allotted g.row g.written
       (names_pair g.row held.id held.epoch (gives_after g.row held g.given))

@@ -8,7 +8,7 @@ use Rattle.std.specs.Prelude.{is_some}
 use Rattle.std.proofs.lemmas.List.Elements.{All-contains}
 use Rattle.kx_message.specs.declared.message.Held.{Held}
 use Rattle.kx_message.specs.declared.message.Message.{Message}
-use Rattle.kx_message.specs.declared.message.Message.TheVariants as msg
+use Rattle.kx_message.specs.Messages as the
 use Rattle.kx_message.specs.declared.outcome.Outcome.{Outcome}
 use Rattle.kx_model.specs.Coordinator.{Note, decision, outcome_of}
 use Rattle.kx_model.specs.Headline.{HasOneOutcome}
@@ -23,7 +23,7 @@ use Rattle.kx_headline.proofs.CoordinatorSound.{Sound}
 pub record IsAsked (w : World) (m : Marker) : Type 0 where
   pub partition : ℕ
   pub txn : List ℕ
-  pub asked : Contains w.sent (msg.WriteMarker partition txn
+  pub asked : Contains w.sent (the.WriteMarker partition txn
       (record { id = m.id; epoch = m.epoch }) m.coordinator m.outcome)
 
 -- each marker of a log was asked for
@@ -62,7 +62,7 @@ module _ (w : World) (stands : CoordinatorStands w) where
   says m c = All-contains (Says w.sent (notes w)) w.sent m stands.says c
 
   asked_decided : (p : ℕ) (txn : List ℕ) (held : Held) (coordinator : ℤ) (outcome : Outcome)
-      → Says w.sent (notes w) (msg.WriteMarker p txn held coordinator outcome)
+      → Says w.sent (notes w) (the.WriteMarker p txn held coordinator outcome)
       → IsDecided (notes w) held.id held.epoch outcome
   asked_decided p txn held k outcome marks =
       marks_decided (notes w) p held k outcome (stands_sound stands) marks
@@ -71,7 +71,7 @@ module _ (w : World) (stands : CoordinatorStands w) where
   marker_decided m a =
       let held : Held = record { id = m.id; epoch = m.epoch } in
       asked_decided a.partition a.txn held m.coordinator m.outcome
-      (says (msg.WriteMarker a.partition a.txn held m.coordinator m.outcome) a.asked)
+      (says (the.WriteMarker a.partition a.txn held m.coordinator m.outcome) a.asked)
 
 same_outcomes : (o u : Outcome) → Some o ≡ Some u → o ≡ u
 same_outcomes o u e = cc

@@ -6,7 +6,7 @@ use Rattle.std.proofs.Common.{subst, ⊎_elim, arith}
 use Rattle.std.proofs.lemmas.List.Elements.{All-contains}
 use Rattle.kx_message.specs.declared.code.ErrorCode.TheVariants.{NoError}
 use Rattle.kx_message.specs.declared.message.Held.{Held}
-use Rattle.kx_message.specs.declared.message.Message.TheVariants as msg
+use Rattle.kx_message.specs.Messages as the
 use Rattle.kx_model.specs.Coordinator.{owed}
 use Rattle.kx_model.specs.Log.{Data, Placed, Sequenced}
 use Rattle.kx_model.specs.Producers.{epoch_of}
@@ -28,7 +28,7 @@ use Rattle.kx_headline.proofs.OwedRows.{IsAnswered, owed_is, owes}
 -- an answered marker has brought its id to its epoch
 abbrev pub AnsweredReached : World → Type 0
 AnsweredReached w = (p : ℕ) (txn : List ℕ) (held : Held)
-    → Contains w.sent (msg.MarkerReply p txn held NoError)
+    → Contains w.sent (the.MarkerReply p txn held NoError)
     → AtLeast held.epoch (epoch_of (entries_at w p) held.id)
 
 -- an open transaction of a partition is owed its marker
@@ -55,7 +55,7 @@ open_owed w stands reached p built opened c =
         built there s.transactional in
         let held : Held = record { id = opened.item.id; epoch = opened.item.epoch } in
         All-contains (Says w.sent (notes w)) w.sent
-        (msg.AddReply p a.txn held NoError) stands.says
+        (the.AddReply p a.txn held NoError) stands.says
         a.handed
 
     closed : IsAnswered w.sent p opened.item.id (opened.item.epoch + 1) → ⊥

@@ -8,7 +8,7 @@ use Rattle.kx_model.specs.Headline.{HasOneOutcome, MarkersAgree, NothingCommits}
 use Rattle.kx_model.specs.Headline.{OffsetsWithTheirTransaction, OpenIsOwed}
 use Rattle.kx_model.specs.Log.{Control, Stored, entries, entry_of}
 use Rattle.kx_message.specs.declared.code.ErrorCode.TheVariants.{NoError}
-use Rattle.kx_message.specs.declared.message.Message.TheVariants as msg
+use Rattle.kx_message.specs.Messages as the
 use Rattle.kx_model.proofs.Logs.{entries-push}
 use Rattle.std.proofs.lemmas.List.Elements.{All-contains, Contains-push_cases}
 use Rattle.kx_model.specs.PartitionNode.{Partition}
@@ -58,7 +58,7 @@ module _ (w : World) (h : PartitionsStand w) where
           came a = record {
             partition = p;
             txn = a.txn;
-            asked = subst (λ k. Contains w.sent (msg.WriteMarker p a.txn
+            asked = subst (λ k. Contains w.sent (the.WriteMarker p a.txn
                 (record { id = k.id; epoch = k.epoch }) k.coordinator k.outcome)) a.is a.handed;
           }
 
@@ -68,7 +68,7 @@ module _ (w : World) (h : PartitionsStand w) where
   -- an answered marker has brought its id to its epoch
   answered_reached : AnsweredReached w
   answered_reached p txn held there =
-      All-contains (Promised w) w.sent (msg.MarkerReply p txn held NoError) h.promised there
+      All-contains (Promised w) w.sent (the.MarkerReply p txn held NoError) h.promised there
 
 pub markers_agree : MarkersAgree
 markers_agree count events fits =

@@ -13,7 +13,7 @@ use Rattle.std.proofs.lemmas.List.Elements.{Contains-push_cases}
 use Rattle.std.proofs.lemmas.Slice.Eq.{bytes_eq-Decides}
 use Rattle.kx_message.specs.declared.code.ErrorCode.TheVariants.{NoError}
 use Rattle.kx_message.specs.declared.message.Message.{Message}
-use Rattle.kx_message.specs.declared.message.Message.TheVariants as msg
+use Rattle.kx_message.specs.Messages as the
 use Rattle.kx_message.specs.declared.outcome.Outcome.{Outcome}
 use Rattle.kx_model.specs.Coordinator.{Row, Note, CoordinatorEpoch, Allot, Written, State, Empty}
 use Rattle.kx_model.specs.Coordinator.{Ongoing, Prepare, Complete, coordinator_epoch}
@@ -48,7 +48,7 @@ pub record IsOwed (log : List Note) (p id epoch : ℕ) : Type 0 where
 pub record IsAnswered (sent : List Message) (p id epoch : ℕ) : Type 0 where
   pub txn : List ℕ
   pub answered : Contains sent
-      (msg.MarkerReply p txn (record { id = id; epoch = epoch }) NoError)
+      (the.MarkerReply p txn (record { id = id; epoch = epoch }) NoError)
 
 abbrev pub OwedOrAnswered : List Message → List Note → ℕ → ℕ → ℕ → Type 0
 OwedOrAnswered sent log p id epoch = IsOwed log p id epoch ⊎ IsAnswered sent p id (epoch + 1)
@@ -118,13 +118,13 @@ module _ (sent : List Message) (log : List Note) (p : ℕ) where
   prepared_under_way s o epoch is_going (ending x g e) = absurd cc
 
   finished : (s : Row) (o : Outcome) (id epoch : ℕ) → s.state ≡ Prepare o → s.id ≡ id
-      → UnderWay epoch s → Contains sent (msg.MarkerReply p s.txn (own_pair s) NoError)
+      → UnderWay epoch s → Contains sent (the.MarkerReply p s.txn (own_pair s) NoError)
       → IsAnswered sent p id (epoch + 1)
   finished s o id epoch was i (going g e) m = absurd cc
   finished s o id epoch was i (ending x g e) m =
       record {
         txn = s.txn;
-        answered = subst (λ n. Contains sent (msg.MarkerReply p s.txn n NoError))
+        answered = subst (λ n. Contains sent (the.MarkerReply p s.txn n NoError))
             (λ j. record { id = i j; epoch = e j }) m;
       }
 
@@ -134,10 +134,10 @@ module _ (sent : List Message) (log : List Note) (p : ℕ) where
   old_owed note (opens low) id epoch o =
       let k = CoordinatorEpoch (coordinator_epoch log +ℤ pos 1) in
       inl (other k id epoch o (row_of-other log k o.row.txn refl))
-  old_owed note (allots client k t m) id epoch o =
+  old_owed note (allots caller t m) id epoch o =
       let a = Allot (next_id log) in inl (other a id epoch o (row_of-other log a o.row.txn refl))
-  old_owed note (begins txn client k t first m) id epoch o =
-      let r = first_use log client txn t in
+  old_owed note (begins txn caller t first m) id epoch o =
+      let r = first_use log caller.client txn t in
       inl (other (Written r) id epoch o (row_of-written log r o.row.txn
       (λ e. differ (sym first ∙ ap (row_of log) e ∙ o.current))))
     where
@@ -153,10 +153,10 @@ module _ (sent : List Message) (log : List Note) (p : ℕ) where
       goes_on s r id epoch found refl o
       (λ i l u. inl (owed_by r id epoch i l
       (ending x refl (prepared_under_way s x epoch is_going u))))
-  old_owed note (takes_over s client k t found set above m) id epoch o =
-      goes_on s (taken_over log s client t) id epoch found refl o
+  old_owed note (takes_over s caller t found set above m) id epoch o =
+      goes_on s (taken_over log s caller.client t) id epoch found refl o
       (λ i l u. absurd (resting s epoch set u))
-  old_owed note (gives_up s client k found set m) id epoch o =
+  old_owed note (gives_up s caller found set m) id epoch o =
       goes_on s (given_up log s) id epoch found refl o (λ i l u. absurd (resting s epoch set u))
   old_owed note (completes s x found was m) id epoch o =
       goes_on s (completed log s x) id epoch found refl o
@@ -166,17 +166,17 @@ module _ (sent : List Message) (log : List Note) (p : ℕ) where
   new_owed : (note : Note) → Follows sent log note → (r : Row) → note ≡ Written r
       → r.state ≡ Ongoing → Contains r.partitions p → IsOwed (log ++ note ∷ []) p r.id r.epoch
   new_owed note (opens low) r e g l = absurd cc
-  new_owed note (allots client k t m) r e g l = absurd cc
-  new_owed note (begins txn client k t first m) r e g l =
-      let h : first_use log client txn t ≡ r = cc in let s = ap (λ x. x.state) h in absurd cc
+  new_owed note (allots caller t m) r e g l = absurd cc
+  new_owed note (begins txn caller t first m) r e g l =
+      let h : first_use log caller.client txn t ≡ r = cc in let s = ap (λ x. x.state) h in absurd cc
   new_owed note (adds s start q found active m) r e g l =
       subst (λ n. IsOwed (log ++ n ∷ []) p r.id r.epoch) (sym e)
       (owed_by r r.id r.epoch refl l (going g refl))
   new_owed note (prepares s x cause found is_going why) r e g l =
       let h : prepared log s x cause ≡ r = cc in let s = ap (λ x. x.state) h in absurd cc
-  new_owed note (takes_over s client k t found set above m) r e g l =
-      let h : taken_over log s client t ≡ r = cc in let s = ap (λ x. x.state) h in absurd cc
-  new_owed note (gives_up s client k found set m) r e g l =
+  new_owed note (takes_over s caller t found set above m) r e g l =
+      let h : taken_over log s caller.client t ≡ r = cc in let s = ap (λ x. x.state) h in absurd cc
+  new_owed note (gives_up s caller found set m) r e g l =
       let h : given_up log s ≡ r = cc in let s = ap (λ x. x.state) h in absurd cc
   new_owed note (completes s x found was m) r e g l =
       let h : completed log s x ≡ r = cc in let s = ap (λ x. x.state) h in absurd cc

@@ -258,19 +258,19 @@ owner_next : {sent : List Message} {log : List Note} {note : Note} → Sound log
     → Follows sent log note → OneOwner (log ++ note ∷ [])
 owner_next {log = log} sound ow (opens low) =
     no_row_owner log (CoordinatorEpoch (coordinator_epoch log +ℤ pos 1)) ow (λ r e. cc)
-owner_next {log = log} sound ow (allots c k t m) =
+owner_next {log = log} sound ow (allots c t m) =
     no_row_owner log (Allot (next_id log)) ow (λ r e. cc)
-owner_next {log = log} sound ow (begins txn c k t first m) =
-    written_owner log (first_use log c txn t) ow (keeps_first sound txn c t)
+owner_next {log = log} sound ow (begins txn c t first m) =
+    written_owner log (first_use log c.client txn t) ow (keeps_first sound txn c.client t)
 owner_next {log = log} sound ow (adds s start p found active m) =
     written_owner log (with_added s start p) ow (keeps_adds sound ow found start p)
 owner_next {log = log} sound ow (prepares s o cause found going why) =
     written_owner log (prepared log s o cause) ow (keeps_prepares sound ow found o cause)
-owner_next {log = log} sound ow (takes_over s c k t found resting above m) =
-    let r = taken_over log s c t in
+owner_next {log = log} sound ow (takes_over s c t found resting above m) =
+    let r = taken_over log s c.client t in
     written_owner log r ow
-    (keeps_raised sound ow found r refl resting (inl refl) (is_taken_over log s c t))
-owner_next {log = log} sound ow (gives_up s c k found resting m) =
+    (keeps_raised sound ow found r refl resting (inl refl) (is_taken_over log s c.client t))
+owner_next {log = log} sound ow (gives_up s c found resting m) =
     let r = given_up log s in
     written_owner log r ow
     (keeps_raised sound ow found r refl resting (inr refl)
@@ -340,16 +340,17 @@ new_names {sent = sent} {log = log} sound f r e id n = by f e
 
     by : {note : Note} → Follows sent log note → note ≡ Written r → Old ⊎ (next_id log ≡ id)
     by (opens low) same = absurd cc
-    by (allots c k t m) same = absurd cc
-    by (begins txn c k t un m) same = first txn c t (as_new (first_use log c txn t) same)
+    by (allots c t m) same = absurd cc
+    by (begins txn c t un m) same =
+        first txn c.client t (as_new (first_use log c.client txn t) same)
     by (adds s start p found active m) same =
         added s start p (there sound found) (as_new (with_added s start p) same)
     by (prepares s o cause found going why) same =
         prepares_names s o cause (there sound found) (as_new (prepared log s o cause) same)
-    by (takes_over s c k t found resting above m) same =
-        let q = taken_over log s c t in
-        raises s q (there sound found) (is_taken_over log s c t) refl (as_new q same)
-    by (gives_up s c k found resting m) same =
+    by (takes_over s c t found resting above m) same =
+        let q = taken_over log s c.client t in
+        raises s q (there sound found) (is_taken_over log s c.client t) refl (as_new q same)
+    by (gives_up s c found resting m) same =
         let q = given_up log s in
         raises s q (there sound found) (is_raised log s (Complete Abort) ByEnd) refl
         (as_new q same)
@@ -361,12 +362,12 @@ new_names {sent = sent} {log = log} sound f r e id n = by f e
 pub new_allotment : {sent : List Message} {log : List Note} {note : Note} → Follows sent log note
     → (id : ℕ) → note ≡ Allot id → next_id log ≡ id
 new_allotment (opens low) id e = absurd cc
-new_allotment (allots c k t m) id e = cc
-new_allotment (begins txn c k t un m) id e = absurd cc
+new_allotment (allots c t m) id e = cc
+new_allotment (begins txn c t un m) id e = absurd cc
 new_allotment (adds s start p found active m) id e = absurd cc
 new_allotment (prepares s o cause found going why) id e = absurd cc
-new_allotment (takes_over s c k t found resting above m) id e = absurd cc
-new_allotment (gives_up s c k found resting m) id e = absurd cc
+new_allotment (takes_over s c t found resting above m) id e = absurd cc
+new_allotment (gives_up s c found resting m) id e = absurd cc
 new_allotment (completes s o found was m) id e = absurd cc
 
 pub allotted_below : (log : List Note) (id : ℕ) → Contains log (Allot id) → id < next_id log

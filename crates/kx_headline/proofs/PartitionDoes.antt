@@ -13,12 +13,14 @@ use Rattle.std.proofs.lemmas.List.Elements.{All-append, All-cons, All-filter, Al
 use Rattle.std.proofs.lemmas.List.Elements.{All-nil, All-push, All-tail, All-weaker}
 use Rattle.std.proofs.lemmas.List.Elements.{Contains-get_or}
 use Rattle.std.proofs.lemmas.List.Elements.{filter_passes}
+use Rattle.kx_message.specs.declared.requests.Caller.{Caller}
 use Rattle.kx_message.specs.Ranges.{offsets_partition}
 use Rattle.kx_message.specs.declared.code.ErrorCode.{ErrorCode}
 use Rattle.kx_message.specs.declared.code.ErrorCode.TheVariants as code
 use Rattle.kx_message.specs.declared.message.Held.{Held}
 use Rattle.kx_message.specs.declared.message.Message.{Message}
 use Rattle.kx_message.specs.declared.message.Message.TheVariants as msg
+use Rattle.kx_message.specs.Messages as the
 use Rattle.kx_message.specs.declared.outcome.Outcome.{Outcome}
 use Rattle.kx_varint.specs.BigEndian.{signed_text, unsigned_text}
 use Rattle.kx_batch.specs.Batch.{batch_limit, batch_of}
@@ -60,10 +62,10 @@ IsPaired parked = pair_of parked.request ≡ Some parked.held
 
 -- answers that say nothing of what stands in a log
 abbrev pub IsReading : Message → Type 0
-IsReading (msg.FetchReply client correlation number code next stable end aborted batches) = Unit {0}
-IsReading (msg.JoinReply client correlation code generation place count) = Unit {0}
-IsReading (msg.LeaveReply client correlation code) = Unit {0}
-IsReading (msg.OffsetFetchReply client correlation code offset) = Unit {0}
+IsReading (msg.FetchReply it) = Unit {0}
+IsReading (msg.JoinReply it) = Unit {0}
+IsReading (msg.LeaveReply it) = Unit {0}
+IsReading (msg.OffsetFetchReply it) = Unit {0}
 IsReading m = ⊥
 
 -- a batch that is made without a producer
@@ -84,7 +86,7 @@ module _ (number : ℕ) (p : Partition) (input : Option Message) where
   pub data Judged (r : Request) : Bool → Type 0 where
     at_first : Judged r false
     on_yes : (txn : List ℕ) (held : Held)
-        → input ≡ Some (msg.AddReply number txn held code.NoError) → pair_of r ≡ Some held
+        → input ≡ Some (the.AddReply number txn held code.NoError) → pair_of r ≡ Some held
         → Judged r true
 
   -- the text that may be appended to a log
@@ -92,7 +94,7 @@ module _ (number : ℕ) (p : Partition) (input : Option Message) where
     request : (r : Request) (verified : Bool) → Origin r → Judged r verified
         → judge_request (entries log) verified r ≡ Next → May log r.text
     marker : (txn : List ℕ) (held : Held) (coordinator : ℤ) (outcome : Outcome)
-        → input ≡ Some (msg.WriteMarker number txn held coordinator outcome)
+        → input ≡ Some (the.WriteMarker number txn held coordinator outcome)
         → judge_marker (entries log) (marker_of held coordinator outcome) ≡ Appends
         → May log (text_of (marker_of held coordinator outcome))
     plain : (text : List ℕ) → HasNoProducer text → judge_text (entries log) true text ≡ Next
@@ -123,23 +125,23 @@ module _ (number : ℕ) (p : Partition) (input : Option Message) where
         → Out log (reply_to r code.NoError (pos offset))
     refused : (r : Request) (c : ErrorCode) → Origin r → c ≢ code.NoError
         → Out log (reply_to r c (negsuc 0))
-    elsewhere : (client correlation partition : ℕ)
-        → Out log (msg.ProduceReply client correlation partition code.UnknownTopicOrPartition
+    elsewhere : (caller : Caller) (partition : ℕ)
+        → Out log (the.ProduceReply caller partition code.UnknownTopicOrPartition
         (negsuc 0))
     asks : (m : Message) (r : Request) (txn : List ℕ) (held : Held) → input ≡ Some m
         → request_of m ≡ Some r → partition_of r.target ≡ number → r.txn ≡ Some txn
-        → pair_of r ≡ Some held → Out log (msg.AddPartition txn held number)
+        → pair_of r ≡ Some held → Out log (the.AddPartition txn held number)
     marked : (txn : List ℕ) (held : Held) (coordinator : ℤ) (outcome : Outcome)
-        → input ≡ Some (msg.WriteMarker number txn held coordinator outcome)
+        → input ≡ Some (the.WriteMarker number txn held coordinator outcome)
         → judge_marker (entries p.disk.kept) (marker_of held coordinator outcome) ≡ Appends
         → GrowsTo (p.disk.kept
         ++ behind p.disk.kept (text_of (marker_of held coordinator outcome)) ∷ []) log
-        → Out log (msg.MarkerReply number txn held code.NoError)
+        → Out log (the.MarkerReply number txn held code.NoError)
     unmarked : (txn : List ℕ) (held : Held) (coordinator : ℤ) (outcome : Outcome)
-        (c : ErrorCode) → input ≡ Some (msg.WriteMarker number txn held coordinator outcome)
+        (c : ErrorCode) → input ≡ Some (the.WriteMarker number txn held coordinator outcome)
         → (c ≡ code.NoError → judge_marker (entries p.disk.kept)
         (marker_of held coordinator outcome) ≡ Answers code.NoError)
-        → Out log (msg.MarkerReply number txn held c)
+        → Out log (the.MarkerReply number txn held c)
     reads : (x : Message) → IsReading x → Out log x
 
   -- a parked request is one that came, with its pair
@@ -176,8 +178,7 @@ module _ (number : ℕ) (p : Partition) (input : Option Message) where
   out_later log later g x (again r offset earlier v o was h j) =
       again r offset earlier v o was (grows_on earlier log later h g) j
   out_later log later g x (refused r c o n) = refused r c o n
-  out_later log later g x (elsewhere client correlation partition) =
-      elsewhere client correlation partition
+  out_later log later g x (elsewhere caller partition) = elsewhere caller partition
   out_later log later g x (asks m r txn held i e n t h) = asks m r txn held i e n t h
   out_later log later g x (marked txn held coordinator outcome i j h) =
       marked txn held coordinator outcome i j
@@ -262,9 +263,9 @@ module _ (number : ℕ) (p : Partition) (input : Option Message) where
         grows = same q.disk.kept;
         out = one q.disk.kept
             (cond full (reply_to r code.ConcurrentTransactions (negsuc 0))
-            (msg.AddPartition txn held number))
+            (the.AddPartition txn held number))
             (cond_both full (reply_to r code.ConcurrentTransactions (negsuc 0))
-            (msg.AddPartition txn held number) (Out q.disk.kept)
+            (the.AddPartition txn held number) (Out q.disk.kept)
             (λ b. refused r code.ConcurrentTransactions (came m i e n) (λ e. cc))
             (λ b. asks m r txn held i e n t h));
       }
@@ -347,7 +348,7 @@ module _ (number : ℕ) (p : Partition) (input : Option Message) where
   others_wait held st = All-filter (λ x. not (is_for held x)) Waits p.parked st.parked
 
   on_yes_does : (store : Store) (txn : List ℕ) (held : Held) → State p
-      → input ≡ Some (msg.AddReply number txn held code.NoError)
+      → input ≡ Some (the.AddReply number txn held code.NoError)
       → Does p (on_add_reply number p store held code.NoError)
   on_yes_does store txn held st i =
       let d = resumes_does (record p { parked = without p.parked held }) store
@@ -382,7 +383,7 @@ module _ (number : ℕ) (p : Partition) (input : Option Message) where
   }
 
   on_reply_does : (store : Store) (txn : List ℕ) (held : Held) (c : ErrorCode) → State p
-      → input ≡ Some (msg.AddReply number txn held c) → Does p (on_add_reply number p store held c)
+      → input ≡ Some (the.AddReply number txn held c) → Does p (on_add_reply number p store held c)
   on_reply_does store txn held code.NoError st i = on_yes_does store txn held st i
   on_reply_does store txn held c st i = on_no_does store held c st (λ e. cc)
 
@@ -390,15 +391,15 @@ module _ (number : ℕ) (p : Partition) (input : Option Message) where
 
   on_marker_does : (store : Store) (txn : List ℕ) (held : Held) (coordinator : ℤ)
       (outcome : Outcome) (v : MarkerVerdict) → State p
-      → input ≡ Some (msg.WriteMarker number txn held coordinator outcome)
+      → input ≡ Some (the.WriteMarker number txn held coordinator outcome)
       → judge_marker (entries_of p) (marker_of held coordinator outcome) ≡ v
       → Does p (
         (marked_with p store (marker_of held coordinator outcome) v).partition,
-        msg.MarkerReply number txn held
+        the.MarkerReply number txn held
             (marked_with p store (marker_of held coordinator outcome) v).code ∷ [],
       )
   on_marker_does store txn held coordinator outcome (Answers c) st i j =
-      says p (msg.MarkerReply number txn held c) st
+      says p (the.MarkerReply number txn held c) st
       (unmarked txn held coordinator outcome c i (λ e. j ∙ ap Answers e))
   on_marker_does store txn held coordinator outcome Appends st i j =
       let log = p.disk.kept in
@@ -408,10 +409,10 @@ module _ (number : ℕ) (p : Partition) (input : Option Message) where
         state = appended_state p store text st (marker txn held coordinator outcome i j);
         grows = appended_grows p store text;
         out = by_written (is_written p.disk store) log later
-            (λ after c offset. All (Out after) (msg.MarkerReply number txn held c ∷ [])) (at_end p)
-            (one later (msg.MarkerReply number txn held code.NoError)
+            (λ after c offset. All (Out after) (the.MarkerReply number txn held c ∷ [])) (at_end p)
+            (one later (the.MarkerReply number txn held code.NoError)
             (marked txn held coordinator outcome i j (same later)))
-            (one log (msg.MarkerReply number txn held code.KafkaStorageError)
+            (one log (the.MarkerReply number txn held code.KafkaStorageError)
             (unmarked txn held coordinator outcome code.KafkaStorageError i
             (λ e. absurd (storage_fails e))));
       }
@@ -497,46 +498,47 @@ module _ (number : ℕ) (p : Partition) (store : Store) (paired : All IsPaired p
   is_here n e = grind (arith, nat_tests, e)
 
   takes_does : (m : Message) → DoesWith m (partition_takes number p store m)
-  takes_does (msg.AddReply n txn held c) =
-      let m = msg.AddReply n txn held c in
-      cond_both (n == number) _ _ (DoesWith m)
-      (λ e. on_reply_does number p (Some m) store txn held c (before m)
-      (ap (λ x. Some (msg.AddReply x txn held c)) (is_here n e)))
+  takes_does (msg.AddReply it) =
+      let m = msg.AddReply it in
+      cond_both (it.partition == number) _ _ (DoesWith m)
+      (λ e. on_reply_does number p (Some m) store it.txn it.held it.code (before m)
+      (ap (λ x. Some (the.AddReply x it.txn it.held it.code)) (is_here it.partition e)))
       (λ e. silent number p (Some m) p (before m))
-  takes_does (msg.WriteMarker n txn held coordinator outcome) =
-      let m = msg.WriteMarker n txn held coordinator outcome in
-      cond_both (n == number) _ _ (DoesWith m)
-      (λ e. on_marker_does number p (Some m) store txn held coordinator outcome
-      (judge_marker (entries_of p) (marker_of held coordinator outcome)) (before m)
-      (ap (λ x. Some (msg.WriteMarker x txn held coordinator outcome)) (is_here n e)) refl)
+  takes_does (msg.WriteMarker it) =
+      let m = msg.WriteMarker it in
+      cond_both (it.partition == number) _ _ (DoesWith m)
+      (λ e. on_marker_does number p (Some m) store it.txn it.held it.coordinator_epoch it.outcome
+      (judge_marker (entries_of p) (marker_of it.held it.coordinator_epoch it.outcome)) (before m)
+      (ap (λ x. Some (the.WriteMarker x it.txn it.held it.coordinator_epoch it.outcome))
+      (is_here it.partition e)) refl)
       (λ e. silent number p (Some m) p (before m))
-  takes_does (msg.Fetch client correlation n from room committed) =
-      let m = msg.Fetch client correlation n from room committed in
-      let none = fetch_reply client correlation n (Err code.UnknownTopicOrPartition) in
-      cond_both (n == number) _ _ (DoesWith m)
-      (λ e. fetch_does m client correlation
-      (fetched p.disk.kept from (min room batch_limit) committed))
+  takes_does (msg.Fetch it) =
+      let m = msg.Fetch it in
+      let none = fetch_reply it.caller it.partition (Err code.UnknownTopicOrPartition) in
+      cond_both (it.partition == number) _ _ (DoesWith m)
+      (λ e. fetch_does m it.caller
+      (fetched p.disk.kept it.from (min it.max batch_limit) it.committed))
       (λ e. says number p (Some m) p none (before m) (reads none tt))
     where
-      fetch_does : (m : Message) (client correlation : ℕ) (r : Result Page ErrorCode)
-          → DoesWith m (p, fetch_reply client correlation number r ∷ [])
-      fetch_does m client correlation (Ok page) =
-          says number p (Some m) p (fetch_reply client correlation number (Ok page)) (before m)
-          (reads (fetch_reply client correlation number (Ok page)) tt)
-      fetch_does m client correlation (Err c) =
-          says number p (Some m) p (fetch_reply client correlation number (Err c)) (before m)
-          (reads (fetch_reply client correlation number (Err c)) tt)
+      fetch_does : (m : Message) (caller : Caller) (r : Result Page ErrorCode)
+          → DoesWith m (p, fetch_reply caller number r ∷ [])
+      fetch_does m caller (Ok page) =
+          says number p (Some m) p (fetch_reply caller number (Ok page)) (before m)
+          (reads (fetch_reply caller number (Ok page)) tt)
+      fetch_does m caller (Err c) =
+          says number p (Some m) p (fetch_reply caller number (Err c)) (before m)
+          (reads (fetch_reply caller number (Err c)) tt)
   takes_does m = silent number p (Some m) p (before m)
 
   data_takes_does : (m : Message) → DoesWith m (data_takes number p store m)
-  data_takes_does (msg.Produce client correlation txn partition text) =
-      let m = msg.Produce client correlation txn partition text in
-      cond_both (partition == number) _ _ (DoesWith m)
+  data_takes_does (msg.Produce it) =
+      let m = msg.Produce it in
+      cond_both (it.partition == number) _ _ (DoesWith m)
       (λ e. on_request_does number p (Some m) p store m _ (before m) refl refl
       (grind (arith, nat_tests, e)))
-      (λ e. says number p (Some m) p (msg.ProduceReply client correlation partition
+      (λ e. says number p (Some m) p (the.ProduceReply it.caller it.partition
       code.UnknownTopicOrPartition (negsuc 0)) (before m)
-      (elsewhere client correlation partition))
+      (elsewhere it.caller it.partition))
   data_takes_does m = takes_does m
 
 module _ (p : Partition) (store : Store) (paired : All IsPaired p.parked) where
@@ -546,44 +548,44 @@ module _ (p : Partition) (store : Store) (paired : All IsPaired p.parked) where
   abbrev at_offsets : (m : Message) → State offsets_partition p (Some m) p
   at_offsets m = was offsets_partition p (Some m) paired
 
-  join_reads : (client correlation : ℕ) (group : List ℕ) (log : List Entry) (c : ErrorCode)
-      → IsReading (join_reply client correlation group log c)
-  join_reads client correlation group log code.NoError = tt
-  join_reads client correlation group log c = tt
+  join_reads : (caller : Caller) (group : List ℕ) (log : List Entry) (c : ErrorCode)
+      → IsReading (join_reply caller group log c)
+  join_reads caller group log code.NoError = tt
+  join_reads caller group log c = tt
 
   offsets_takes_does : (m : Message) → OffsetsDoes m (offsets_takes p store m)
-  offsets_takes_does
-      (msg.TxnOffsetCommit client correlation txn group member generation held first offsets)
-      =
+  offsets_takes_does (msg.TxnOffsetCommit it) =
       let m =
-      msg.TxnOffsetCommit client correlation txn group member generation held first offsets in
+      msg.TxnOffsetCommit it in
       on_request_does offsets_partition p (Some m) p store m _ (at_offsets m) refl refl refl
-  offsets_takes_does (msg.Join client correlation group) =
-      let m = msg.Join client correlation group in
-      let t = changed p store (judge_join (entries_of p) group client) in
-      let reply = join_reply client correlation group (entries_of t.partition) t.code in
+  offsets_takes_does (msg.Join it) =
+      let m = msg.Join it in
+      let t = changed p store (judge_join (entries_of p) it.group it.caller.client) in
+      let reply = join_reply it.caller it.group (entries_of t.partition) t.code in
       tells offsets_partition p (Some m) p t.partition reply
-      (changed_does offsets_partition p (Some m) p store (judge_join (entries_of p) group client)
+      (changed_does offsets_partition p (Some m) p store
+      (judge_join (entries_of p) it.group it.caller.client)
       (at_offsets m))
-      (join_reads client correlation group (entries_of t.partition) t.code)
-  offsets_takes_does (msg.Leave client correlation group) =
-      let m = msg.Leave client correlation group in
-      let t = changed p store (judge_leave (entries_of p) group client) in
-      tells offsets_partition p (Some m) p t.partition (msg.LeaveReply client correlation t.code)
-      (changed_does offsets_partition p (Some m) p store (judge_leave (entries_of p) group client)
+      (join_reads it.caller it.group (entries_of t.partition) t.code)
+  offsets_takes_does (msg.Leave it) =
+      let m = msg.Leave it in
+      let t = changed p store (judge_leave (entries_of p) it.group it.caller.client) in
+      tells offsets_partition p (Some m) p t.partition (the.LeaveReply it.caller t.code)
+      (changed_does offsets_partition p (Some m) p store
+      (judge_leave (entries_of p) it.group it.caller.client)
       (at_offsets m))
       tt
-  offsets_takes_does (msg.OffsetFetch client correlation group partition stable) =
-      let m = msg.OffsetFetch client correlation group partition stable in
-      let a = offset_fetch (entries_of p) group partition stable in
-      let reply = msg.OffsetFetchReply client correlation a.code a.offset in
+  offsets_takes_does (msg.OffsetFetch it) =
+      let m = msg.OffsetFetch it in
+      let a = offset_fetch (entries_of p) it.group it.partition it.stable in
+      let reply = the.OffsetFetchReply it.caller a.code a.offset in
       says offsets_partition p (Some m) p reply (at_offsets m) (reads reply tt)
-  offsets_takes_does (msg.Produce client correlation txn partition text) =
-      let m = msg.Produce client correlation txn partition text in
-      cond_both (partition == offsets_partition) _ _ (OffsetsDoes m)
+  offsets_takes_does (msg.Produce it) =
+      let m = msg.Produce it in
+      cond_both (it.partition == offsets_partition) _ _ (OffsetsDoes m)
       (λ e. silent offsets_partition p (Some m) p (at_offsets m))
-      (λ e. says offsets_partition p (Some m) p (refused_produce client correlation partition)
-      (at_offsets m) (elsewhere client correlation partition))
+      (λ e. says offsets_partition p (Some m) p (refused_produce it.caller it.partition)
+      (at_offsets m) (elsewhere it.caller it.partition))
   offsets_takes_does m = takes_does offsets_partition p store paired m
 
 -- a partition does no more than this with a message

@@ -11,7 +11,7 @@ use Rattle.kx_message.specs.declared.code.ErrorCode.TheVariants.{IllegalGenerati
 use Rattle.kx_message.specs.declared.code.ErrorCode.TheVariants.{UnknownMemberId}
 use Rattle.kx_message.specs.declared.message.Held.{Held}
 use Rattle.kx_message.specs.declared.message.Message.{Message}
-use Rattle.kx_message.specs.declared.message.Message.TheVariants as msg
+use Rattle.kx_message.specs.Messages as the
 use Rattle.kx_message.specs.declared.outcome.Outcome.{Outcome}
 use Rattle.kx_model.specs.Log.{Entry, MarkerFits, Stored, entries}
 use Rattle.kx_model.specs.PartitionNode.{Partition, marker_of}
@@ -39,7 +39,7 @@ module _ (sent : List Message) (number : ℕ) where
   pub data IsListed (r : Request) : Bool → Type 0 where
     unlisted : IsListed r false
     listed : (txn : List ℕ) (held : Held)
-        → Contains sent (msg.AddReply number txn held NoError) → pair_of r ≡ Some held
+        → Contains sent (the.AddReply number txn held NoError) → pair_of r ≡ Some held
         → IsListed r true
 
   -- why a text stands behind a log
@@ -47,7 +47,7 @@ module _ (sent : List Message) (number : ℕ) where
     asked : (r : Request) (verified : Bool) → WasAsked r → IsListed r verified
         → judge_request (entries log) verified r ≡ Next → Justified log r.text
     ended : (txn : List ℕ) (held : Held) (coordinator : ℤ) (outcome : Outcome)
-        → Contains sent (msg.WriteMarker number txn held coordinator outcome)
+        → Contains sent (the.WriteMarker number txn held coordinator outcome)
         → judge_marker (entries log) (marker_of held coordinator outcome) ≡ Appends
         → Justified log (text_of (marker_of held coordinator outcome))
     unowned : (text : List ℕ) → HasNoProducer text → judge_text (entries log) true text ≡ Next
@@ -87,7 +87,7 @@ module _ (sent later : List Message) (number : ℕ)
       → IsListed later number r verified
   listed_later r verified unlisted = unlisted
   listed_later r verified (listed txn held c e) =
-      listed txn held (more (msg.AddReply number txn held NoError) c) e
+      listed txn held (more (the.AddReply number txn held NoError) c) e
 
   justified_later : (log : List Stored) (text : List ℕ) → Justified sent number log text
       → Justified later number log text
@@ -95,7 +95,7 @@ module _ (sent later : List Message) (number : ℕ)
       asked r verified (asked_later r w) (listed_later r verified l) j
   justified_later log text (ended txn held coordinator outcome c j) =
       ended txn held coordinator outcome
-      (more (msg.WriteMarker number txn held coordinator outcome) c) j
+      (more (the.WriteMarker number txn held coordinator outcome) c) j
   justified_later log text (unowned text' n j) = unowned text' n j
 
   built_later : (log : List Stored) → Built sent number log → Built later number log
@@ -145,7 +145,7 @@ module _ (sent : List Message) (number : ℕ) (p : Partition) (input : Option Me
       → IsListed sent number r verified
   judged_listed r verified does.at_first = unlisted
   judged_listed r verified (does.on_yes txn held i e) =
-      listed txn held (handed_out (msg.AddReply number txn held NoError) i) e
+      listed txn held (handed_out (the.AddReply number txn held NoError) i) e
 
   may_justified : (log : List Stored) (text : List ℕ) → does.May number p input log text
       → Justified sent number log text
@@ -153,7 +153,7 @@ module _ (sent : List Message) (number : ℕ) (p : Partition) (input : Option Me
       asked r verified (origin_asked r o) (judged_listed r verified j) e
   may_justified log text (does.marker txn held coordinator outcome i e) =
       ended txn held coordinator outcome
-      (handed_out (msg.WriteMarker number txn held coordinator outcome) i) e
+      (handed_out (the.WriteMarker number txn held coordinator outcome) i) e
   may_justified log text (does.plain text' n e) = unowned text' n e
 
   found_built : (o : Option Stored) (stored : Stored) → Left sent number p.disk.kept o
@@ -195,7 +195,7 @@ module _ (sent : List Message) (number : ℕ) (p : Partition) (input : Option Me
 abbrev pub MarkersFit : List Message → Type 0
 MarkersFit sent =
     (partition : ℕ) (txn : List ℕ) (held : Held) (coordinator : ℤ) (outcome : Outcome)
-    → Contains sent (msg.WriteMarker partition txn held coordinator outcome)
+    → Contains sent (the.WriteMarker partition txn held coordinator outcome)
     → MarkerFits (marker_of held coordinator outcome)
 
 unless : (b : Bool) (code : ErrorCode) (v verdict : Verdict) → Accepts verdict

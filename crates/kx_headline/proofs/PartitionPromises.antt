@@ -8,12 +8,16 @@ use Rattle.std.proofs.lemmas.Bool.{cond_both}
 use Rattle.std.proofs.lemmas.Bool.Decides.{nat_tests}
 use Rattle.std.proofs.lemmas.List.{map-append}
 use Rattle.std.proofs.lemmas.List.Elements.{All-weaker, Contains-append_left}
+use Rattle.kx_message.specs.declared.requests.Caller.{Caller}
+use Rattle.std.specs.Bool.{⊤}
+use Rattle.kx_headline.proofs.Codes.{WithNoError, with_no_error}
 use Rattle.kx_message.specs.Ranges.{offsets_partition}
 use Rattle.kx_message.specs.declared.code.ErrorCode.{ErrorCode}
 use Rattle.kx_message.specs.declared.code.ErrorCode.TheVariants as code
 use Rattle.kx_message.specs.declared.message.Held.{Held}
 use Rattle.kx_message.specs.declared.message.Message.{Message}
 use Rattle.kx_message.specs.declared.message.Message.TheVariants as msg
+use Rattle.kx_message.specs.Messages as the
 use Rattle.kx_message.specs.declared.outcome.Outcome.{Outcome}
 use Rattle.kx_batch.specs.Batch.{batch_of}
 use Rattle.kx_model.specs.Disk.{GrowsTo}
@@ -82,34 +86,33 @@ last_there log later s g =
 
 -- a request of this client and correlation was handed out, and its batch stands
 pub record IsStored (sent : List Message) (number : ℕ) (log : List Stored)
-    (client correlation : ℕ) : Type 0 where
+    (caller : Caller) : Type 0 where
   pub request : Request
   pub asked_for : WasAsked sent number request
-  pub its_client : request.client ≡ client
-  pub its_correlation : request.correlation ≡ correlation
+  pub its_caller : request.caller ≡ caller
   pub stored : (d : Sequenced) → entry_in (batch_of request.text) ≡ Data d
       → StoredLike (entries log) d
 
 abbrev pub Promises : List Message → ℕ → List Stored → Message → Type 0
-Promises sent number log (msg.MarkerReply q txn held code.NoError) =
-    (q ≡ number) × AtLeast held.epoch (epoch_of (entries log) held.id)
-Promises sent number log (msg.ProduceReply client correlation q code.NoError offset) =
-    (q ≡ number) × IsStored sent number log client correlation
-Promises sent number log (msg.OffsetsReply client correlation code.NoError) =
-    (offsets_partition ≡ number) × IsStored sent number log client correlation
-Promises sent number log m = Unit {0}
+Promises sent number log (msg.MarkerReply it) = WithNoError it.code
+    ((it.partition ≡ number) × AtLeast it.held.epoch (epoch_of (entries log) it.held.id))
+Promises sent number log (msg.ProduceReply it) =
+    WithNoError it.code ((it.partition ≡ number) × IsStored sent number log it.caller)
+Promises sent number log (msg.OffsetsReply it) =
+    WithNoError it.code ((offsets_partition ≡ number) × IsStored sent number log it.caller)
+Promises sent number log m = ⊤
 
 reading_promises : (sent : List Message) (number : ℕ) (log : List Stored) (m : Message)
     → IsReading m → Promises sent number log m
-reading_promises sent number log (msg.MarkerReply q txn held c) is = absurd is
-reading_promises sent number log (msg.ProduceReply client correlation q c offset) is = absurd is
-reading_promises sent number log (msg.OffsetsReply client correlation c) is = absurd is
+reading_promises sent number log (msg.MarkerReply it) is = absurd is
+reading_promises sent number log (msg.ProduceReply it) is = absurd is
+reading_promises sent number log (msg.OffsetsReply it) is = absurd is
 reading_promises sent number log m is = tt
 
 marker_promises : (sent : List Message) (number : ℕ) (log : List Stored) (txn : List ℕ)
     (held : Held) (c : ErrorCode)
     → (c ≡ code.NoError → AtLeast held.epoch (epoch_of (entries log) held.id))
-    → Promises sent number log (msg.MarkerReply number txn held c)
+    → Promises sent number log (the.MarkerReply number txn held c)
 marker_promises sent number log txn held code.NoError h = (refl, h refl)
 marker_promises sent number log txn held c h = tt
 
@@ -122,7 +125,7 @@ refusal_promises sent number log r c offset (ToGroup group member generation) n 
 
 stored_promises : (sent : List Message) (number : ℕ) (log : List Stored) (r : Request)
     (offset : ℤ) (target : Target) → partition_of target ≡ number
-    → IsStored sent number log r.client r.correlation
+    → IsStored sent number log r.caller
     → Promises sent number log (reply_for r code.NoError offset target)
 stored_promises sent number log r offset (ToPartition partition) n s = (n, s)
 stored_promises sent number log r offset (ToGroup group member generation) n s = (n, s)
@@ -172,12 +175,11 @@ module _ (sent : List Message) (number : ℕ) (p : Partition) (input : Option Me
   done_stored : (log : List Stored) (r : Request) (earlier : List Stored) (verified : Bool)
       → does.Origin number p input r → judge_request (entries earlier) verified r ≡ Next
       → GrowsTo (earlier ++ behind earlier r.text ∷ []) log
-      → IsStored sent number log r.client r.correlation
+      → IsStored sent number log r.caller
   done_stored log r earlier verified o j g = record {
     request = r;
     asked_for = origin_asked sent number p input holds comes r o;
-    its_client = refl;
-    its_correlation = refl;
+    its_caller = refl;
     stored = λ d is. record {
       batch = d;
       there = subst (Contains (entries log))
@@ -194,7 +196,7 @@ module _ (sent : List Message) (number : ℕ) (p : Partition) (input : Option Me
   again_stored : (log : List Stored) (r : Request) (offset : ℕ) (earlier : List Stored)
       (verified : Bool) → does.Origin number p input r → GrowsTo earlier log
       → judge_request (entries earlier) verified r ≡ Duplicate offset
-      → IsStored sent number log r.client r.correlation
+      → IsStored sent number log r.caller
   again_stored log r offset earlier verified o g j =
       let text = text_verdict (entries earlier) verified r.text r.target (Duplicate offset)
       (λ c h. cc) j in
@@ -202,15 +204,14 @@ module _ (sent : List Message) (number : ℕ) (p : Partition) (input : Option Me
       record {
         request = r;
         asked_for = origin_asked sent number p input holds comes r o;
-        its_client = refl;
-        its_correlation = refl;
+        its_caller = refl;
         stored = λ d is. like_stays earlier log d g
             (duplicate_stands (entries earlier) verified d offset
             (ap (judge_entry (entries earlier) verified) (sym is) ∙ read.judged));
       }
 
   marked_reached : (log : List Stored) (txn : List ℕ) (held : Held) (coordinator : ℤ)
-      (outcome : Outcome) → input ≡ Some (msg.WriteMarker number txn held coordinator outcome)
+      (outcome : Outcome) → input ≡ Some (the.WriteMarker number txn held coordinator outcome)
       → judge_marker (entries p.disk.kept) (marker_of held coordinator outcome) ≡ Appends
       → GrowsTo (p.disk.kept
       ++ behind p.disk.kept (text_of (marker_of held coordinator outcome)) ∷ []) log
@@ -218,7 +219,7 @@ module _ (sent : List Message) (number : ℕ) (p : Partition) (input : Option Me
   marked_reached log txn held coordinator outcome i j g =
       let m = marker_of held coordinator outcome in
       let there = handed_out sent number p input holds comes
-      (msg.WriteMarker number txn held coordinator outcome) i in
+      (the.WriteMarker number txn held coordinator outcome) i in
       let is = marker_is p.disk.kept m (fit number txn held coordinator outcome there) j in
       reaches (entries log) (Control m) held.id held.epoch
       (subst (Contains (entries log)) is
@@ -236,7 +237,7 @@ module _ (sent : List Message) (number : ℕ) (p : Partition) (input : Option Me
       (again_stored log r offset earlier v o g j)
   out_promises log grows m (does.refused r c o n) =
       refusal_promises sent number log r c (negsuc 0) r.target n
-  out_promises log grows m (does.elsewhere client correlation partition) = tt
+  out_promises log grows m (does.elsewhere caller partition) = tt
   out_promises log grows m (does.asks x r txn held i e n t h) = tt
   out_promises log grows m (does.marked txn held coordinator outcome i j g) =
       (refl, marked_reached log txn held coordinator outcome i j g)

@@ -9,6 +9,9 @@ use Rattle.std.proofs.lemmas.Bool.{cond_both}
 use Rattle.std.proofs.lemmas.List.{append-nil}
 use Rattle.std.proofs.lemmas.List.Elements.{All-append, All-contains, All-nil, All-weaker}
 use Rattle.std.proofs.lemmas.List.Elements.{Contains-append_left}
+use Rattle.kx_message.specs.declared.requests.Caller.{Caller}
+use Rattle.std.specs.Bool.{⊤}
+use Rattle.kx_headline.proofs.Codes.{WithNoError, with_no_error}
 use Rattle.kx_message.specs.Ranges.{offsets_partition}
 use Rattle.kx_message.specs.declared.code.ErrorCode.TheVariants.{NoError}
 use Rattle.kx_message.specs.declared.message.Message.{Message}
@@ -53,13 +56,13 @@ PartitionsHold w = (q : ℕ) → IfSome (partition_at w q) (PartitionHolds w.sen
 -- a reply of code 0 to a marker means that its epoch is reached there, one to a batch that it
 -- stands
 abbrev pub Promised : World → Message → Type 0
-Promised w (msg.MarkerReply q txn held NoError) =
-    AtLeast held.epoch (epoch_of (entries_at w q) held.id)
-Promised w (msg.ProduceReply client correlation q NoError offset) =
-    IsStored w.sent q (log_at w q) client correlation
-Promised w (msg.OffsetsReply client correlation NoError) =
-    IsStored w.sent offsets_partition (log_at w offsets_partition) client correlation
-Promised w m = Unit {0}
+Promised w (msg.MarkerReply it) =
+    WithNoError it.code (AtLeast it.held.epoch (epoch_of (entries_at w it.partition) it.held.id))
+Promised w (msg.ProduceReply it) =
+    WithNoError it.code (IsStored w.sent it.partition (log_at w it.partition) it.caller)
+Promised w (msg.OffsetsReply it) = WithNoError it.code
+    (IsStored w.sent offsets_partition (log_at w offsets_partition) it.caller)
+Promised w m = ⊤
 
 pub record PartitionsStand (w : World) : Type 0 where
   pub coordinator : CoordinatorStands w
@@ -136,23 +139,24 @@ module _ (w later : World) (l : Later w later) where
   there_later m c =
       subst (λ list. Contains list m) (sym l.sent) (Contains-append_left w.sent l.more m c)
 
-  stored_later : (q client correlation : ℕ) → IsStored w.sent q (log_at w q) client correlation
-      → IsStored later.sent q (log_at later q) client correlation
-  stored_later q client correlation s = record {
+  stored_later : (q : ℕ) (caller : Caller) → IsStored w.sent q (log_at w q) caller
+      → IsStored later.sent q (log_at later q) caller
+  stored_later q caller s = record {
     request = s.request;
     asked_for = asked_later w.sent later.sent q there_later s.request s.asked_for;
-    its_client = s.its_client;
-    its_correlation = s.its_correlation;
+    its_caller = s.its_caller;
     stored = λ d is. like_stays (log_at w q) (log_at later q) d (l.logs q) (s.stored d is);
   }
 
   promised_later : (m : Message) → Promised w m → Promised later m
-  promised_later (msg.MarkerReply q txn held NoError) h =
-      reached_stays (log_at w q) (log_at later q) held.id held.epoch (l.logs q) h
-  promised_later (msg.ProduceReply client correlation q NoError offset) h =
-      stored_later q client correlation h
-  promised_later (msg.OffsetsReply client correlation NoError) h =
-      stored_later offsets_partition client correlation h
+  promised_later (msg.MarkerReply it) h =
+      let q = it.partition in
+      with_no_error it.code
+      (reached_stays (log_at w q) (log_at later q) it.held.id it.held.epoch (l.logs q)) h
+  promised_later (msg.ProduceReply it) h =
+      with_no_error it.code (stored_later it.partition it.caller) h
+  promised_later (msg.OffsetsReply it) h =
+      with_no_error it.code (stored_later offsets_partition it.caller) h
   promised_later m h = tt
 
   all_promised : All (Promised w) w.sent → All (Promised later) l.more
@@ -212,16 +216,15 @@ module _ (w : World) (number : ℕ) (p : Partition) (s : Served)
   log_is : s.0.disk.kept ≡ log_at after number
   log_is = sym (ap log_in (changed_there w number p s there))
 
-  is_there : (q client correlation : ℕ) → q ≡ number
-      → IsStored w.sent number s.0.disk.kept client correlation
-      → IsStored after.sent q (log_at after q) client correlation
-  is_there q client correlation e h =
-      subst (λ n. IsStored after.sent n (log_at after n) client correlation) (sym e) (record {
+  is_there : (q : ℕ) (caller : Caller) → q ≡ number
+      → IsStored w.sent number s.0.disk.kept caller
+      → IsStored after.sent q (log_at after q) caller
+  is_there q caller e h =
+      subst (λ n. IsStored after.sent n (log_at after n) caller) (sym e) (record {
         request = h.request;
         asked_for = asked_later w.sent after.sent number (Contains-append_left w.sent s.1)
             h.request h.asked_for;
-        its_client = h.its_client;
-        its_correlation = h.its_correlation;
+        its_caller = h.its_caller;
         stored = λ d is.
             like_stays s.0.disk.kept (log_at after number) d
             (record { more = []; parts = sym log_is ∙ sym (append-nil s.0.disk.kept) })
@@ -229,13 +232,15 @@ module _ (w : World) (number : ℕ) (p : Partition) (s : Served)
       })
 
   node_promised : (m : Message) → Promises w.sent number s.0.disk.kept m → Promised after m
-  node_promised (msg.MarkerReply q txn held NoError) h =
-      subst (λ n. AtLeast held.epoch (epoch_of (entries_at after n) held.id)) (sym h.0)
-      (subst (λ log. AtLeast held.epoch (epoch_of (entries log) held.id)) log_is h.1)
-  node_promised (msg.ProduceReply client correlation q NoError offset) h =
-      is_there q client correlation h.0 h.1
-  node_promised (msg.OffsetsReply client correlation NoError) h =
-      is_there offsets_partition client correlation h.0 h.1
+  node_promised (msg.MarkerReply it) said =
+      let held = it.held in
+      with_no_error it.code (λ h.
+        subst (λ n. AtLeast held.epoch (epoch_of (entries_at after n) held.id)) (sym h.0)
+        (subst (λ log. AtLeast held.epoch (epoch_of (entries log) held.id)) log_is h.1)) said
+  node_promised (msg.ProduceReply it) said =
+      with_no_error it.code (λ h. is_there it.partition it.caller h.0 h.1) said
+  node_promised (msg.OffsetsReply it) said =
+      with_no_error it.code (λ h. is_there offsets_partition it.caller h.0 h.1) said
   node_promised m h = tt
 
   abbrev logs_after : GrowsTo p.disk.kept s.0.disk.kept → Later w after

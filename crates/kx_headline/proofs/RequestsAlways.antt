@@ -8,10 +8,12 @@ use Rattle.std.proofs.lemmas.Bool.Decides.{nat_tests}
 use Rattle.std.proofs.lemmas.List.{append-nil, map-append}
 use Rattle.std.proofs.lemmas.List.Elements.{All-append, All-contains, All-map, All-nil, All-push}
 use Rattle.std.proofs.lemmas.List.Elements.{All-weaker, Contains-append_cases, Contains-append_left}
+use Rattle.kx_message.specs.Messages.{caller_with}
 use Rattle.kx_message.specs.declared.code.ErrorCode.TheVariants as code
 use Rattle.kx_message.specs.declared.message.Held.{Held}
 use Rattle.kx_message.specs.declared.message.Message.{Message}
 use Rattle.kx_message.specs.declared.message.Message.TheVariants as msg
+use Rattle.kx_message.specs.Messages as the
 use Rattle.kx_message.specs.declared.outcome.Outcome.TheVariants.{Commit}
 use Rattle.kx_model.specs.Client.{Client, new_client}
 use Rattle.kx_model.specs.Coordinator.{Complete, Empty, Ongoing, Prepare, Row, State}
@@ -92,7 +94,7 @@ module _ (w : World) (stands : CoordinatorStands w) where
 
   pub handed_fits : (c : ℕ) (held : Held) → Handed w.sent c held → HeldFits held
   handed_fits c held (by_init k there) =
-      by (says (msg.InitReply c k code.NoError (Some held)) there)
+      by (says (the.InitReply (caller_with c k) code.NoError (Some held)) there)
     where
       by : Has (notes w) c held → HeldFits held
       by (by_row r at o e) =
@@ -102,8 +104,8 @@ module _ (w : World) (stands : CoordinatorStands w) where
         epoch = omega (arith, e);
       }
   handed_fits c held (by_end k there) =
-      let g : GivesNext w.sent (notes w) c k held =
-      says (msg.EndReply c k code.NoError (Some held)) there in
+      let g : GivesNext w.sent (notes w) (caller_with c k) held =
+      says (the.EndReply (caller_with c k) code.NoError (Some held)) there in
       after_fits g.row g.written held g.given
 
   -- the pair after a row that ends a transaction is above the transaction's
@@ -133,11 +135,11 @@ module _ (w : World) (stands : CoordinatorStands w) where
           earlier_id (omega (arith, low, high))
 
   pub raised : (c i : ℕ) (held : Option Held)
-      → Contains w.sent (msg.EndReply c i code.NoError held) → Raises w.sent c i held
-  raised c i None there = absurd (says (msg.EndReply c i code.NoError None) there)
+      → Contains w.sent (the.EndReply (caller_with c i) code.NoError held) → Raises w.sent c i held
+  raised c i None there = absurd (says (the.EndReply (caller_with c i) code.NoError None) there)
   raised c i (Some held) there =
-      let g : GivesNext w.sent (notes w) c i held =
-      says (msg.EndReply c i code.NoError (Some held)) there in
+      let g : GivesNext w.sent (notes w) (caller_with c i) held =
+      says (the.EndReply (caller_with c i) code.NoError (Some held)) there in
       record {
         given = held;
         is = refl;
@@ -172,9 +174,9 @@ coordinator_sends m CoordinatorDoes.init_reply = refl
 coordinator_sends m CoordinatorDoes.end_reply = refl
 
 none_made : (sent : List Message) (m : Message) → OfNobody m → AreMade sent m
-none_made sent (msg.Produce client correlation txn partition text) e = absurd cc
+none_made sent (msg.Produce it) e = absurd cc
 none_made sent
-    (msg.TxnOffsetCommit client correlation txn group member generation held first offsets) e
+    (msg.TxnOffsetCommit it) e
     =
     absurd cc
 none_made sent other e = tt
@@ -182,7 +184,7 @@ none_made sent other e = tt
 made_later : (sent later : List Message)
     → ((x : Message) → Contains sent x → Contains later x) → (m : Message) → AreMade sent m
     → AreMade later m
-made_later sent later up (msg.Produce client correlation txn partition text) h = record {
+made_later sent later up (msg.Produce it) h = record {
   load = h.load;
   carries = h.carries;
   client = h.client;
@@ -190,7 +192,7 @@ made_later sent later up (msg.Produce client correlation txn partition text) h =
   handed = handed_later up h.handed;
 }
 made_later sent later up
-    (msg.TxnOffsetCommit client correlation txn group member generation held first offsets) h
+    (msg.TxnOffsetCommit it) h
     = record {
       load = h.load;
       carries = h.carries;
@@ -284,7 +286,7 @@ module _ (w : World) (h : RequestsStand w) where
 
     new_made : (m : Message) → sender m ≡ Some c.number → Makes c m
         → AreMade (w.sent ++ messages) m
-    new_made (msg.Produce client correlation txn partition text) s makes = record {
+    new_made (msg.Produce it) s makes = record {
       load = makes.0;
       carries = makes.1;
       client = c.number;
@@ -292,7 +294,7 @@ module _ (w : World) (h : RequestsStand w) where
       handed = handed_later (up messages) (entitled makes.0.held makes.2);
     }
     new_made
-        (msg.TxnOffsetCommit client correlation txn group member generation held first offsets) s
+        (msg.TxnOffsetCommit it) s
         makes
         = record {
           load = makes.0;
@@ -366,7 +368,7 @@ module _ (w : World) (h : RequestsStand w) where
     distinct = λ m n its. absurd (none m its);
     within = λ m l its. absurd (none m its);
     ends_within = λ k t held o there.
-        absurd (none (msg.EndTxn number k t held o) (there, refl));
+        absurd (none (the.EndTxn (caller_with number k) t held o) (there, refl));
     behind = λ m l its. absurd (none m its);
     once = λ m n l j its. absurd (none m its);
     waiting = All-nil (IsAwaited w.sent (new_client number txn timeout));
@@ -376,10 +378,11 @@ module _ (w : World) (h : RequestsStand w) where
     offsets_inside = λ m there. absurd (no_element m there);
     aborting = λ e. absurd cc;
     answered = λ f a no m l its. absurd (none m its);
-    ended = λ f x. absurd (none (msg.EndTxn number x.correlation x.txn x.held x.outcome)
+    ended = λ f x. absurd
+        (none (the.EndTxn (caller_with number x.correlation) x.txn x.held x.outcome)
         (x.there, refl));
     committed = λ k t held there.
-        absurd (none (msg.EndTxn number k t held Commit) (there, refl));
+        absurd (none (the.EndTxn (caller_with number k) t held Commit) (there, refl));
   }
     where
       none : (m : Message) → IsIts w.sent (new_client number txn timeout) m → ⊥

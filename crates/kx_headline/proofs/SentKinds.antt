@@ -10,12 +10,15 @@ use Rattle.std.specs.List.{list_any}
 use Rattle.std.proofs.lemmas.Bool.{cond_both}
 use Rattle.std.proofs.lemmas.List.Elements.{All-append, All-cons, All-filter, All-nil, All-push}
 use Rattle.std.proofs.lemmas.List.Elements.{All-map}
+use Rattle.kx_message.specs.declared.requests.Caller.{Caller}
+use Rattle.kx_model.specs.Client.{caller_of}
 use Rattle.kx_message.specs.Ranges.{offsets_partition}
 use Rattle.kx_message.specs.declared.code.ErrorCode.{ErrorCode}
 use Rattle.kx_message.specs.declared.code.ErrorCode.TheVariants as code
 use Rattle.kx_message.specs.declared.message.Held.{Held}
 use Rattle.kx_message.specs.declared.message.Message.{Message}
 use Rattle.kx_message.specs.declared.message.Message.TheVariants as msg
+use Rattle.kx_message.specs.Messages as the
 use Rattle.kx_message.specs.declared.outcome.Outcome.{Outcome}
 use Rattle.kx_message.specs.declared.outcome.Outcome.TheVariants.{Abort, Commit}
 use Rattle.kx_message.specs.declared.payload.AbortedTxn.{AbortedTxn}
@@ -50,22 +53,22 @@ use Rattle.kx_laws.proofs.Lists.{All-from_contains}
 -- the kinds that a partition hands out
 pub data IsPartitions : Message → Type 0 where
   adding : {txn : List ℕ} {held : Held} {partition : ℕ}
-      → IsPartitions (msg.AddPartition txn held partition)
+      → IsPartitions (the.AddPartition txn held partition)
   marked : {partition : ℕ} {txn : List ℕ} {held : Held} {code : ErrorCode}
-      → IsPartitions (msg.MarkerReply partition txn held code)
-  produced : {client correlation partition : ℕ} {code : ErrorCode} {offset : ℤ}
-      → IsPartitions (msg.ProduceReply client correlation partition code offset)
-  fetch : {client correlation partition : ℕ} {code : ErrorCode} {next stable end : ℤ}
+      → IsPartitions (the.MarkerReply partition txn held code)
+  produced : {caller : Caller} {partition : ℕ} {code : ErrorCode} {offset : ℤ}
+      → IsPartitions (the.ProduceReply caller partition code offset)
+  fetch : {caller : Caller} {partition : ℕ} {code : ErrorCode} {next stable end : ℤ}
       {aborted : List AbortedTxn} {batches : List ℕ} → IsPartitions
-      (msg.FetchReply client correlation partition code next stable end aborted batches)
-  joined : {client correlation : ℕ} {code : ErrorCode} {generation : ℤ} {place count : ℕ}
-      → IsPartitions (msg.JoinReply client correlation code generation place count)
-  left : {client correlation : ℕ} {code : ErrorCode}
-      → IsPartitions (msg.LeaveReply client correlation code)
-  offsets_stand : {client correlation : ℕ} {code : ErrorCode}
-      → IsPartitions (msg.OffsetsReply client correlation code)
-  offset_there : {client correlation : ℕ} {code : ErrorCode} {offset : ℤ}
-      → IsPartitions (msg.OffsetFetchReply client correlation code offset)
+      (the.FetchReply caller partition code next stable end aborted batches)
+  joined : {caller : Caller} {code : ErrorCode} {generation : ℤ} {place count : ℕ}
+      → IsPartitions (the.JoinReply caller code generation place count)
+  left : {caller : Caller} {code : ErrorCode}
+      → IsPartitions (the.LeaveReply caller code)
+  offsets_stand : {caller : Caller} {code : ErrorCode}
+      → IsPartitions (the.OffsetsReply caller code)
+  offset_there : {caller : Caller} {code : ErrorCode} {offset : ℤ}
+      → IsPartitions (the.OffsetFetchReply caller code offset)
 
 abbrev ArePartitions : List Message → Type 0
 ArePartitions ms = All IsPartitions ms
@@ -85,8 +88,8 @@ parks_sends : (number : ℕ) (p : Partition) (r : Request) (txn : Option (List �
     (held : Option Held) → ArePartitions (parks number p r txn held).1
 parks_sends number p r (Some txn) (Some held) =
     let full = reply_to r code.ConcurrentTransactions (negsuc 0) in
-    one (cond (is_full p.parked held r) full (msg.AddPartition txn held number))
-    (cond_both (is_full p.parked held r) full (msg.AddPartition txn held number) IsPartitions
+    one (cond (is_full p.parked held r) full (the.AddPartition txn held number))
+    (cond_both (is_full p.parked held r) full (the.AddPartition txn held number) IsPartitions
     (λ e. reply_is r code.ConcurrentTransactions (negsuc 0)) (λ e. adding))
 parks_sends number p r (Some txn) None = one _ (reply_is r code.InvalidTxnState (negsuc 0))
 parks_sends number p r None held = one _ (reply_is r code.InvalidTxnState (negsuc 0))
@@ -124,54 +127,52 @@ add_reply_sends number p store held other =
     (All-from_contains (λ parked. IsPartitions (passes_on other parked))
     (parked_for p.parked held) (λ parked c. reply_is parked.request _ _))
 
-fetch_sends : (client correlation number : ℕ) (page : Result Page ErrorCode)
-    → IsPartitions (fetch_reply client correlation number page)
-fetch_sends client correlation number (Err code) = fetch
-fetch_sends client correlation number (Ok page) = fetch
+fetch_sends : (caller : Caller) (number : ℕ) (page : Result Page ErrorCode)
+    → IsPartitions (fetch_reply caller number page)
+fetch_sends caller number (Err code) = fetch
+fetch_sends caller number (Ok page) = fetch
 
-join_sends : (client correlation : ℕ) (group : List ℕ) (log : List Entry) (code : ErrorCode)
-    → IsPartitions (join_reply client correlation group log code)
-join_sends client correlation group log code.NoError = joined
-join_sends client correlation group log other = joined
+join_sends : (caller : Caller) (group : List ℕ) (log : List Entry) (code : ErrorCode)
+    → IsPartitions (join_reply caller group log code)
+join_sends caller group log code.NoError = joined
+join_sends caller group log other = joined
 
 partition_sends : (number : ℕ) (p : Partition) (store : Store) (m : Message)
     → ArePartitions (partition_takes number p store m).1
-partition_sends number p store (msg.AddReply partition txn held code) =
-    cond_both (partition == number) _ _ (λ (s : Served). ArePartitions s.1)
-    (λ e. add_reply_sends number p store held code) (λ e. All-nil IsPartitions)
-partition_sends number p store (msg.WriteMarker partition txn held coordinator outcome) =
-    cond_both (partition == number) _ _ (λ (s : Served). ArePartitions s.1)
+partition_sends number p store (msg.AddReply it) =
+    cond_both (it.partition == number) _ _ (λ (s : Served). ArePartitions s.1)
+    (λ e. add_reply_sends number p store it.held it.code) (λ e. All-nil IsPartitions)
+partition_sends number p store (msg.WriteMarker it) =
+    cond_both (it.partition == number) _ _ (λ (s : Served). ArePartitions s.1)
     (λ e. one _ marked) (λ e. All-nil IsPartitions)
-partition_sends number p store (msg.Fetch client correlation partition from room committed) =
-    cond_both (partition == number) _ _ (λ (s : Served). ArePartitions s.1)
-    (λ e. one _ (fetch_sends client correlation number _)) (λ e. one _ fetch)
+partition_sends number p store (msg.Fetch it) =
+    cond_both (it.partition == number) _ _ (λ (s : Served). ArePartitions s.1)
+    (λ e. one _ (fetch_sends it.caller number _)) (λ e. one _ fetch)
 partition_sends number p store m = All-nil IsPartitions
 
 data_sends : (number : ℕ) (p : Partition) (store : Store) (m : Message)
     → ArePartitions (data_takes number p store m).1
-data_sends number p store (msg.Produce client correlation txn partition text) =
-    cond_both (partition == number) _ _ (λ (s : Served). ArePartitions s.1)
+data_sends number p store (msg.Produce it) =
+    cond_both (it.partition == number) _ _ (λ (s : Served). ArePartitions s.1)
     (λ e. request_sends number p store
-    (request_of (msg.Produce client correlation txn partition text)))
+    (request_of (msg.Produce it)))
     (λ e. one _ produced)
 data_sends number p store m = partition_sends number p store m
 
 offsets_sends : (p : Partition) (store : Store) (m : Message)
     → ArePartitions (offsets_takes p store m).1
-offsets_sends p store
-    (msg.TxnOffsetCommit client correlation txn group member generation held first offsets)
-    =
+offsets_sends p store (msg.TxnOffsetCommit it) =
     request_sends offsets_partition p store
     (request_of
-    (msg.TxnOffsetCommit client correlation txn group member generation held first offsets))
-offsets_sends p store (msg.Join client correlation group) =
-    let t = changed p store (judge_join (entries_of p) group client) in
-    one _ (join_sends client correlation group (entries_of t.partition) t.code)
-offsets_sends p store (msg.Leave client correlation group) = one _ left
-offsets_sends p store (msg.OffsetFetch client correlation group partition stable) =
+    (msg.TxnOffsetCommit it))
+offsets_sends p store (msg.Join it) =
+    let t = changed p store (judge_join (entries_of p) it.group it.caller.client) in
+    one _ (join_sends it.caller it.group (entries_of t.partition) t.code)
+offsets_sends p store (msg.Leave it) = one _ left
+offsets_sends p store (msg.OffsetFetch it) =
     one _ offset_there
-offsets_sends p store (msg.Produce client correlation txn partition text) =
-    cond_both (partition == offsets_partition) _ _ (λ (s : Served). ArePartitions s.1)
+offsets_sends p store (msg.Produce it) =
+    cond_both (it.partition == offsets_partition) _ _ (λ (s : Served). ArePartitions s.1)
     (λ e. All-nil IsPartitions) (λ e. one _ produced)
 offsets_sends p store m = partition_sends offsets_partition p store m
 
@@ -191,19 +192,19 @@ turn_sends w number p s PartitionTurn.passes = All-nil IsPartitions
 
 -- the kinds that a client hands out
 pub data IsClients : Message → Type 0 where
-  init : {client correlation : ℕ} {txn : Option (List ℕ)} {timeout : ℕ}
-      → IsClients (msg.InitProducerId client correlation txn timeout)
-  ends : {client correlation : ℕ} {txn : List ℕ} {held : Held} {outcome : Outcome}
-      → IsClients (msg.EndTxn client correlation txn held outcome)
-  produce : {client correlation : ℕ} {txn : Option (List ℕ)} {partition : ℕ} {text : List ℕ}
-      → IsClients (msg.Produce client correlation txn partition text)
-  commit : {client correlation : ℕ} {txn group : List ℕ} {member : ℕ} {generation : ℤ}
+  init : {caller : Caller} {txn : Option (List ℕ)} {timeout : ℕ}
+      → IsClients (the.InitProducerId caller txn timeout)
+  ends : {caller : Caller} {txn : List ℕ} {held : Held} {outcome : Outcome}
+      → IsClients (the.EndTxn caller txn held outcome)
+  produce : {caller : Caller} {txn : Option (List ℕ)} {partition : ℕ} {text : List ℕ}
+      → IsClients (the.Produce caller txn partition text)
+  commit : {caller : Caller} {txn group : List ℕ} {member : ℕ} {generation : ℤ}
       {held : Held} {first : ℤ} {offsets : List PartitionOffset} → IsClients
-      (msg.TxnOffsetCommit client correlation txn group member generation held first offsets)
-  join : {client correlation : ℕ} {group : List ℕ}
-      → IsClients (msg.Join client correlation group)
-  leave : {client correlation : ℕ} {group : List ℕ}
-      → IsClients (msg.Leave client correlation group)
+      (the.TxnOffsetCommit caller txn group member generation held first offsets)
+  join : {caller : Caller} {group : List ℕ}
+      → IsClients (the.Join caller group)
+  leave : {caller : Caller} {group : List ℕ}
+      → IsClients (the.Leave caller group)
 
 abbrev pub WaitsForOwn : Client → Type 0
 WaitsForOwn c = All IsClients c.waiting
@@ -234,7 +235,7 @@ offsets_send c offsets None held place h = none _
 end_sends : (c : Client) (outcome : Outcome) (txn : Option (List ℕ)) (held : Option Held)
     → WaitsForOwn c → Sends (sends_end c outcome txn held)
 end_sends c Commit (Some txn) (Some held) h =
-    cond_both c.sent_some (asks c (msg.EndTxn c.number c.correlation txn held Commit))
+    cond_both c.sent_some (asks c (the.EndTxn (caller_of c) txn held Commit))
     (Does (record c { in_transaction = false }) []) Sends (λ e. asks_sends c _ h ends)
     (λ e. those _ [] h (All-nil IsClients))
 end_sends c Abort (Some txn) (Some held) h =
@@ -307,19 +308,19 @@ holding_waits c (Some held) h = h
 
 told_waits : (c answered : Client) (reply : Message) → WaitsForOwn c → WaitsForOwn answered
     → WaitsForOwn (told c answered reply)
-told_waits c answered (msg.InitReply client correlation code held) a b =
-    learns_waits (meaning code) c answered (holding answered held) a b
-    (holding_waits answered held b)
-told_waits c answered (msg.EndReply client correlation code held) a b =
-    learns_waits (meaning code) c answered _ a b (holding_waits answered held b)
-told_waits c answered (msg.ProduceReply client correlation partition code offset) a b =
-    learns_waits (meaning code) c answered answered a b b
-told_waits c answered (msg.JoinReply client correlation code generation number count) a b =
-    learns_waits (meaning code) c answered _ a b b
-told_waits c answered (msg.LeaveReply client correlation code) a b =
-    learns_waits (meaning code) c answered answered a b b
-told_waits c answered (msg.OffsetsReply client correlation code) a b =
-    learns_waits (offsets_meaning code) c answered answered a b b
+told_waits c answered (msg.InitReply it) a b =
+    learns_waits (meaning it.code) c answered (holding answered it.held) a b
+    (holding_waits answered it.held b)
+told_waits c answered (msg.EndReply it) a b =
+    learns_waits (meaning it.code) c answered _ a b (holding_waits answered it.held b)
+told_waits c answered (msg.ProduceReply it) a b =
+    learns_waits (meaning it.code) c answered answered a b b
+told_waits c answered (msg.JoinReply it) a b =
+    learns_waits (meaning it.code) c answered _ a b b
+told_waits c answered (msg.LeaveReply it) a b =
+    learns_waits (meaning it.code) c answered answered a b b
+told_waits c answered (msg.OffsetsReply it) a b =
+    learns_waits (offsets_meaning it.code) c answered answered a b b
 told_waits c answered m a b = a
 
 reply_waits : (c : Client) (reply : Message) → WaitsForOwn c → WaitsForOwn (take_reply c reply)

@@ -28,7 +28,7 @@ use Rattle.kx_headline.proofs.StoredRequests.{place_of, same_tells, stored_as, s
 -- a partition has promised that the request's batch stands
 pub record IsAnswered (w : World) (r : Request) : Type 0 where
   pub partition : ℕ
-  pub stored : IsStored w.sent partition (log_at w partition) r.client r.correlation
+  pub stored : IsStored w.sent partition (log_at w partition) r.caller
 
 pub record ClientsKeep (w : World) : Type 0 where
   -- batches of one id, epoch and first sequence, sent to one partition, are one batch
@@ -39,8 +39,7 @@ pub record ClientsKeep (w : World) : Type 0 where
       → r.text ≡ s.text
   -- a client's correlation is that of one request
   pub one_request : (m n : Message) (r s : Request) → Contains w.sent m → Contains w.sent n
-      → request_of m ≡ Some r → request_of n ≡ Some s → r.client ≡ s.client
-      → r.correlation ≡ s.correlation → r ≡ s
+      → request_of m ≡ Some r → request_of n ≡ Some s → r.caller ≡ s.caller → r ≡ s
   -- what is decided to commit has each of its batches answered
   pub answered : (m : Message) (r : Request) (d : Sequenced) → Contains w.sent m
       → request_of m ≡ Some r → entry_in (batch_of r.text) ≡ Data d
@@ -66,13 +65,13 @@ module _ (w : World) (all : PartitionsHold w) (fit : MarkersFit w.sent) (clients
       s.is ∙ ap (stored_at offset) text
 
   promised : (partition : ℕ)
-      → IsStored w.sent partition (log_at w partition) r.client r.correlation
+      → IsStored w.sent partition (log_at w partition) r.caller
       → (offset : ℕ) × StandsAt w r offset (stored_at offset r.text)
   promised partition stored =
       let asked = stored.asked_for in
       let one : stored.request ≡ r =
       clients.one_request asked.message m stored.request r asked.handed handed asked.is is
-      stored.its_client stored.its_correlation in
+      stored.its_caller in
       let here : partition ≡ q =
       sym asked.here ∙ ap (λ (x : Request). partition_of x.target) one in
       let like = subst (λ n. StoredLike (entries (log_at w n)) d) here

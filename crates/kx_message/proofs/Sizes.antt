@@ -10,6 +10,7 @@ use Rattle.kx_message.specs.declared.outcome.Outcome.{Outcome}
 use Rattle.kx_message.specs.declared.payload.PartitionOffset.{PartitionOffset}
 use Rattle.kx_message.specs.declared.payload.AbortedTxn.{AbortedTxn}
 use Rattle.kx_message.specs.declared.message.Held.{Held}
+use Rattle.kx_message.specs.declared.requests.Caller.{Caller}
 use Rattle.kx_message.specs.declared.message.Message.{Message}
 use Rattle.kx_message.specs.declared.message.Message.TheVariants as msg
 use Rattle.kx_message.specs.Fields.{caller_text, name_text, optional_text, held_text}
@@ -34,9 +35,9 @@ of_signed w32 z = refl
 of_signed w64 z = refl
 of_signed w128 z = refl
 
-of_caller : (client correlation : ℕ) → length (caller_text client correlation) ≡ 8
+of_caller : (caller : Caller) → length (caller_text caller) ≡ 8
 unfolding caller_text
-of_caller client correlation = simp (length-append, of_unsigned) refl
+of_caller caller = simp (length-append, of_unsigned) refl
 
 pub of_name : (name : List ℕ) → length (name_text name) ≡ 1 + length name
 unfolding name_text
@@ -127,32 +128,32 @@ ruleset sizes = (
 )
 
 pub size_is : (m : Message) → length (fields_of m) ≡ size_of m
-size_is (msg.InitProducerId client correlation txn timeout) = simp sizes (omega arith)
-size_is (msg.InitReply client correlation code held) = simp sizes (omega arith)
-size_is (msg.EndTxn client correlation txn held outcome) = simp sizes (omega arith)
-size_is (msg.EndReply client correlation code held) = simp sizes (omega arith)
-size_is (msg.Produce client correlation txn partition batch) = simp sizes (omega arith)
-size_is (msg.ProduceReply client correlation partition code offset) = simp sizes (omega arith)
-size_is (msg.AddPartition txn held partition) = simp sizes (omega arith)
-size_is (msg.AddReply partition txn held code) = simp sizes (omega arith)
-size_is (msg.WriteMarker partition txn held coordinator outcome) = simp sizes (omega arith)
-size_is (msg.MarkerReply partition txn held code) = simp sizes (omega arith)
-size_is (msg.Fetch client correlation partition from max committed) = simp sizes (omega arith)
-size_is (msg.FetchReply client correlation partition code next lso end aborted batches) =
+size_is (msg.InitProducerId it) = simp sizes (omega arith)
+size_is (msg.InitReply it) = simp sizes (omega arith)
+size_is (msg.EndTxn it) = simp sizes (omega arith)
+size_is (msg.EndReply it) = simp sizes (omega arith)
+size_is (msg.Produce it) = simp sizes (omega arith)
+size_is (msg.ProduceReply it) = simp sizes (omega arith)
+size_is (msg.AddPartition it) = simp sizes (omega arith)
+size_is (msg.AddReply it) = simp sizes (omega arith)
+size_is (msg.WriteMarker it) = simp sizes (omega arith)
+size_is (msg.MarkerReply it) = simp sizes (omega arith)
+size_is (msg.Fetch it) = simp sizes (omega arith)
+size_is (msg.FetchReply it) =
     simp sizes (omega arith)
-size_is (msg.Join client correlation group) = simp sizes (omega arith)
-size_is (msg.JoinReply client correlation code generation place count) = simp sizes (omega arith)
-size_is (msg.Leave client correlation group) = simp sizes (omega arith)
-size_is (msg.LeaveReply client correlation code) = simp sizes (omega arith)
-size_is (msg.TxnOffsetCommit client correlation txn group member generation held first offsets) =
+size_is (msg.Join it) = simp sizes (omega arith)
+size_is (msg.JoinReply it) = simp sizes (omega arith)
+size_is (msg.Leave it) = simp sizes (omega arith)
+size_is (msg.LeaveReply it) = simp sizes (omega arith)
+size_is (msg.TxnOffsetCommit it) =
     simp sizes (omega arith)
-size_is (msg.OffsetsReply client correlation code) = simp sizes (omega arith)
-size_is (msg.OffsetFetch client correlation group partition stable) = simp sizes (omega arith)
-size_is (msg.OffsetFetchReply client correlation code offset) = simp sizes (omega arith)
+size_is (msg.OffsetsReply it) = simp sizes (omega arith)
+size_is (msg.OffsetFetch it) = simp sizes (omega arith)
+size_is (msg.OffsetFetchReply it) = simp sizes (omega arith)
 
 room_of : (m : Message) → size_of m < 2097152 → HasRoom m
-room_of (msg.Produce client correlation txn partition batch) h = omega arith
-room_of (msg.FetchReply client correlation partition code next lso end aborted batches) h =
+room_of (msg.Produce it) h = omega arith
+room_of (msg.FetchReply it) h =
     (omega arith, omega arith)
 room_of other h = tt
 

@@ -12,14 +12,15 @@ use Rattle.kx_message.specs.declared.outcome.Outcome.{Outcome}
 use Rattle.kx_message.specs.declared.payload.PartitionOffset.{PartitionOffset}
 use Rattle.kx_message.specs.declared.payload.AbortedTxn.{AbortedTxn}
 use Rattle.kx_message.specs.declared.message.Held.{Held}
+use Rattle.kx_message.specs.declared.requests.Caller.{Caller}
 use Rattle.kx_message.specs.declared.message.Message.{Message}
 use Rattle.kx_message.specs.declared.message.Message.TheVariants as msg
 
 ------ fields
 
 -- who asks, and the number that the reply repeats
-unfoldable pub caller_text : ℕ → ℕ → List ℕ
-caller_text client correlation = unsigned_text w32 client ++ unsigned_text w32 correlation
+unfoldable pub caller_text : Caller → List ℕ
+caller_text caller = unsigned_text w32 caller.client ++ unsigned_text w32 caller.correlation
 
 -- a length byte, and a name
 unfoldable pub name_text : List ℕ → List ℕ
@@ -74,77 +75,77 @@ aborted_text aborted = unsigned_text w32 (length aborted) ++ flat_map aborted_tx
 
 -- the byte that tells the kinds of messages apart
 abbrev pub kind_of : Message → ℕ
-kind_of (msg.InitProducerId client correlation txn timeout) = 1
-kind_of (msg.InitReply client correlation code held) = 2
-kind_of (msg.EndTxn client correlation txn held outcome) = 3
-kind_of (msg.EndReply client correlation code held) = 4
-kind_of (msg.Produce client correlation txn partition batch) = 5
-kind_of (msg.ProduceReply client correlation partition code offset) = 6
-kind_of (msg.AddPartition txn held partition) = 7
-kind_of (msg.AddReply partition txn held code) = 8
-kind_of (msg.WriteMarker partition txn held coordinator outcome) = 9
-kind_of (msg.MarkerReply partition txn held code) = 10
-kind_of (msg.Fetch client correlation partition from max committed) = 11
-kind_of (msg.FetchReply client correlation partition code next lso end aborted batches) = 12
-kind_of (msg.Join client correlation group) = 13
-kind_of (msg.JoinReply client correlation code generation place count) = 14
-kind_of (msg.Leave client correlation group) = 15
-kind_of (msg.LeaveReply client correlation code) = 16
-kind_of (msg.TxnOffsetCommit client correlation txn group member generation held first offsets) = 17
-kind_of (msg.OffsetsReply client correlation code) = 18
-kind_of (msg.OffsetFetch client correlation group partition stable) = 19
-kind_of (msg.OffsetFetchReply client correlation code offset) = 20
+kind_of (msg.InitProducerId it) = 1
+kind_of (msg.InitReply it) = 2
+kind_of (msg.EndTxn it) = 3
+kind_of (msg.EndReply it) = 4
+kind_of (msg.Produce it) = 5
+kind_of (msg.ProduceReply it) = 6
+kind_of (msg.AddPartition it) = 7
+kind_of (msg.AddReply it) = 8
+kind_of (msg.WriteMarker it) = 9
+kind_of (msg.MarkerReply it) = 10
+kind_of (msg.Fetch it) = 11
+kind_of (msg.FetchReply it) = 12
+kind_of (msg.Join it) = 13
+kind_of (msg.JoinReply it) = 14
+kind_of (msg.Leave it) = 15
+kind_of (msg.LeaveReply it) = 16
+kind_of (msg.TxnOffsetCommit it) = 17
+kind_of (msg.OffsetsReply it) = 18
+kind_of (msg.OffsetFetch it) = 19
+kind_of (msg.OffsetFetchReply it) = 20
 
 -- the fields of a message, one behind the other
 abbrev pub fields_of : Message → List ℕ
-fields_of (msg.InitProducerId client correlation txn timeout) =
-    caller_text client correlation ++ optional_text txn ++ unsigned_text w32 timeout
-fields_of (msg.InitReply client correlation code held) =
-    caller_text client correlation ++ code_text code ++ optional_held_text held
-fields_of (msg.EndTxn client correlation txn held outcome) =
-    caller_text client correlation ++ name_text txn ++ held_text held ++ outcome_field outcome
-fields_of (msg.EndReply client correlation code held) =
-    caller_text client correlation ++ code_text code ++ optional_held_text held
-fields_of (msg.Produce client correlation txn partition batch) =
-    caller_text client correlation ++ optional_text txn ++ unsigned_text w16 partition
-    ++ bytes_text batch
-fields_of (msg.ProduceReply client correlation partition code offset) =
-    caller_text client correlation ++ unsigned_text w16 partition ++ code_text code
-    ++ signed_text w64 offset
-fields_of (msg.AddPartition txn held partition) =
-    name_text txn ++ held_text held ++ unsigned_text w16 partition
-fields_of (msg.AddReply partition txn held code) =
-    unsigned_text w16 partition ++ name_text txn ++ held_text held ++ code_text code
-fields_of (msg.WriteMarker partition txn held coordinator outcome) =
-    unsigned_text w16 partition ++ name_text txn ++ held_text held ++ signed_text w32 coordinator
-    ++ outcome_field outcome
-fields_of (msg.MarkerReply partition txn held code) =
-    unsigned_text w16 partition ++ name_text txn ++ held_text held ++ code_text code
-fields_of (msg.Fetch client correlation partition from max committed) =
-    caller_text client correlation ++ unsigned_text w16 partition ++ signed_text w64 from
-    ++ unsigned_text w32 max ++ flag_text committed
-fields_of (msg.FetchReply client correlation partition code next lso end aborted batches) =
-    caller_text client correlation ++ unsigned_text w16 partition ++ code_text code
-    ++ signed_text w64 next ++ signed_text w64 lso ++ signed_text w64 end
-    ++ aborted_text aborted ++ bytes_text batches
-fields_of (msg.Join client correlation group) = caller_text client correlation ++ name_text group
-fields_of (msg.JoinReply client correlation code generation place count) =
-    caller_text client correlation ++ code_text code ++ signed_text w32 generation
-    ++ unsigned_text w16 place ++ unsigned_text w16 count
-fields_of (msg.Leave client correlation group) = caller_text client correlation ++ name_text group
-fields_of (msg.LeaveReply client correlation code) =
-    caller_text client correlation ++ code_text code
-fields_of (msg.TxnOffsetCommit client correlation txn group member generation held first offsets) =
-    caller_text client correlation ++ name_text txn ++ name_text group ++ unsigned_text w32 member
-    ++ signed_text w32 generation ++ held_text held ++ signed_text w32 first
-    ++ offsets_text offsets
-fields_of (msg.OffsetsReply client correlation code) =
-    caller_text client correlation ++ code_text code
-fields_of (msg.OffsetFetch client correlation group partition stable) =
-    caller_text client correlation ++ name_text group ++ unsigned_text w16 partition
-    ++ flag_text stable
-fields_of (msg.OffsetFetchReply client correlation code offset) =
-    caller_text client correlation ++ code_text code ++ signed_text w64 offset
+fields_of (msg.InitProducerId it) =
+    caller_text it.caller ++ optional_text it.txn ++ unsigned_text w32 it.timeout
+fields_of (msg.InitReply it) =
+    caller_text it.caller ++ code_text it.code ++ optional_held_text it.held
+fields_of (msg.EndTxn it) =
+    caller_text it.caller ++ name_text it.txn ++ held_text it.held ++ outcome_field it.outcome
+fields_of (msg.EndReply it) =
+    caller_text it.caller ++ code_text it.code ++ optional_held_text it.held
+fields_of (msg.Produce it) =
+    caller_text it.caller ++ optional_text it.txn ++ unsigned_text w16 it.partition
+    ++ bytes_text it.batch
+fields_of (msg.ProduceReply it) =
+    caller_text it.caller ++ unsigned_text w16 it.partition ++ code_text it.code
+    ++ signed_text w64 it.offset
+fields_of (msg.AddPartition it) =
+    name_text it.txn ++ held_text it.held ++ unsigned_text w16 it.partition
+fields_of (msg.AddReply it) =
+    unsigned_text w16 it.partition ++ name_text it.txn ++ held_text it.held ++ code_text it.code
+fields_of (msg.WriteMarker it) =
+    unsigned_text w16 it.partition ++ name_text it.txn ++ held_text it.held
+    ++ signed_text w32 it.coordinator_epoch ++ outcome_field it.outcome
+fields_of (msg.MarkerReply it) =
+    unsigned_text w16 it.partition ++ name_text it.txn ++ held_text it.held ++ code_text it.code
+fields_of (msg.Fetch it) =
+    caller_text it.caller ++ unsigned_text w16 it.partition ++ signed_text w64 it.from
+    ++ unsigned_text w32 it.max ++ flag_text it.committed
+fields_of (msg.FetchReply it) =
+    caller_text it.caller ++ unsigned_text w16 it.partition ++ code_text it.code
+    ++ signed_text w64 it.next ++ signed_text w64 it.lso ++ signed_text w64 it.end
+    ++ aborted_text it.aborted ++ bytes_text it.batches
+fields_of (msg.Join it) = caller_text it.caller ++ name_text it.group
+fields_of (msg.JoinReply it) =
+    caller_text it.caller ++ code_text it.code ++ signed_text w32 it.generation
+    ++ unsigned_text w16 it.place ++ unsigned_text w16 it.count
+fields_of (msg.Leave it) = caller_text it.caller ++ name_text it.group
+fields_of (msg.LeaveReply it) =
+    caller_text it.caller ++ code_text it.code
+fields_of (msg.TxnOffsetCommit it) =
+    caller_text it.caller ++ name_text it.txn ++ name_text it.group ++ unsigned_text w32 it.member
+    ++ signed_text w32 it.generation ++ held_text it.held ++ signed_text w32 it.first_sequence
+    ++ offsets_text it.offsets
+fields_of (msg.OffsetsReply it) =
+    caller_text it.caller ++ code_text it.code
+fields_of (msg.OffsetFetch it) =
+    caller_text it.caller ++ name_text it.group ++ unsigned_text w16 it.partition
+    ++ flag_text it.stable
+fields_of (msg.OffsetFetchReply it) =
+    caller_text it.caller ++ code_text it.code ++ signed_text w64 it.offset
 
 -- the length of what follows it, the kind, and the fields
 unfoldable pub frame_text : Message → List ℕ

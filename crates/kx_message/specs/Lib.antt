@@ -9,3 +9,4 @@ pub mod Sizes
 pub mod Reader
 pub mod Values
 pub mod Message
+pub mod Messages

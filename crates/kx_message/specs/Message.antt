@@ -9,6 +9,7 @@ use Rattle.kx_message.specs.Sizes.{FitsFrame}
 use Rattle.kx_message.specs.declared.payload.PartitionOffset.{PartitionOffset}
 use Rattle.kx_message.specs.declared.payload.AbortedTxn.{AbortedTxn}
 use Rattle.kx_message.specs.declared.message.Held.{Held}
+use Rattle.kx_message.specs.declared.requests.Caller.{Caller}
 use Rattle.kx_message.specs.declared.message.Message.{Message}
 use Rattle.kx_message.specs.declared.message.Message.TheVariants as msg
 
@@ -18,8 +19,8 @@ IsU32 n = n < 2 ^ 32
 abbrev pub IsU16 : ℕ → Type 0
 IsU16 n = n < 2 ^ 16
 
-abbrev pub IsCaller : ℕ → ℕ → Type 0
-IsCaller client correlation = IsU32 client × IsU32 correlation
+abbrev pub IsCaller : Caller → Type 0
+IsCaller caller = IsU32 caller.client × IsU32 caller.correlation
 
 pub record IsHeld (held : Held) : Type 0 where
   pub id : IsProducerId held.id
@@ -52,43 +53,45 @@ IsPayload bytes = IsU32 (length bytes)
 
 -- each field is in range
 abbrev pub IsMessage : Message → Type 0
-IsMessage (msg.InitProducerId client correlation txn timeout) =
-    IsCaller client correlation × IfSome txn IsName × IsTimeout timeout
-IsMessage (msg.InitReply client correlation code held) =
-    IsCaller client correlation × IfSome held IsHeld
-IsMessage (msg.EndTxn client correlation txn held outcome) =
-    IsCaller client correlation × IsName txn × IsHeld held
-IsMessage (msg.EndReply client correlation code held) =
-    IsCaller client correlation × IfSome held IsHeld
-IsMessage (msg.Produce client correlation txn partition batch) =
-    IsCaller client correlation × IfSome txn IsName × IsPartition partition × IsPayload batch
-IsMessage (msg.ProduceReply client correlation partition code offset) =
-    IsCaller client correlation × IsPartition partition × FitsSigned w64 offset
-IsMessage (msg.AddPartition txn held partition) =
-    IsName txn × IsHeld held × IsPartition partition
-IsMessage (msg.AddReply partition txn held code) = IsPartition partition × IsName txn × IsHeld held
-IsMessage (msg.WriteMarker partition txn held coordinator outcome) =
-    IsPartition partition × IsName txn × IsMarker held × FitsSigned w32 coordinator
-IsMessage (msg.MarkerReply partition txn held code) =
-    IsPartition partition × IsName txn × IsMarker held
-IsMessage (msg.Fetch client correlation partition from max committed) =
-    IsCaller client correlation × IsPartition partition × FitsSigned w64 from × IsU32 max
-IsMessage (msg.FetchReply client correlation partition code next lso end aborted batches) =
-    IsCaller client correlation × IsPartition partition × FitsSigned w64 next × FitsSigned w64 lso
-    × FitsSigned w64 end × AreAborted aborted × IsPayload batches
-IsMessage (msg.Join client correlation group) = IsCaller client correlation × IsName group
-IsMessage (msg.JoinReply client correlation code generation place count) =
-    IsCaller client correlation × FitsSigned w32 generation × IsU16 place × IsU16 count
-IsMessage (msg.Leave client correlation group) = IsCaller client correlation × IsName group
-IsMessage (msg.LeaveReply client correlation code) = IsCaller client correlation
-IsMessage (msg.TxnOffsetCommit client correlation txn group member generation held first offsets) =
-    IsCaller client correlation × IsName txn × IsName group × IsU32 member
-    × FitsSigned w32 generation × IsHeld held × FitsSigned w32 first × AreOffsets offsets
-IsMessage (msg.OffsetsReply client correlation code) = IsCaller client correlation
-IsMessage (msg.OffsetFetch client correlation group partition stable) =
-    IsCaller client correlation × IsName group × IsPartition partition
-IsMessage (msg.OffsetFetchReply client correlation code offset) =
-    IsCaller client correlation × FitsSigned w64 offset
+IsMessage (msg.InitProducerId it) =
+    IsCaller it.caller × IfSome it.txn IsName × IsTimeout it.timeout
+IsMessage (msg.InitReply it) =
+    IsCaller it.caller × IfSome it.held IsHeld
+IsMessage (msg.EndTxn it) =
+    IsCaller it.caller × IsName it.txn × IsHeld it.held
+IsMessage (msg.EndReply it) =
+    IsCaller it.caller × IfSome it.held IsHeld
+IsMessage (msg.Produce it) =
+    IsCaller it.caller × IfSome it.txn IsName × IsPartition it.partition × IsPayload it.batch
+IsMessage (msg.ProduceReply it) =
+    IsCaller it.caller × IsPartition it.partition × FitsSigned w64 it.offset
+IsMessage (msg.AddPartition it) =
+    IsName it.txn × IsHeld it.held × IsPartition it.partition
+IsMessage (msg.AddReply it) = IsPartition it.partition × IsName it.txn × IsHeld it.held
+IsMessage (msg.WriteMarker it) =
+    IsPartition it.partition × IsName it.txn × IsMarker it.held
+    × FitsSigned w32 it.coordinator_epoch
+IsMessage (msg.MarkerReply it) =
+    IsPartition it.partition × IsName it.txn × IsMarker it.held
+IsMessage (msg.Fetch it) =
+    IsCaller it.caller × IsPartition it.partition × FitsSigned w64 it.from × IsU32 it.max
+IsMessage (msg.FetchReply it) =
+    IsCaller it.caller × IsPartition it.partition × FitsSigned w64 it.next × FitsSigned w64 it.lso
+    × FitsSigned w64 it.end × AreAborted it.aborted × IsPayload it.batches
+IsMessage (msg.Join it) = IsCaller it.caller × IsName it.group
+IsMessage (msg.JoinReply it) =
+    IsCaller it.caller × FitsSigned w32 it.generation × IsU16 it.place × IsU16 it.count
+IsMessage (msg.Leave it) = IsCaller it.caller × IsName it.group
+IsMessage (msg.LeaveReply it) = IsCaller it.caller
+IsMessage (msg.TxnOffsetCommit it) =
+    IsCaller it.caller × IsName it.txn × IsName it.group × IsU32 it.member
+    × FitsSigned w32 it.generation × IsHeld it.held × FitsSigned w32 it.first_sequence
+    × AreOffsets it.offsets
+IsMessage (msg.OffsetsReply it) = IsCaller it.caller
+IsMessage (msg.OffsetFetch it) =
+    IsCaller it.caller × IsName it.group × IsPartition it.partition
+IsMessage (msg.OffsetFetchReply it) =
+    IsCaller it.caller × FitsSigned w64 it.offset
 
 pub record IsSendable (m : Message) : Type 0 where
   pub ranges : IsMessage m

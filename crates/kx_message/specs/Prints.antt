@@ -75,44 +75,45 @@ offsets_header held first count = record {
 ------ messages
 
 abbrev pub message_text : Message → List ℕ
-message_text (msg.InitProducerId client correlation txn timeout) =
-    codes "Init " ++ txn_word txn ++ codes " " ++ decimal timeout
-message_text (msg.InitReply client correlation code held) =
-    codes "InitReply " ++ code_word code ++ codes " " ++ optional_held_words held
-message_text (msg.EndTxn client correlation txn held outcome) =
-    codes "EndTxn " ++ txn ++ codes " " ++ held_words held ++ codes " " ++ outcome_text outcome
-message_text (msg.EndReply client correlation code held) =
-    codes "EndReply " ++ code_word code ++ codes " " ++ optional_held_words held
-message_text (msg.Produce client correlation txn partition batch) =
-    codes "Produce " ++ header_words (header_of batch)
-message_text (msg.ProduceReply client correlation partition code offset) =
-    codes "ProduceReply " ++ code_word code ++ codes " " ++ signed_decimal offset
-message_text (msg.AddPartition txn held partition) =
-    codes "Add " ++ txn ++ codes " " ++ held_words held ++ codes " " ++ partition_text partition
-message_text (msg.AddReply partition txn held code) =
-    codes "AddReply " ++ code_word code ++ codes " " ++ held_words held
-message_text (msg.WriteMarker partition txn held coordinator outcome) =
-    codes "Marker " ++ held_words held ++ codes " " ++ outcome_text outcome ++ codes " "
-    ++ signed_decimal coordinator
-message_text (msg.MarkerReply partition txn held code) =
-    codes "MarkerReply " ++ code_word code ++ codes " " ++ held_words held
-message_text (msg.Fetch client correlation partition from max committed) =
-    codes "Fetch " ++ partition_text partition ++ codes " " ++ signed_decimal from
-message_text (msg.FetchReply client correlation partition code next lso end aborted batches) =
-    codes "FetchReply " ++ code_word code ++ codes " " ++ signed_decimal next
-message_text (msg.Join client correlation group) = codes "Join " ++ group
-message_text (msg.JoinReply client correlation code generation place count) =
-    codes "JoinReply " ++ code_word code ++ codes " " ++ signed_decimal generation ++ codes " "
-    ++ decimal place ++ codes " " ++ decimal count
-message_text (msg.Leave client correlation group) = codes "Leave " ++ group
-message_text (msg.LeaveReply client correlation code) = codes "LeaveReply " ++ code_word code
-message_text (msg.TxnOffsetCommit client correlation txn group member generation held first offsets)
-    =
-    codes "Offsets " ++ group ++ codes " " ++ decimal member ++ codes " "
-    ++ signed_decimal generation ++ codes " "
-    ++ header_words (Some (offsets_header held first (length offsets)))
-message_text (msg.OffsetsReply client correlation code) = codes "OffsetsReply " ++ code_word code
-message_text (msg.OffsetFetch client correlation group partition stable) =
-    codes "OffsetFetch " ++ group ++ codes " " ++ partition_text partition
-message_text (msg.OffsetFetchReply client correlation code offset) =
-    codes "OffsetFetchReply " ++ code_word code ++ codes " " ++ signed_decimal offset
+message_text (msg.InitProducerId it) =
+    codes "Init " ++ txn_word it.txn ++ codes " " ++ decimal it.timeout
+message_text (msg.InitReply it) =
+    codes "InitReply " ++ code_word it.code ++ codes " " ++ optional_held_words it.held
+message_text (msg.EndTxn it) =
+    codes "EndTxn " ++ it.txn ++ codes " " ++ held_words it.held ++ codes " "
+    ++ outcome_text it.outcome
+message_text (msg.EndReply it) =
+    codes "EndReply " ++ code_word it.code ++ codes " " ++ optional_held_words it.held
+message_text (msg.Produce it) =
+    codes "Produce " ++ header_words (header_of it.batch)
+message_text (msg.ProduceReply it) =
+    codes "ProduceReply " ++ code_word it.code ++ codes " " ++ signed_decimal it.offset
+message_text (msg.AddPartition it) =
+    codes "Add " ++ it.txn ++ codes " " ++ held_words it.held ++ codes " "
+    ++ partition_text it.partition
+message_text (msg.AddReply it) =
+    codes "AddReply " ++ code_word it.code ++ codes " " ++ held_words it.held
+message_text (msg.WriteMarker it) =
+    codes "Marker " ++ held_words it.held ++ codes " " ++ outcome_text it.outcome ++ codes " "
+    ++ signed_decimal it.coordinator_epoch
+message_text (msg.MarkerReply it) =
+    codes "MarkerReply " ++ code_word it.code ++ codes " " ++ held_words it.held
+message_text (msg.Fetch it) =
+    codes "Fetch " ++ partition_text it.partition ++ codes " " ++ signed_decimal it.from
+message_text (msg.FetchReply it) =
+    codes "FetchReply " ++ code_word it.code ++ codes " " ++ signed_decimal it.next
+message_text (msg.Join it) = codes "Join " ++ it.group
+message_text (msg.JoinReply it) =
+    codes "JoinReply " ++ code_word it.code ++ codes " " ++ signed_decimal it.generation
+    ++ codes " " ++ decimal it.place ++ codes " " ++ decimal it.count
+message_text (msg.Leave it) = codes "Leave " ++ it.group
+message_text (msg.LeaveReply it) = codes "LeaveReply " ++ code_word it.code
+message_text (msg.TxnOffsetCommit it) =
+    codes "Offsets " ++ it.group ++ codes " " ++ decimal it.member ++ codes " "
+    ++ signed_decimal it.generation ++ codes " "
+    ++ header_words (Some (offsets_header it.held it.first_sequence (length it.offsets)))
+message_text (msg.OffsetsReply it) = codes "OffsetsReply " ++ code_word it.code
+message_text (msg.OffsetFetch it) =
+    codes "OffsetFetch " ++ it.group ++ codes " " ++ partition_text it.partition
+message_text (msg.OffsetFetchReply it) =
+    codes "OffsetFetchReply " ++ code_word it.code ++ codes " " ++ signed_decimal it.offset

@@ -7,27 +7,23 @@ use Rattle.kx_message.specs.declared.message.Node.{Node}
 use Rattle.kx_message.specs.declared.message.Node.TheVariants.{Coordinator, Partition, Client}
 
 abbrev pub receiver_of : Message → Node
-receiver_of (msg.InitProducerId client correlation txn timeout) = Coordinator
-receiver_of (msg.EndTxn client correlation txn held outcome) = Coordinator
-receiver_of (msg.AddPartition txn held partition) = Coordinator
-receiver_of (msg.MarkerReply partition txn held code) = Coordinator
-receiver_of (msg.Produce client correlation txn partition batch) = Partition partition
-receiver_of (msg.WriteMarker partition txn held coordinator_epoch outcome) = Partition partition
-receiver_of (msg.AddReply partition txn held code) = Partition partition
-receiver_of (msg.Fetch client correlation partition from max committed) = Partition partition
-receiver_of (msg.Join client correlation group) = Partition offsets_partition
-receiver_of (msg.Leave client correlation group) = Partition offsets_partition
-receiver_of (msg.TxnOffsetCommit client correlation txn group member generation held first offsets)
-    =
-    Partition offsets_partition
-receiver_of (msg.OffsetFetch client correlation group partition stable) =
-    Partition offsets_partition
-receiver_of (msg.InitReply client correlation code held) = Client client
-receiver_of (msg.EndReply client correlation code held) = Client client
-receiver_of (msg.ProduceReply client correlation partition code offset) = Client client
-receiver_of (msg.FetchReply client correlation partition code next lso end aborted batches) =
-    Client client
-receiver_of (msg.JoinReply client correlation code generation place count) = Client client
-receiver_of (msg.LeaveReply client correlation code) = Client client
-receiver_of (msg.OffsetsReply client correlation code) = Client client
-receiver_of (msg.OffsetFetchReply client correlation code offset) = Client client
+receiver_of (msg.InitProducerId it) = Coordinator
+receiver_of (msg.EndTxn it) = Coordinator
+receiver_of (msg.AddPartition it) = Coordinator
+receiver_of (msg.MarkerReply it) = Coordinator
+receiver_of (msg.Produce it) = Partition it.partition
+receiver_of (msg.WriteMarker it) = Partition it.partition
+receiver_of (msg.AddReply it) = Partition it.partition
+receiver_of (msg.Fetch it) = Partition it.partition
+receiver_of (msg.Join it) = Partition offsets_partition
+receiver_of (msg.Leave it) = Partition offsets_partition
+receiver_of (msg.TxnOffsetCommit it) = Partition offsets_partition
+receiver_of (msg.OffsetFetch it) = Partition offsets_partition
+receiver_of (msg.InitReply it) = Client it.caller.client
+receiver_of (msg.EndReply it) = Client it.caller.client
+receiver_of (msg.ProduceReply it) = Client it.caller.client
+receiver_of (msg.FetchReply it) = Client it.caller.client
+receiver_of (msg.JoinReply it) = Client it.caller.client
+receiver_of (msg.LeaveReply it) = Client it.caller.client
+receiver_of (msg.OffsetsReply it) = Client it.caller.client
+receiver_of (msg.OffsetFetchReply it) = Client it.caller.client

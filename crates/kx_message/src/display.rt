@@ -5,9 +5,14 @@ ghost use Rattle.kx_message.specs.Reader.{signed, taken};
 ghost use Rattle.kx_message.specs.Prints.{producer_place};
 ghost use Rattle.kx_message.specs.Prints.{node_text, txn_word, held_words, optional_held_words};
 ghost use Rattle.kx_message.specs.Prints.{header_of, header_words, message_text};
+ghost use Rattle.kx_message.specs.declared.message.Message.TheVariants as msg;
 
-use crate::TxnId;
 use crate::message::{Held, Message, Node, Raised};
+use crate::{
+    AddPartition, AddReply, EndReply, EndTxn, Fetch, FetchReply, InitProducerId, InitReply, Join,
+    JoinReply, Leave, LeaveReply, MarkerReply, OffsetFetch, OffsetFetchReply, OffsetsReply,
+    Produce, ProduceReply, TxnId, TxnOffsetCommit, WriteMarker,
+};
 use std::fmt;
 
 /// As `co` for the coordinator, `p` and the partition, or `c` and the client's number.
@@ -155,93 +160,258 @@ impl fmt::Display for Header {
     }
 }
 
-/// The message's name and its numbers, as a script's line has them behind the nodes. Of a `Produce`
-/// they are what the header of its batch says, `-` where the bytes are too few for a header.
+impl fmt::Display for InitProducerId {
+    ghost output = { λ it. Some (message_text (msg.InitProducerId it)) };
+
+    fn fmt<W: fmt::Write>(&self, f: &mut fmt::Formatter<W>) -> fmt::Result {
+        let InitProducerId { txn, timeout, .. } = self;
+        let txn = OrDash(*txn);
+        write!(f, "Init {txn} {timeout}")
+    }
+}
+
+impl fmt::Display for InitReply {
+    ghost output = { λ it. Some (message_text (msg.InitReply it)) };
+
+    fn fmt<W: fmt::Write>(&self, f: &mut fmt::Formatter<W>) -> fmt::Result {
+        let InitReply { code, held, .. } = self;
+        let held = OrMinusOnes(*held);
+        write!(f, "InitReply {code} {held}")
+    }
+}
+
+impl fmt::Display for EndTxn {
+    ghost output = { λ it. Some (message_text (msg.EndTxn it)) };
+
+    fn fmt<W: fmt::Write>(&self, f: &mut fmt::Formatter<W>) -> fmt::Result {
+        let EndTxn {
+            txn,
+            held,
+            outcome,
+            ..
+        } = self;
+        write!(f, "EndTxn {txn} {held} {outcome}")
+    }
+}
+
+impl fmt::Display for EndReply {
+    ghost output = { λ it. Some (message_text (msg.EndReply it)) };
+
+    fn fmt<W: fmt::Write>(&self, f: &mut fmt::Formatter<W>) -> fmt::Result {
+        let EndReply { code, held, .. } = self;
+        let held = OrMinusOnes(*held);
+        write!(f, "EndReply {code} {held}")
+    }
+}
+
+/// What the header of the batch says, or `-` where the bytes are too few for a header.
+impl fmt::Display for Produce {
+    ghost output = { λ it. Some (message_text (msg.Produce it)) };
+
+    fn fmt<W: fmt::Write>(&self, f: &mut fmt::Formatter<W>) -> fmt::Result {
+        match header_in(self.batch.as_slice()) {
+            None => f.write_str("Produce -"),
+            Some(header) => write!(f, "Produce {header}"),
+        }
+    }
+}
+
+impl fmt::Display for ProduceReply {
+    ghost output = { λ it. Some (message_text (msg.ProduceReply it)) };
+
+    fn fmt<W: fmt::Write>(&self, f: &mut fmt::Formatter<W>) -> fmt::Result {
+        let ProduceReply { code, offset, .. } = self;
+        write!(f, "ProduceReply {code} {offset}")
+    }
+}
+
+impl fmt::Display for AddPartition {
+    ghost output = { λ it. Some (message_text (msg.AddPartition it)) };
+
+    fn fmt<W: fmt::Write>(&self, f: &mut fmt::Formatter<W>) -> fmt::Result {
+        let AddPartition {
+            txn,
+            held,
+            partition,
+        } = self;
+        write!(f, "Add {txn} {held} {partition}")
+    }
+}
+
+impl fmt::Display for AddReply {
+    ghost output = { λ it. Some (message_text (msg.AddReply it)) };
+
+    fn fmt<W: fmt::Write>(&self, f: &mut fmt::Formatter<W>) -> fmt::Result {
+        let AddReply { code, held, .. } = self;
+        write!(f, "AddReply {code} {held}")
+    }
+}
+
+impl fmt::Display for WriteMarker {
+    ghost output = { λ it. Some (message_text (msg.WriteMarker it)) };
+
+    fn fmt<W: fmt::Write>(&self, f: &mut fmt::Formatter<W>) -> fmt::Result {
+        let WriteMarker {
+            held,
+            outcome,
+            coordinator_epoch,
+            ..
+        } = self;
+        write!(f, "Marker {held} {outcome} {coordinator_epoch}")
+    }
+}
+
+impl fmt::Display for MarkerReply {
+    ghost output = { λ it. Some (message_text (msg.MarkerReply it)) };
+
+    fn fmt<W: fmt::Write>(&self, f: &mut fmt::Formatter<W>) -> fmt::Result {
+        let MarkerReply { code, held, .. } = self;
+        write!(f, "MarkerReply {code} {held}")
+    }
+}
+
+impl fmt::Display for Fetch {
+    ghost output = { λ it. Some (message_text (msg.Fetch it)) };
+
+    fn fmt<W: fmt::Write>(&self, f: &mut fmt::Formatter<W>) -> fmt::Result {
+        let Fetch {
+            partition,
+            from,
+            ..
+        } = self;
+        write!(f, "Fetch {partition} {from}")
+    }
+}
+
+impl fmt::Display for FetchReply {
+    ghost output = { λ it. Some (message_text (msg.FetchReply it)) };
+
+    fn fmt<W: fmt::Write>(&self, f: &mut fmt::Formatter<W>) -> fmt::Result {
+        let FetchReply { code, next, .. } = self;
+        write!(f, "FetchReply {code} {next}")
+    }
+}
+
+impl fmt::Display for Join {
+    ghost output = { λ it. Some (message_text (msg.Join it)) };
+
+    fn fmt<W: fmt::Write>(&self, f: &mut fmt::Formatter<W>) -> fmt::Result {
+        let Join { group, .. } = self;
+        write!(f, "Join {group}")
+    }
+}
+
+impl fmt::Display for JoinReply {
+    ghost output = { λ it. Some (message_text (msg.JoinReply it)) };
+
+    fn fmt<W: fmt::Write>(&self, f: &mut fmt::Formatter<W>) -> fmt::Result {
+        let JoinReply {
+            code,
+            generation,
+            place,
+            count,
+            ..
+        } = self;
+        write!(f, "JoinReply {code} {generation} {place} {count}")
+    }
+}
+
+impl fmt::Display for Leave {
+    ghost output = { λ it. Some (message_text (msg.Leave it)) };
+
+    fn fmt<W: fmt::Write>(&self, f: &mut fmt::Formatter<W>) -> fmt::Result {
+        let Leave { group, .. } = self;
+        write!(f, "Leave {group}")
+    }
+}
+
+impl fmt::Display for LeaveReply {
+    ghost output = { λ it. Some (message_text (msg.LeaveReply it)) };
+
+    fn fmt<W: fmt::Write>(&self, f: &mut fmt::Formatter<W>) -> fmt::Result {
+        let LeaveReply { code, .. } = self;
+        write!(f, "LeaveReply {code}")
+    }
+}
+
+/// What the header of the batch will say that holds the offsets.
+impl fmt::Display for TxnOffsetCommit {
+    ghost output = { λ it. Some (message_text (msg.TxnOffsetCommit it)) };
+
+    fn fmt<W: fmt::Write>(&self, f: &mut fmt::Formatter<W>) -> fmt::Result {
+        let header = Header {
+            id: self.held.id.get(),
+            epoch: self.held.epoch.get(),
+            first: self.first_sequence,
+            count: self.offsets.as_slice().len() as i32,
+        };
+        let TxnOffsetCommit {
+            group,
+            member,
+            generation,
+            ..
+        } = self;
+        write!(f, "Offsets {group} {member} {generation} {header}")
+    }
+}
+
+impl fmt::Display for OffsetsReply {
+    ghost output = { λ it. Some (message_text (msg.OffsetsReply it)) };
+
+    fn fmt<W: fmt::Write>(&self, f: &mut fmt::Formatter<W>) -> fmt::Result {
+        let OffsetsReply { code, .. } = self;
+        write!(f, "OffsetsReply {code}")
+    }
+}
+
+impl fmt::Display for OffsetFetch {
+    ghost output = { λ it. Some (message_text (msg.OffsetFetch it)) };
+
+    fn fmt<W: fmt::Write>(&self, f: &mut fmt::Formatter<W>) -> fmt::Result {
+        let OffsetFetch {
+            group,
+            partition,
+            ..
+        } = self;
+        write!(f, "OffsetFetch {group} {partition}")
+    }
+}
+
+impl fmt::Display for OffsetFetchReply {
+    ghost output = { λ it. Some (message_text (msg.OffsetFetchReply it)) };
+
+    fn fmt<W: fmt::Write>(&self, f: &mut fmt::Formatter<W>) -> fmt::Result {
+        let OffsetFetchReply { code, offset, .. } = self;
+        write!(f, "OffsetFetchReply {code} {offset}")
+    }
+}
+
+/// The message's name and its numbers, as a script's line has them behind the nodes.
 impl fmt::Display for Message {
     ghost output = { λ message. Some (message_text message) };
 
     fn fmt<W: fmt::Write>(&self, f: &mut fmt::Formatter<W>) -> fmt::Result {
         match self {
-            Message::InitProducerId { txn, timeout, .. } => {
-                let txn = OrDash(*txn);
-                write!(f, "Init {txn} {timeout}")
-            }
-            Message::InitReply { code, held, .. } => {
-                let held = OrMinusOnes(*held);
-                write!(f, "InitReply {code} {held}")
-            }
-            Message::EndTxn {
-                txn,
-                held,
-                outcome,
-                ..
-            } => write!(f, "EndTxn {txn} {held} {outcome}"),
-            Message::EndReply { code, held, .. } => {
-                let held = OrMinusOnes(*held);
-                write!(f, "EndReply {code} {held}")
-            }
-            Message::Produce { batch, .. } => match header_in(batch.as_slice()) {
-                None => f.write_str("Produce -"),
-                Some(header) => write!(f, "Produce {header}"),
-            },
-            Message::ProduceReply { code, offset, .. } => {
-                write!(f, "ProduceReply {code} {offset}")
-            }
-            Message::AddPartition {
-                txn,
-                held,
-                partition,
-            } => write!(f, "Add {txn} {held} {partition}"),
-            Message::AddReply { held, code, .. } => write!(f, "AddReply {code} {held}"),
-            Message::WriteMarker {
-                held,
-                coordinator_epoch,
-                outcome,
-                ..
-            } => write!(f, "Marker {held} {outcome} {coordinator_epoch}"),
-            Message::MarkerReply { held, code, .. } => write!(f, "MarkerReply {code} {held}"),
-            Message::Fetch {
-                partition,
-                from,
-                ..
-            } => write!(f, "Fetch {partition} {from}"),
-            Message::FetchReply { code, next, .. } => write!(f, "FetchReply {code} {next}"),
-            Message::Join { group, .. } => write!(f, "Join {group}"),
-            Message::JoinReply {
-                code,
-                generation,
-                place,
-                count,
-                ..
-            } => write!(f, "JoinReply {code} {generation} {place} {count}"),
-            Message::Leave { group, .. } => write!(f, "Leave {group}"),
-            Message::LeaveReply { code, .. } => write!(f, "LeaveReply {code}"),
-            Message::TxnOffsetCommit {
-                group,
-                member,
-                generation,
-                held,
-                first_sequence,
-                offsets,
-                ..
-            } => {
-                let header = Header {
-                    id: held.id.get(),
-                    epoch: held.epoch.get(),
-                    first: *first_sequence,
-                    count: offsets.as_slice().len() as i32,
-                };
-                write!(f, "Offsets {group} {member} {generation} {header}")
-            }
-            Message::OffsetsReply { code, .. } => write!(f, "OffsetsReply {code}"),
-            Message::OffsetFetch {
-                group,
-                partition,
-                ..
-            } => { write!(f, "OffsetFetch {group} {partition}") }
-            Message::OffsetFetchReply { code, offset, .. } => {
-                write!(f, "OffsetFetchReply {code} {offset}")
-            }
+            Message::InitProducerId(init) => fmt::Display::fmt(init, f),
+            Message::InitReply(reply) => fmt::Display::fmt(reply, f),
+            Message::EndTxn(end) => fmt::Display::fmt(end, f),
+            Message::EndReply(reply) => fmt::Display::fmt(reply, f),
+            Message::Produce(produce) => fmt::Display::fmt(produce, f),
+            Message::ProduceReply(reply) => fmt::Display::fmt(reply, f),
+            Message::AddPartition(add) => fmt::Display::fmt(add, f),
+            Message::AddReply(reply) => fmt::Display::fmt(reply, f),
+            Message::WriteMarker(marker) => fmt::Display::fmt(marker, f),
+            Message::MarkerReply(reply) => fmt::Display::fmt(reply, f),
+            Message::Fetch(fetch) => fmt::Display::fmt(fetch, f),
+            Message::FetchReply(reply) => fmt::Display::fmt(reply, f),
+            Message::Join(join) => fmt::Display::fmt(join, f),
+            Message::JoinReply(reply) => fmt::Display::fmt(reply, f),
+            Message::Leave(leave) => fmt::Display::fmt(leave, f),
+            Message::LeaveReply(reply) => fmt::Display::fmt(reply, f),
+            Message::TxnOffsetCommit(commit) => fmt::Display::fmt(commit, f),
+            Message::OffsetsReply(reply) => fmt::Display::fmt(reply, f),
+            Message::OffsetFetch(fetch) => fmt::Display::fmt(fetch, f),
+            Message::OffsetFetchReply(reply) => fmt::Display::fmt(reply, f),
         }
     }
 }

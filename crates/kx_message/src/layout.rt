@@ -14,26 +14,26 @@ pub fn kind(message: &Message) -> u8
     ensures { result ≡ kind_of message.now }
 {
     match message {
-        Message::InitProducerId { .. } => 1,
-        Message::InitReply { .. } => 2,
-        Message::EndTxn { .. } => 3,
-        Message::EndReply { .. } => 4,
-        Message::Produce { .. } => 5,
-        Message::ProduceReply { .. } => 6,
-        Message::AddPartition { .. } => 7,
-        Message::AddReply { .. } => 8,
-        Message::WriteMarker { .. } => 9,
-        Message::MarkerReply { .. } => 10,
-        Message::Fetch { .. } => 11,
-        Message::FetchReply { .. } => 12,
-        Message::Join { .. } => 13,
-        Message::JoinReply { .. } => 14,
-        Message::Leave { .. } => 15,
-        Message::LeaveReply { .. } => 16,
-        Message::TxnOffsetCommit { .. } => 17,
-        Message::OffsetsReply { .. } => 18,
-        Message::OffsetFetch { .. } => 19,
-        Message::OffsetFetchReply { .. } => 20,
+        Message::InitProducerId(_) => 1,
+        Message::InitReply(_) => 2,
+        Message::EndTxn(_) => 3,
+        Message::EndReply(_) => 4,
+        Message::Produce(_) => 5,
+        Message::ProduceReply(_) => 6,
+        Message::AddPartition(_) => 7,
+        Message::AddReply(_) => 8,
+        Message::WriteMarker(_) => 9,
+        Message::MarkerReply(_) => 10,
+        Message::Fetch(_) => 11,
+        Message::FetchReply(_) => 12,
+        Message::Join(_) => 13,
+        Message::JoinReply(_) => 14,
+        Message::Leave(_) => 15,
+        Message::LeaveReply(_) => 16,
+        Message::TxnOffsetCommit(_) => 17,
+        Message::OffsetsReply(_) => 18,
+        Message::OffsetFetch(_) => 19,
+        Message::OffsetFetchReply(_) => 20,
     }
 }
 
@@ -55,31 +55,30 @@ pub fn fields_len(message: &Message) -> usize
     ensures { result ≡ size_of message.now }
 {
     match message {
-        Message::InitProducerId { txn, .. } => 12 + optional_len(*txn),
-        Message::InitReply { .. } | Message::EndReply { .. } | Message::ProduceReply { .. } => 20,
-        Message::EndTxn { txn, .. } => 20 + txn.as_bytes().len(),
-        Message::Produce { txn, batch, .. } => 14 + optional_len(*txn) + batch.as_slice().len(),
-        Message::AddPartition { txn, .. } => 13 + txn.as_bytes().len(),
-        Message::AddReply { txn, .. } | Message::MarkerReply { txn, .. } => {
-            15 + txn.as_bytes().len()
+        Message::InitProducerId(init) => 12 + optional_len(init.txn),
+        Message::InitReply(_) | Message::EndReply(_) | Message::ProduceReply(_) => 20,
+        Message::EndTxn(end) => 20 + end.txn.as_bytes().len(),
+        Message::Produce(produce) => {
+            14 + optional_len(produce.txn) + produce.batch.as_slice().len()
         }
-        Message::WriteMarker { txn, .. } => 18 + txn.as_bytes().len(),
-        Message::Fetch { .. } => 23,
-        Message::FetchReply {
-            aborted,
-            batches,
-            ..
-        } => 44 + 16 * aborted.as_slice().len() + batches.as_slice().len(),
-        Message::Join { group, .. } | Message::Leave { group, .. } => 9 + group.as_bytes().len(),
-        Message::JoinReply { .. } | Message::OffsetFetchReply { .. } => 18,
-        Message::LeaveReply { .. } | Message::OffsetsReply { .. } => 10,
-        Message::TxnOffsetCommit {
-            txn,
-            group,
-            offsets,
-            ..
-        } => { 34 + txn.as_bytes().len() + group.as_bytes().len() + 10 * offsets.as_slice().len() }
-        Message::OffsetFetch { group, .. } => 12 + group.as_bytes().len(),
+        Message::AddPartition(add) => 13 + add.txn.as_bytes().len(),
+        Message::AddReply(reply) => 15 + reply.txn.as_bytes().len(),
+        Message::MarkerReply(reply) => 15 + reply.txn.as_bytes().len(),
+        Message::WriteMarker(marker) => 18 + marker.txn.as_bytes().len(),
+        Message::Fetch(_) => 23,
+        Message::FetchReply(reply) => {
+            44 + 16 * reply.aborted.as_slice().len() + reply.batches.as_slice().len()
+        }
+        Message::Join(join) => 9 + join.group.as_bytes().len(),
+        Message::Leave(leave) => 9 + leave.group.as_bytes().len(),
+        Message::JoinReply(_) | Message::OffsetFetchReply(_) => 18,
+        Message::LeaveReply(_) | Message::OffsetsReply(_) => 10,
+        Message::TxnOffsetCommit(commit) => {
+            34 + commit.txn.as_bytes().len()
+                + commit.group.as_bytes().len()
+                + 10 * commit.offsets.as_slice().len()
+        }
+        Message::OffsetFetch(fetch) => 12 + fetch.group.as_bytes().len(),
     }
 }
 
@@ -88,13 +87,10 @@ fn has_room(message: &Message) -> bool
     ensures { IsTrue result ↔ HasRoom message.now }
 {
     match message {
-        Message::Produce { batch, .. } => batch.as_slice().len() < LONGEST_FRAME,
-        Message::FetchReply {
-            aborted,
-            batches,
-            ..
-        } => {
-            aborted.as_slice().len() < LONGEST_FRAME && batches.as_slice().len() < LONGEST_FRAME
+        Message::Produce(produce) => produce.batch.as_slice().len() < LONGEST_FRAME,
+        Message::FetchReply(reply) => {
+            reply.aborted.as_slice().len() < LONGEST_FRAME
+                && reply.batches.as_slice().len() < LONGEST_FRAME
         }
         _ => true,
     }

@@ -14,6 +14,14 @@ pub use message::{Held, Message, Node, Raised};
 pub use outcome::Outcome;
 pub use partition::PartitionId;
 pub use payload::{AbortedTxn, AbortedTxns, Bytes, Offsets, PartitionOffset};
+pub use replies::{
+    AddReply, EndReply, FetchReply, InitReply, JoinReply, LeaveReply, MarkerReply,
+    OffsetFetchReply, OffsetsReply, ProduceReply,
+};
+pub use requests::{
+    AddPartition, Caller, EndTxn, Fetch, InitProducerId, Join, Leave, OffsetFetch, Produce,
+    TxnOffsetCommit, WriteMarker,
+};
 pub use timeout::Timeout;
 pub use txn_id::TxnId;
 
@@ -29,5 +37,7 @@ mod name;
 pub mod outcome;
 mod partition;
 pub mod payload;
+pub mod replies;
+pub mod requests;
 mod timeout;
 mod txn_id;

@@ -4,10 +4,15 @@ ghost use Rattle.kx_message.specs.Receiver.{receiver_of};
 ghost use Rattle.kx_message.specs.declared.fault.ValueFault.{ValueFault};
 
 use crate::fault::ValueFault;
-use crate::payload::{AbortedTxns, Bytes, Offsets};
-use crate::{
-    ClientId, Epoch, ErrorCode, GroupId, Outcome, PartitionId, ProducerId, Timeout, TxnId,
+use crate::replies::{
+    AddReply, EndReply, FetchReply, InitReply, JoinReply, LeaveReply, MarkerReply,
+    OffsetFetchReply, OffsetsReply, ProduceReply,
 };
+use crate::requests::{
+    AddPartition, EndTxn, Fetch, InitProducerId, Join, Leave, OffsetFetch, Produce,
+    TxnOffsetCommit, WriteMarker,
+};
+use crate::{ClientId, Epoch, PartitionId, ProducerId};
 use std::marker::Model;
 
 /// The id and the epoch that a producer holds (KIP-98).
@@ -74,167 +79,49 @@ pub enum Node {
     Client(ClientId),
 }
 
-/// A message, with the fields that its frame spells, in the frame's order. A client's request has
-/// its number and a correlation number, any u32, which the reply repeats.
-#[derive(Drop)]
+/// A message, in the order of their numbers in frames.
+#[derive(PartialEq, Eq, Drop)]
 pub enum Message {
     /// Asks the coordinator for a producer id and an epoch.
-    InitProducerId {
-        client: ClientId,
-        correlation: u32,
-        txn: Option<TxnId>,
-        timeout: Timeout,
-    },
+    InitProducerId(InitProducerId),
     /// Answers `InitProducerId`.
-    InitReply {
-        client: ClientId,
-        correlation: u32,
-        code: ErrorCode,
-        held: Option<Held>,
-    },
+    InitReply(InitReply),
     /// Asks the coordinator to end a transaction.
-    EndTxn {
-        client: ClientId,
-        correlation: u32,
-        txn: TxnId,
-        held: Held,
-        outcome: Outcome,
-    },
+    EndTxn(EndTxn),
     /// Answers `EndTxn`.
-    EndReply {
-        client: ClientId,
-        correlation: u32,
-        code: ErrorCode,
-        held: Option<Held>,
-    },
+    EndReply(EndReply),
     /// Appends a record batch to a partition.
-    Produce {
-        client: ClientId,
-        correlation: u32,
-        txn: Option<TxnId>,
-        partition: PartitionId,
-        batch: Bytes,
-    },
+    Produce(Produce),
     /// Answers `Produce`, with the offset of the batch's first record.
-    ProduceReply {
-        client: ClientId,
-        correlation: u32,
-        partition: PartitionId,
-        code: ErrorCode,
-        offset: i64,
-    },
+    ProduceReply(ProduceReply),
     /// A partition asks the coordinator to enter it into a transaction.
-    AddPartition {
-        txn: TxnId,
-        held: Held,
-        partition: PartitionId,
-    },
+    AddPartition(AddPartition),
     /// Answers `AddPartition`.
-    AddReply {
-        partition: PartitionId,
-        txn: TxnId,
-        held: Held,
-        code: ErrorCode,
-    },
+    AddReply(AddReply),
     /// The coordinator ends a transaction in a partition.
-    WriteMarker {
-        partition: PartitionId,
-        txn: TxnId,
-        held: Raised,
-        coordinator_epoch: i32,
-        outcome: Outcome,
-    },
+    WriteMarker(WriteMarker),
     /// Answers `WriteMarker`, with the marker's id and epoch.
-    MarkerReply {
-        partition: PartitionId,
-        txn: TxnId,
-        held: Raised,
-        code: ErrorCode,
-    },
-    /// Reads records from an offset on, up to `max` bytes, of committed transactions alone or of
-    /// all.
-    Fetch {
-        client: ClientId,
-        correlation: u32,
-        partition: PartitionId,
-        from: i64,
-        max: u32,
-        committed: bool,
-    },
-    /// Answers `Fetch`: where to read on, the last stable offset, the end of the log, the aborted
-    /// transactions of what was read, and its record batches.
-    FetchReply {
-        client: ClientId,
-        correlation: u32,
-        partition: PartitionId,
-        code: ErrorCode,
-        next: i64,
-        lso: i64,
-        end: i64,
-        aborted: AbortedTxns,
-        batches: Bytes,
-    },
+    MarkerReply(MarkerReply),
+    /// Reads records from an offset on.
+    Fetch(Fetch),
+    /// Answers `Fetch`, with record batches.
+    FetchReply(FetchReply),
     /// Joins a consumer group.
-    Join {
-        client: ClientId,
-        correlation: u32,
-        group: GroupId,
-    },
+    Join(Join),
     /// Answers `Join`, with the client's place among the group's members and their count.
-    JoinReply {
-        client: ClientId,
-        correlation: u32,
-        code: ErrorCode,
-        generation: i32,
-        place: u16,
-        count: u16,
-    },
+    JoinReply(JoinReply),
     /// Leaves a consumer group.
-    Leave {
-        client: ClientId,
-        correlation: u32,
-        group: GroupId,
-    },
+    Leave(Leave),
     /// Answers `Leave`.
-    LeaveReply {
-        client: ClientId,
-        correlation: u32,
-        code: ErrorCode,
-    },
-    /// Commits offsets of a consumer group within a transaction (KIP-447).
-    TxnOffsetCommit {
-        client: ClientId,
-        correlation: u32,
-        txn: TxnId,
-        group: GroupId,
-        member: u32,
-        generation: i32,
-        held: Held,
-        first_sequence: i32,
-        offsets: Offsets,
-    },
+    LeaveReply(LeaveReply),
+    /// Commits offsets of a consumer group within a transaction.
+    TxnOffsetCommit(TxnOffsetCommit),
     /// Answers `TxnOffsetCommit`.
-    OffsetsReply {
-        client: ClientId,
-        correlation: u32,
-        code: ErrorCode,
-    },
-    /// Reads the offset that a consumer group committed for a partition, `stable` where offsets of
-    /// open transactions are to be waited for.
-    OffsetFetch {
-        client: ClientId,
-        correlation: u32,
-        group: GroupId,
-        partition: PartitionId,
-        stable: bool,
-    },
+    OffsetsReply(OffsetsReply),
+    /// Reads the offset that a consumer group committed for a partition.
+    OffsetFetch(OffsetFetch),
     /// Answers `OffsetFetch`.
-    OffsetFetchReply {
-        client: ClientId,
-        correlation: u32,
-        code: ErrorCode,
-        offset: i64,
-    },
+    OffsetFetchReply(OffsetFetchReply),
 }
 
 impl Message {
@@ -244,26 +131,26 @@ impl Message {
         ensures { result ≡ receiver_of self.now }
     {
         match self {
-            Message::InitProducerId { .. }
-            | Message::EndTxn { .. }
-            | Message::AddPartition { .. }
-            | Message::MarkerReply { .. } => Node::Coordinator,
-            Message::Produce { partition, .. }
-            | Message::WriteMarker { partition, .. }
-            | Message::AddReply { partition, .. }
-            | Message::Fetch { partition, .. } => Node::Partition(*partition),
-            Message::Join { .. }
-            | Message::Leave { .. }
-            | Message::TxnOffsetCommit { .. }
-            | Message::OffsetFetch { .. } => Node::Partition(PartitionId::OFFSETS),
-            Message::InitReply { client, .. }
-            | Message::EndReply { client, .. }
-            | Message::ProduceReply { client, .. }
-            | Message::FetchReply { client, .. }
-            | Message::JoinReply { client, .. }
-            | Message::LeaveReply { client, .. }
-            | Message::OffsetsReply { client, .. }
-            | Message::OffsetFetchReply { client, .. } => Node::Client(*client),
+            Message::InitProducerId(_)
+            | Message::EndTxn(_)
+            | Message::AddPartition(_)
+            | Message::MarkerReply(_) => Node::Coordinator,
+            Message::Produce(produce) => Node::Partition(produce.partition),
+            Message::WriteMarker(marker) => Node::Partition(marker.partition),
+            Message::AddReply(reply) => Node::Partition(reply.partition),
+            Message::Fetch(fetch) => Node::Partition(fetch.partition),
+            Message::Join(_)
+            | Message::Leave(_)
+            | Message::TxnOffsetCommit(_)
+            | Message::OffsetFetch(_) => Node::Partition(PartitionId::OFFSETS),
+            Message::InitReply(reply) => Node::Client(reply.caller.client),
+            Message::EndReply(reply) => Node::Client(reply.caller.client),
+            Message::ProduceReply(reply) => Node::Client(reply.caller.client),
+            Message::FetchReply(reply) => Node::Client(reply.caller.client),
+            Message::JoinReply(reply) => Node::Client(reply.caller.client),
+            Message::LeaveReply(reply) => Node::Client(reply.caller.client),
+            Message::OffsetsReply(reply) => Node::Client(reply.caller.client),
+            Message::OffsetFetchReply(reply) => Node::Client(reply.caller.client),
         }
     }
 }

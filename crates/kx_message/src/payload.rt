@@ -1,7 +1,11 @@
 //! What messages carry besides small values: batches of records as they stand, and lists of pairs.
 //! Each is a vector that contracts see as a list, and is made of one and given back as one without
 //! taking memory.
-ghost use Rattle.std.specs.Prelude.{◌≡◌, ◌≤◌, length};
+ghost use Rattle.std.specs.Prelude.{◌≡◌, ◌≤◌, length, nat_eq};
+ghost use Rattle.std.specs.Cmp.Lexicographic.{pointwise};
+ghost use Rattle.std.specs.Cmp.Rules.{comparing};
+ghost use Rattle.std.specs.Ordering.{on, eq_of_both, int_eq};
+ghost use Rattle.std.proofs.Common.{rules};
 
 use crate::{PartitionId, ProducerId};
 use std::alloc::AllocError;
@@ -29,6 +33,21 @@ impl Clone for Bytes {
         let bytes = Vec::from_slice(*self.bytes.allocator(), &self.bytes)?;
         Ok(Bytes { bytes })
     }
+}
+
+/// Whether both are the same list.
+impl PartialEq for Bytes {
+    ghost eq = { pointwise nat_eq };
+
+    ghost laws = { Prim.search (comparing, rules) };
+
+    fn eq(&self, other: &Self) -> bool {
+        self.bytes == other.bytes
+    }
+}
+
+impl Eq for Bytes {
+    ghost laws = { Prim.search (comparing, rules) };
 }
 
 impl Bytes {
@@ -90,6 +109,21 @@ impl Clone for Offsets {
         let offsets = Vec::from_slice(*self.offsets.allocator(), &self.offsets)?;
         Ok(Offsets { offsets })
     }
+}
+
+/// Whether both are the same list.
+impl PartialEq for Offsets {
+    ghost eq = { pointwise (eq_of_both (on (λ o. o.partition) nat_eq) (on (λ o. o.offset) int_eq)) };
+
+    ghost laws = { Prim.search (comparing, rules) };
+
+    fn eq(&self, other: &Self) -> bool {
+        self.offsets == other.offsets
+    }
+}
+
+impl Eq for Offsets {
+    ghost laws = { Prim.search (comparing, rules) };
 }
 
 impl Offsets {
@@ -155,6 +189,21 @@ impl Clone for AbortedTxns {
         let aborted = Vec::from_slice(*self.aborted.allocator(), &self.aborted)?;
         Ok(AbortedTxns { aborted })
     }
+}
+
+/// Whether both are the same list.
+impl PartialEq for AbortedTxns {
+    ghost eq = { pointwise (eq_of_both (on (λ t. t.id) nat_eq) (on (λ t. t.first) int_eq)) };
+
+    ghost laws = { Prim.search (comparing, rules) };
+
+    fn eq(&self, other: &Self) -> bool {
+        self.aborted == other.aborted
+    }
+}
+
+impl Eq for AbortedTxns {
+    ghost laws = { Prim.search (comparing, rules) };
 }
 
 impl AbortedTxns {

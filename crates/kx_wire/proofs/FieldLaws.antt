@@ -52,12 +52,13 @@ i32_exact = signed_exact w32 wide32
 pub i64_exact : Exact (signed_text w64) (FitsSigned w64) (signed w64)
 i64_exact = signed_exact w64 wide64
 
-pub caller_exact : Exact (λ c. caller_text c.0 c.1) (λ c. IsCaller c.0 c.1) caller_at
+pub caller_exact : Exact caller_text IsCaller caller_at
 unfolding caller_at caller_text
 caller_exact = record {
   takes = took_of (field u32_exact (λ client f. field u32_exact (λ correlation g.
-      done (client, correlation) (f, g) refl)));
-  again = λ c f. then_again _ u32_exact c.0 f.0 (last_again _ u32_exact c.1 f.1 done_again);
+      done (record { client = client; correlation = correlation }) (f, g) refl)));
+  again = λ c f. then_again _ u32_exact c.client f.0
+      (last_again _ u32_exact c.correlation f.1 done_again);
 }
 
 -- ---- numbers that stand for values

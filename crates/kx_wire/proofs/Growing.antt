@@ -42,8 +42,8 @@ some_first bytes used (inl z) n = absurd (n z)
 pub only_rest : (held piece : List ℕ) (used : ℕ) → held ≡ []
     → held ++ take (length piece - used) (drop used piece) ≡ drop used (held ++ piece)
 only_rest held piece used none =
-    subst (λ (h : List ℕ). h ++ take (length piece - used) (drop used piece) ≡ drop used (h ++ piece))
-    (sym none) (all_taken (length piece - used) (drop used piece)
+    subst (λ (h : List ℕ). h ++ take (length piece - used) (drop used piece)
+    ≡ drop used (h ++ piece)) (sym none) (all_taken (length piece - used) (drop used piece)
     (omega (arith, length-drop used piece)))
 
 pub none_some : {A : Type 0} (o : Option A) → o ≡ None → is_some o ≡ true → ⊥

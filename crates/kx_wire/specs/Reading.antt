@@ -13,16 +13,17 @@ use Rattle.kx_message.specs.declared.outcome.Outcome.{Outcome}
 use Rattle.kx_message.specs.declared.payload.PartitionOffset.{PartitionOffset}
 use Rattle.kx_message.specs.declared.payload.AbortedTxn.{AbortedTxn}
 use Rattle.kx_message.specs.declared.message.Held.{Held}
+use Rattle.kx_message.specs.declared.requests.Caller.{Caller}
 use Rattle.kx_message.specs.declared.message.Message.{Message}
 use Rattle.kx_message.specs.declared.message.Message.TheVariants as msg
 
 ------ fields
 
-unfoldable pub caller_at : Reader (ℕ × ℕ)
+unfoldable pub caller_at : Reader Caller
 caller_at = do
   client ← unsigned w32
   correlation ← unsigned w32
-  gives (client, correlation)
+  gives (record { client = client; correlation = correlation })
 
 unfoldable pub partition_at : Reader ℕ
 partition_at = do
@@ -132,14 +133,14 @@ init_producer_id_at = do
   caller ← caller_at
   txn ← optional_name_at
   timeout ← timeout_at
-  gives (msg.InitProducerId caller.0 caller.1 txn timeout)
+  gives (msg.InitProducerId (record { caller = caller; txn = txn; timeout = timeout }))
 
 unfoldable pub init_reply_at : Reader Message
 init_reply_at = do
   caller ← caller_at
   code ← code_at
   held ← optional_held_at
-  gives (msg.InitReply caller.0 caller.1 code held)
+  gives (msg.InitReply (record { caller = caller; code = code; held = held }))
 
 unfoldable pub end_txn_at : Reader Message
 end_txn_at = do
@@ -147,14 +148,14 @@ end_txn_at = do
   txn ← name_at
   held ← held_at
   outcome ← outcome_at
-  gives (msg.EndTxn caller.0 caller.1 txn held outcome)
+  gives (msg.EndTxn (record { caller = caller; txn = txn; held = held; outcome = outcome }))
 
 unfoldable pub end_reply_at : Reader Message
 end_reply_at = do
   caller ← caller_at
   code ← code_at
   held ← optional_held_at
-  gives (msg.EndReply caller.0 caller.1 code held)
+  gives (msg.EndReply (record { caller = caller; code = code; held = held }))
 
 unfoldable pub produce_at : Reader Message
 produce_at = do
@@ -162,7 +163,7 @@ produce_at = do
   txn ← optional_name_at
   partition ← partition_at
   batch ← bytes_at
-  gives (msg.Produce caller.0 caller.1 txn partition batch)
+  gives (msg.Produce (record { caller = caller; txn = txn; partition = partition; batch = batch }))
 
 unfoldable pub produce_reply_at : Reader Message
 produce_reply_at = do
@@ -170,14 +171,19 @@ produce_reply_at = do
   partition ← partition_at
   code ← code_at
   offset ← signed w64
-  gives (msg.ProduceReply caller.0 caller.1 partition code offset)
+  gives (msg.ProduceReply (record {
+    caller = caller;
+    partition = partition;
+    code = code;
+    offset = offset;
+  }))
 
 unfoldable pub add_partition_at : Reader Message
 add_partition_at = do
   txn ← name_at
   held ← held_at
   partition ← partition_at
-  gives (msg.AddPartition txn held partition)
+  gives (msg.AddPartition (record { txn = txn; held = held; partition = partition }))
 
 unfoldable pub add_reply_at : Reader Message
 add_reply_at = do
@@ -185,16 +191,22 @@ add_reply_at = do
   txn ← name_at
   held ← held_at
   code ← code_at
-  gives (msg.AddReply partition txn held code)
+  gives (msg.AddReply (record { partition = partition; txn = txn; held = held; code = code }))
 
 unfoldable pub write_marker_at : Reader Message
 write_marker_at = do
   partition ← partition_at
   txn ← name_at
   held ← marker_at
-  coordinator ← signed w32
+  coordinator_epoch ← signed w32
   outcome ← outcome_at
-  gives (msg.WriteMarker partition txn held coordinator outcome)
+  gives (msg.WriteMarker (record {
+    partition = partition;
+    txn = txn;
+    held = held;
+    coordinator_epoch = coordinator_epoch;
+    outcome = outcome;
+  }))
 
 unfoldable pub marker_reply_at : Reader Message
 marker_reply_at = do
@@ -202,7 +214,7 @@ marker_reply_at = do
   txn ← name_at
   held ← marker_at
   code ← code_at
-  gives (msg.MarkerReply partition txn held code)
+  gives (msg.MarkerReply (record { partition = partition; txn = txn; held = held; code = code }))
 
 unfoldable pub fetch_at : Reader Message
 fetch_at = do
@@ -211,7 +223,13 @@ fetch_at = do
   from ← signed w64
   max ← unsigned w32
   committed ← flag_at
-  gives (msg.Fetch caller.0 caller.1 partition from max committed)
+  gives (msg.Fetch (record {
+    caller = caller;
+    partition = partition;
+    from = from;
+    max = max;
+    committed = committed;
+  }))
 
 unfoldable pub fetch_reply_at : Reader Message
 fetch_reply_at = do
@@ -223,13 +241,22 @@ fetch_reply_at = do
   end ← signed w64
   aborted ← aborted_at
   batches ← bytes_at
-  gives (msg.FetchReply caller.0 caller.1 partition code next lso end aborted batches)
+  gives (msg.FetchReply (record {
+    caller = caller;
+    partition = partition;
+    code = code;
+    next = next;
+    lso = lso;
+    end = end;
+    aborted = aborted;
+    batches = batches;
+  }))
 
 unfoldable pub join_at : Reader Message
 join_at = do
   caller ← caller_at
   group ← name_at
-  gives (msg.Join caller.0 caller.1 group)
+  gives (msg.Join (record { caller = caller; group = group }))
 
 unfoldable pub join_reply_at : Reader Message
 join_reply_at = do
@@ -238,19 +265,25 @@ join_reply_at = do
   generation ← signed w32
   place ← unsigned w16
   count ← unsigned w16
-  gives (msg.JoinReply caller.0 caller.1 code generation place count)
+  gives (msg.JoinReply (record {
+    caller = caller;
+    code = code;
+    generation = generation;
+    place = place;
+    count = count;
+  }))
 
 unfoldable pub leave_at : Reader Message
 leave_at = do
   caller ← caller_at
   group ← name_at
-  gives (msg.Leave caller.0 caller.1 group)
+  gives (msg.Leave (record { caller = caller; group = group }))
 
 unfoldable pub leave_reply_at : Reader Message
 leave_reply_at = do
   caller ← caller_at
   code ← code_at
-  gives (msg.LeaveReply caller.0 caller.1 code)
+  gives (msg.LeaveReply (record { caller = caller; code = code }))
 
 unfoldable pub txn_offset_commit_at : Reader Message
 txn_offset_commit_at = do
@@ -260,15 +293,24 @@ txn_offset_commit_at = do
   member ← unsigned w32
   generation ← signed w32
   held ← held_at
-  first ← signed w32
+  first_sequence ← signed w32
   offsets ← offsets_at
-  gives (msg.TxnOffsetCommit caller.0 caller.1 txn group member generation held first offsets)
+  gives (msg.TxnOffsetCommit (record {
+    caller = caller;
+    txn = txn;
+    group = group;
+    member = member;
+    generation = generation;
+    held = held;
+    first_sequence = first_sequence;
+    offsets = offsets;
+  }))
 
 unfoldable pub offsets_reply_at : Reader Message
 offsets_reply_at = do
   caller ← caller_at
   code ← code_at
-  gives (msg.OffsetsReply caller.0 caller.1 code)
+  gives (msg.OffsetsReply (record { caller = caller; code = code }))
 
 unfoldable pub offset_fetch_at : Reader Message
 offset_fetch_at = do
@@ -276,14 +318,19 @@ offset_fetch_at = do
   group ← name_at
   partition ← partition_at
   stable ← flag_at
-  gives (msg.OffsetFetch caller.0 caller.1 group partition stable)
+  gives (msg.OffsetFetch (record {
+    caller = caller;
+    group = group;
+    partition = partition;
+    stable = stable;
+  }))
 
 unfoldable pub offset_fetch_reply_at : Reader Message
 offset_fetch_reply_at = do
   caller ← caller_at
   code ← code_at
   offset ← signed w64
-  gives (msg.OffsetFetchReply caller.0 caller.1 code offset)
+  gives (msg.OffsetFetchReply (record { caller = caller; code = code; offset = offset }))
 
 -- the readers of the kinds 1, 2 and so on
 abbrev pub readers : List (Reader Message)

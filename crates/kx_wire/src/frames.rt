@@ -198,8 +198,8 @@ impl Frames {
     /// message comes next, at once where no message comes before it in the piece, and else at the
     /// next call, even of an empty piece. From then on every call answers [`FrameFault::Failed`].
     /// At [`FrameFault::Memory`] nothing of the piece was taken, and it can be fed again. Memory is
-    /// wanted to put a piece behind bytes that are held; where nothing is held, to give messages, to
-    /// read the fields of a message with bytes or a list, and to hold back less than a frame.
+    /// wanted to put a piece behind bytes that are held; where nothing is held, to give messages,
+    /// to read the fields of a message with bytes or a list, and to hold back less than a frame.
     pub fn feed(&mut self, piece: &[u8]) -> Result<Vec<Message>, FrameFault>
         ensures fed { Fed self.old piece.now (answer_of result) self.new }
         ensures nothing { (held : List ℕ) → self.old ≡ Reads held → piece.now ≡ []

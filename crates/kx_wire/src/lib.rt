@@ -9,9 +9,12 @@ pub use frames::{
     Frames, frames_are_read, less_than_a_frame_is_held, streams_come_as_their_messages,
 };
 pub use kx_message::{
-    AbortedTxn, AbortedTxns, Bytes, ClientId, Epoch, ErrorCode, GroupId, Held, Message, Node,
-    Offsets, Outcome, PartitionId, PartitionOffset, ProducerId, Raised, Timeout, TxnId, ValueFault,
-    code, message, outcome, payload,
+    AbortedTxn, AbortedTxns, AddPartition, AddReply, Bytes, Caller, ClientId, EndReply, EndTxn,
+    Epoch, ErrorCode, Fetch, FetchReply, GroupId, Held, InitProducerId, InitReply, Join, JoinReply,
+    Leave, LeaveReply, MarkerReply, Message, Node, OffsetFetch, OffsetFetchReply, Offsets,
+    OffsetsReply, Outcome, PartitionId, PartitionOffset, Produce, ProduceReply, ProducerId, Raised,
+    Timeout, TxnId, TxnOffsetCommit, ValueFault, WriteMarker, code, message, outcome, payload,
+    replies, requests,
 };
 pub use writing::put_frame;
 

@@ -9,15 +9,19 @@ ghost use Rattle.kx_wire.specs.Reading.{marker_reply_at, fetch_at, fetch_reply_a
 ghost use Rattle.kx_wire.specs.Reading.{join_reply_at, leave_at, leave_reply_at};
 ghost use Rattle.kx_wire.specs.Reading.{txn_offset_commit_at, offsets_reply_at, offset_fetch_at};
 ghost use Rattle.kx_wire.specs.Reading.{offset_fetch_reply_at, offset_at, aborted_txn_at};
-ghost use Rattle.kx_wire.specs.Reading.{offsets_at, aborted_at, bytes_at, fields_at, is_kind};
-ghost use Rattle.kx_wire.specs.Reading.{IsSmall};
+ghost use Rattle.kx_wire.specs.Reading.{offsets_at, aborted_at, fields_at, is_kind, IsSmall};
 ghost use Rattle.kx_wire.specs.Gives.{Refuses};
 ghost use Rattle.kx_wire.specs.Growing.{IsCarrier};
 ghost use Rattle.kx_wire.specs.declared.fault.FrameFault.{FrameFault};
 
 use crate::fault::FrameFault;
 use crate::fields::Fields;
-use kx_message::{AbortedTxns, Bytes, Message, Offsets, PartitionOffset};
+use kx_message::{
+    AbortedTxns, AddPartition, AddReply, Bytes, EndReply, EndTxn, Fetch, FetchReply,
+    InitProducerId, InitReply, Join, JoinReply, Leave, LeaveReply, MarkerReply, Message,
+    OffsetFetch, OffsetFetchReply, Offsets, OffsetsReply, PartitionOffset, Produce, ProduceReply,
+    TxnOffsetCommit, WriteMarker,
+};
 use std::alloc::Global;
 
 #[tactic(auto, unfolding(crate::specs::Reading::init_producer_id_at))]
@@ -25,15 +29,14 @@ fn init_producer_id(fields: &mut Fields) -> Option<Message>
     ensures { MatchOption result (init_producer_id_at fields.old.rest.now ≡ None)
         (λ x. init_producer_id_at fields.old.rest.now ≡ Some (x, fields.new.rest.now)) }
 {
-    let (client, correlation) = fields.caller()?;
+    let caller = fields.caller()?;
     let txn = fields.optional_txn()?;
     let timeout = fields.timeout()?;
-    Some(Message::InitProducerId {
-        client,
-        correlation,
+    Some(Message::InitProducerId(InitProducerId {
+        caller,
         txn,
         timeout,
-    })
+    }))
 }
 
 #[tactic(auto, unfolding(crate::specs::Reading::init_reply_at))]
@@ -41,15 +44,10 @@ fn init_reply(fields: &mut Fields) -> Option<Message>
     ensures { MatchOption result (init_reply_at fields.old.rest.now ≡ None)
         (λ x. init_reply_at fields.old.rest.now ≡ Some (x, fields.new.rest.now)) }
 {
-    let (client, correlation) = fields.caller()?;
+    let caller = fields.caller()?;
     let code = fields.code()?;
     let held = fields.optional_held()?;
-    Some(Message::InitReply {
-        client,
-        correlation,
-        code,
-        held,
-    })
+    Some(Message::InitReply(InitReply { caller, code, held }))
 }
 
 #[tactic(auto, unfolding(crate::specs::Reading::end_txn_at))]
@@ -57,17 +55,16 @@ fn end_txn(fields: &mut Fields) -> Option<Message>
     ensures { MatchOption result (end_txn_at fields.old.rest.now ≡ None)
         (λ x. end_txn_at fields.old.rest.now ≡ Some (x, fields.new.rest.now)) }
 {
-    let (client, correlation) = fields.caller()?;
+    let caller = fields.caller()?;
     let txn = fields.txn()?;
     let held = fields.held()?;
     let outcome = fields.outcome()?;
-    Some(Message::EndTxn {
-        client,
-        correlation,
+    Some(Message::EndTxn(EndTxn {
+        caller,
         txn,
         held,
         outcome,
-    })
+    }))
 }
 
 #[tactic(auto, unfolding(crate::specs::Reading::end_reply_at))]
@@ -75,15 +72,10 @@ fn end_reply(fields: &mut Fields) -> Option<Message>
     ensures { MatchOption result (end_reply_at fields.old.rest.now ≡ None)
         (λ x. end_reply_at fields.old.rest.now ≡ Some (x, fields.new.rest.now)) }
 {
-    let (client, correlation) = fields.caller()?;
+    let caller = fields.caller()?;
     let code = fields.code()?;
     let held = fields.optional_held()?;
-    Some(Message::EndReply {
-        client,
-        correlation,
-        code,
-        held,
-    })
+    Some(Message::EndReply(EndReply { caller, code, held }))
 }
 
 #[tactic(auto, unfolding(crate::specs::Reading::produce_reply_at))]
@@ -91,17 +83,16 @@ fn produce_reply(fields: &mut Fields) -> Option<Message>
     ensures { MatchOption result (produce_reply_at fields.old.rest.now ≡ None)
         (λ x. produce_reply_at fields.old.rest.now ≡ Some (x, fields.new.rest.now)) }
 {
-    let (client, correlation) = fields.caller()?;
+    let caller = fields.caller()?;
     let partition = fields.partition()?;
     let code = fields.code()?;
     let offset = fields.i64()?;
-    Some(Message::ProduceReply {
-        client,
-        correlation,
+    Some(Message::ProduceReply(ProduceReply {
+        caller,
         partition,
         code,
         offset,
-    })
+    }))
 }
 
 #[tactic(auto, unfolding(crate::specs::Reading::add_partition_at))]
@@ -112,11 +103,11 @@ fn add_partition(fields: &mut Fields) -> Option<Message>
     let txn = fields.txn()?;
     let held = fields.held()?;
     let partition = fields.partition()?;
-    Some(Message::AddPartition {
+    Some(Message::AddPartition(AddPartition {
         txn,
         held,
         partition,
-    })
+    }))
 }
 
 #[tactic(auto, unfolding(crate::specs::Reading::add_reply_at))]
@@ -128,12 +119,12 @@ fn add_reply(fields: &mut Fields) -> Option<Message>
     let txn = fields.txn()?;
     let held = fields.held()?;
     let code = fields.code()?;
-    Some(Message::AddReply {
+    Some(Message::AddReply(AddReply {
         partition,
         txn,
         held,
         code,
-    })
+    }))
 }
 
 #[tactic(auto, unfolding(crate::specs::Reading::write_marker_at))]
@@ -146,13 +137,13 @@ fn write_marker(fields: &mut Fields) -> Option<Message>
     let held = fields.marker()?;
     let coordinator_epoch = fields.i32()?;
     let outcome = fields.outcome()?;
-    Some(Message::WriteMarker {
+    Some(Message::WriteMarker(WriteMarker {
         partition,
         txn,
         held,
         coordinator_epoch,
         outcome,
-    })
+    }))
 }
 
 #[tactic(auto, unfolding(crate::specs::Reading::marker_reply_at))]
@@ -164,12 +155,12 @@ fn marker_reply(fields: &mut Fields) -> Option<Message>
     let txn = fields.txn()?;
     let held = fields.marker()?;
     let code = fields.code()?;
-    Some(Message::MarkerReply {
+    Some(Message::MarkerReply(MarkerReply {
         partition,
         txn,
         held,
         code,
-    })
+    }))
 }
 
 #[tactic(auto, unfolding(crate::specs::Reading::fetch_at))]
@@ -177,19 +168,18 @@ fn fetch(fields: &mut Fields) -> Option<Message>
     ensures { MatchOption result (fetch_at fields.old.rest.now ≡ None)
         (λ x. fetch_at fields.old.rest.now ≡ Some (x, fields.new.rest.now)) }
 {
-    let (client, correlation) = fields.caller()?;
+    let caller = fields.caller()?;
     let partition = fields.partition()?;
     let from = fields.i64()?;
     let max = fields.u32()?;
     let committed = fields.flag()?;
-    Some(Message::Fetch {
-        client,
-        correlation,
+    Some(Message::Fetch(Fetch {
+        caller,
         partition,
         from,
         max,
         committed,
-    })
+    }))
 }
 
 #[tactic(auto, unfolding(crate::specs::Reading::join_at))]
@@ -197,13 +187,9 @@ fn join(fields: &mut Fields) -> Option<Message>
     ensures { MatchOption result (join_at fields.old.rest.now ≡ None)
         (λ x. join_at fields.old.rest.now ≡ Some (x, fields.new.rest.now)) }
 {
-    let (client, correlation) = fields.caller()?;
+    let caller = fields.caller()?;
     let group = fields.group()?;
-    Some(Message::Join {
-        client,
-        correlation,
-        group,
-    })
+    Some(Message::Join(Join { caller, group }))
 }
 
 #[tactic(auto, unfolding(crate::specs::Reading::join_reply_at))]
@@ -211,19 +197,18 @@ fn join_reply(fields: &mut Fields) -> Option<Message>
     ensures { MatchOption result (join_reply_at fields.old.rest.now ≡ None)
         (λ x. join_reply_at fields.old.rest.now ≡ Some (x, fields.new.rest.now)) }
 {
-    let (client, correlation) = fields.caller()?;
+    let caller = fields.caller()?;
     let code = fields.code()?;
     let generation = fields.i32()?;
     let place = fields.u16()?;
     let count = fields.u16()?;
-    Some(Message::JoinReply {
-        client,
-        correlation,
+    Some(Message::JoinReply(JoinReply {
+        caller,
         code,
         generation,
         place,
         count,
-    })
+    }))
 }
 
 #[tactic(auto, unfolding(crate::specs::Reading::leave_at))]
@@ -231,13 +216,9 @@ fn leave(fields: &mut Fields) -> Option<Message>
     ensures { MatchOption result (leave_at fields.old.rest.now ≡ None)
         (λ x. leave_at fields.old.rest.now ≡ Some (x, fields.new.rest.now)) }
 {
-    let (client, correlation) = fields.caller()?;
+    let caller = fields.caller()?;
     let group = fields.group()?;
-    Some(Message::Leave {
-        client,
-        correlation,
-        group,
-    })
+    Some(Message::Leave(Leave { caller, group }))
 }
 
 #[tactic(auto, unfolding(crate::specs::Reading::leave_reply_at))]
@@ -245,13 +226,9 @@ fn leave_reply(fields: &mut Fields) -> Option<Message>
     ensures { MatchOption result (leave_reply_at fields.old.rest.now ≡ None)
         (λ x. leave_reply_at fields.old.rest.now ≡ Some (x, fields.new.rest.now)) }
 {
-    let (client, correlation) = fields.caller()?;
+    let caller = fields.caller()?;
     let code = fields.code()?;
-    Some(Message::LeaveReply {
-        client,
-        correlation,
-        code,
-    })
+    Some(Message::LeaveReply(LeaveReply { caller, code }))
 }
 
 #[tactic(auto, unfolding(crate::specs::Reading::offsets_reply_at))]
@@ -259,13 +236,9 @@ fn offsets_reply(fields: &mut Fields) -> Option<Message>
     ensures { MatchOption result (offsets_reply_at fields.old.rest.now ≡ None)
         (λ x. offsets_reply_at fields.old.rest.now ≡ Some (x, fields.new.rest.now)) }
 {
-    let (client, correlation) = fields.caller()?;
+    let caller = fields.caller()?;
     let code = fields.code()?;
-    Some(Message::OffsetsReply {
-        client,
-        correlation,
-        code,
-    })
+    Some(Message::OffsetsReply(OffsetsReply { caller, code }))
 }
 
 #[tactic(auto, unfolding(crate::specs::Reading::offset_fetch_at))]
@@ -273,17 +246,16 @@ fn offset_fetch(fields: &mut Fields) -> Option<Message>
     ensures { MatchOption result (offset_fetch_at fields.old.rest.now ≡ None)
         (λ x. offset_fetch_at fields.old.rest.now ≡ Some (x, fields.new.rest.now)) }
 {
-    let (client, correlation) = fields.caller()?;
+    let caller = fields.caller()?;
     let group = fields.group()?;
     let partition = fields.partition()?;
     let stable = fields.flag()?;
-    Some(Message::OffsetFetch {
-        client,
-        correlation,
+    Some(Message::OffsetFetch(OffsetFetch {
+        caller,
         group,
         partition,
         stable,
-    })
+    }))
 }
 
 #[tactic(auto, unfolding(crate::specs::Reading::offset_fetch_reply_at))]
@@ -291,15 +263,14 @@ fn offset_fetch_reply(fields: &mut Fields) -> Option<Message>
     ensures { MatchOption result (offset_fetch_reply_at fields.old.rest.now ≡ None)
         (λ x. offset_fetch_reply_at fields.old.rest.now ≡ Some (x, fields.new.rest.now)) }
 {
-    let (client, correlation) = fields.caller()?;
+    let caller = fields.caller()?;
     let code = fields.code()?;
     let offset = fields.i64()?;
-    Some(Message::OffsetFetchReply {
-        client,
-        correlation,
+    Some(Message::OffsetFetchReply(OffsetFetchReply {
+        caller,
         code,
         offset,
-    })
+    }))
 }
 
 #[tactic(auto, unfolding(crate::specs::Reading::produce_at))]
@@ -308,18 +279,17 @@ fn produce(alloc: Global, fields: &mut Fields) -> Result<Message, FrameFault>
         (λ x. produce_at fields.old.rest.now ≡ Some (x, fields.new.rest.now))
         (λ fault. Refuses fault (produce_at fields.old.rest.now)) }
 {
-    let (client, correlation) = fields.caller().ok_or(FrameFault::Field)?;
+    let caller = fields.caller().ok_or(FrameFault::Field)?;
     let txn = fields.optional_txn().ok_or(FrameFault::Field)?;
     let partition = fields.partition().ok_or(FrameFault::Field)?;
     let batch = fields.bytes().ok_or(FrameFault::Field)?;
     let batch = Vec::from_slice(alloc, batch)?;
-    Ok(Message::Produce {
-        client,
-        correlation,
+    Ok(Message::Produce(Produce {
+        caller,
         txn,
         partition,
         batch: Bytes::from_vec(batch),
-    })
+    }))
 }
 
 fn aborted_txns(alloc: Global, count: u32, fields: &mut Fields) -> Result<AbortedTxns, FrameFault>
@@ -388,7 +358,7 @@ fn fetch_reply(alloc: Global, fields: &mut Fields) -> Result<Message, FrameFault
         (λ x. fetch_reply_at fields.old.rest.now ≡ Some (x, fields.new.rest.now))
         (λ fault. Refuses fault (fetch_reply_at fields.old.rest.now)) }
 {
-    let (client, correlation) = fields.caller().ok_or(FrameFault::Field)?;
+    let caller = fields.caller().ok_or(FrameFault::Field)?;
     let partition = fields.partition().ok_or(FrameFault::Field)?;
     let code = fields.code().ok_or(FrameFault::Field)?;
     let next = fields.i64().ok_or(FrameFault::Field)?;
@@ -397,9 +367,8 @@ fn fetch_reply(alloc: Global, fields: &mut Fields) -> Result<Message, FrameFault
     let aborted = aborted(alloc, fields)?;
     let batches = fields.bytes().ok_or(FrameFault::Field)?;
     let batches = Vec::from_slice(alloc, batches)?;
-    Ok(Message::FetchReply {
-        client,
-        correlation,
+    Ok(Message::FetchReply(FetchReply {
+        caller,
         partition,
         code,
         next,
@@ -407,7 +376,7 @@ fn fetch_reply(alloc: Global, fields: &mut Fields) -> Result<Message, FrameFault
         end,
         aborted,
         batches: Bytes::from_vec(batches),
-    })
+    }))
 }
 
 #[tactic(auto, unfolding(crate::specs::Reading::txn_offset_commit_at))]
@@ -416,7 +385,7 @@ fn txn_offset_commit(alloc: Global, fields: &mut Fields) -> Result<Message, Fram
         (λ x. txn_offset_commit_at fields.old.rest.now ≡ Some (x, fields.new.rest.now))
         (λ fault. Refuses fault (txn_offset_commit_at fields.old.rest.now)) }
 {
-    let (client, correlation) = fields.caller().ok_or(FrameFault::Field)?;
+    let caller = fields.caller().ok_or(FrameFault::Field)?;
     let txn = fields.txn().ok_or(FrameFault::Field)?;
     let group = fields.group().ok_or(FrameFault::Field)?;
     let member = fields.u32().ok_or(FrameFault::Field)?;
@@ -424,9 +393,8 @@ fn txn_offset_commit(alloc: Global, fields: &mut Fields) -> Result<Message, Fram
     let held = fields.held().ok_or(FrameFault::Field)?;
     let first_sequence = fields.i32().ok_or(FrameFault::Field)?;
     let offsets = offsets(alloc, fields)?;
-    Ok(Message::TxnOffsetCommit {
-        client,
-        correlation,
+    Ok(Message::TxnOffsetCommit(TxnOffsetCommit {
+        caller,
         txn,
         group,
         member,
@@ -434,7 +402,7 @@ fn txn_offset_commit(alloc: Global, fields: &mut Fields) -> Result<Message, Fram
         held,
         first_sequence,
         offsets,
-    })
+    }))
 }
 
 /// Whether there is a kind of message with this number.
