@@ -4,7 +4,8 @@ ghost use Rattle.std.specs.Prelude.{◌≤ℤ◌, negsuc};
 use kx_coord::Coordinator;
 use kx_log::MemStore;
 use kx_message::{
-    Caller, ClientId, ErrorCode, Held, Message, Outcome, PartitionId, Timeout, TxnId,
+    AddPartition, Caller, ClientId, EndTxn, ErrorCode, Held, InitProducerId, MarkerReply, Message,
+    Outcome, PartitionId, Raised, Timeout, TxnId,
 };
 use std::alloc::Global;
 
@@ -53,15 +54,24 @@ fn txn_of(alloc: Global, number: u64) -> Option<TxnId> {
 // The partition is added to the transaction of an id and epoch.
 fn begins(coordinator: &mut Coordinator<MemStore>, txn: TxnId, held: Held) -> Option<i64> {
     let partition = PartitionId::try_from(PARTITION).ok()?;
-    let messages = coordinator.add_partition(txn, held, partition).ok()?;
+    let request = AddPartition {
+        txn,
+        held,
+        partition,
+    };
+    let messages = coordinator.add_partition(request).ok()?;
     count_of(messages.as_slice())
 }
 
 // A transactional id is used first, and its first transaction begins.
 fn first_used(alloc: Global, coordinator: &mut Coordinator<MemStore>, number: u64) -> Option<i64> {
     let txn = txn_of(alloc, number)?;
-    let timeout = Timeout::try_from(TIMEOUT).ok()?;
-    let messages = coordinator.init(caller(), Some(txn), timeout).ok()?;
+    let request = InitProducerId {
+        caller: caller(),
+        txn: Some(txn),
+        timeout: Timeout::try_from(TIMEOUT).ok()?,
+    };
+    let messages = coordinator.init(request).ok()?;
     let count = count_of(messages.as_slice())?;
     let held = held_of(coordinator, number)?;
     count.checked_add(begins(coordinator, txn, held)?)
@@ -85,14 +95,22 @@ fn next_epoch(held: Held) -> Option<Held> {
 fn turn(alloc: Global, coordinator: &mut Coordinator<MemStore>, number: u64) -> Option<i64> {
     let txn = txn_of(alloc, number)?;
     let held = held_of(coordinator, number)?;
-    let messages = coordinator
-        .end_txn(caller(), txn, held, Outcome::Commit)
-        .ok()?;
+    let request = EndTxn {
+        caller: caller(),
+        txn,
+        held,
+        outcome: Outcome::Commit,
+    };
+    let messages = coordinator.end_txn(request).ok()?;
     let count = count_of(messages.as_slice())?;
     let held = next_epoch(held)?;
-    let partition = PartitionId::try_from(PARTITION).ok()?;
-    let code = ErrorCode::NoError;
-    let _ = coordinator.marker_reply(partition, txn, held, code).ok()?;
+    let reply = MarkerReply {
+        partition: PartitionId::try_from(PARTITION).ok()?,
+        txn,
+        held: Raised::try_from(held).ok()?,
+        code: ErrorCode::NoError,
+    };
+    let _ = coordinator.marker_reply(reply).ok()?;
     count.checked_add(begins(coordinator, txn, held)?)
 }
 

@@ -1,8 +1,8 @@
 //! The log of a partition, on a store that is made to fail. `open NTH KEEP BYTES` opens what bytes
 //! hold, on a store whose NTH append fails and leaves KEEP bytes (0: none fails); `append BATCH`,
-//! `appends COUNT BATCH`, `arm KEEP`, `disarm`, `arm-load`, `disarm-load` and `reopen` go on with it;
-//! `end`, `failures`, `takes COUNT`, `first` and `slice FROM UPPER MAX` tell of it. The other steps
-//! are sweeps, each over logs of its own.
+//! `appends COUNT BATCH`, `arm KEEP`, `disarm`, `arm-load`, `disarm-load` and `reopen` go on with
+//! it; `end`, `failures`, `takes COUNT`, `first` and `slice FROM UPPER MAX` tell of it. The other
+//! steps are sweeps, each over logs of its own.
 use crate::stores::{FailingStore, failing};
 use crate::sweeps::{bits, cuts, failures, flips, grow};
 use kx_batch::BatchView;

@@ -1,6 +1,7 @@
 //! The open transactions of a partition. `begin ID EPOCH FIRST`, `end ID` and `reserve` change
-//! them, `first`, `epoch ID` and `full` tell of them, and `fill COUNT` begins one of each id below a
-//! number, at that offset, and tells before each whether they are full, and whether there is room.
+//! them, `first`, `epoch ID` and `full` tell of them, and `fill COUNT` begins one of each id below
+//! a number, at that offset, and tells before each whether they are full, and whether there is
+//! room.
 use crate::words::{epoch_of, id_of};
 use kx_cases::{Runs, StepFault, Subject, Texts, known, told_done, told_option, told_value, value};
 use kx_message::{Epoch, ProducerId};

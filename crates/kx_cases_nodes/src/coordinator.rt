@@ -1,11 +1,13 @@
 //! Steps of the coordinator on a store that is made to fail. A step is answered with the messages
 //! that are handed out, each as `RECEIVER TEXT`.
 use crate::parts::{Parts, nothing};
-use crate::words::{caller, code, held, partition};
+use crate::words::{caller, code, held, partition, raised};
 use kx_cases::{StepFault, Subject, Texts, known, told_name, told_value, value};
 use kx_coord::Coordinator;
 use kx_log::{FaultStore, MemStore, Store};
-use kx_message::{Message, Outcome, Timeout, TxnId};
+use kx_message::{
+    AddPartition, EndTxn, InitProducerId, MarkerReply, Message, Outcome, Timeout, TxnId,
+};
 use kx_txnlog::{Row, State};
 use std::alloc::Global;
 
@@ -67,8 +69,11 @@ fn init(
     name: &str,
     txn: Option<TxnId>,
 ) -> Result<String, StepFault> {
-    let timeout = known(Timeout::try_from(MINUTE))?;
-    let messages = running.init(caller(name)?, txn, timeout)?;
+    let messages = running.init(InitProducerId {
+        caller: caller(name)?,
+        txn,
+        timeout: known(Timeout::try_from(MINUTE))?,
+    })?;
     handed(alloc, messages.as_slice())
 }
 
@@ -85,8 +90,11 @@ fn add(alloc: Global, running: &mut Running, words: &[&str]) -> Result<String, S
     let [by, name, id, epoch] = words else {
         return Err(StepFault::Unknown);
     };
-    let (held, by) = (held(id, epoch)?, partition(by)?);
-    let messages = running.add_partition(value(name)?, held, by)?;
+    let messages = running.add_partition(AddPartition {
+        txn: value(name)?,
+        held: held(id, epoch)?,
+        partition: partition(by)?,
+    })?;
     handed(alloc, messages.as_slice())
 }
 
@@ -95,8 +103,12 @@ fn end(alloc: Global, running: &mut Running, words: &[&str]) -> Result<String, S
     let [by, name, id, epoch, how] = words else {
         return Err(StepFault::Unknown);
     };
-    let (held, by) = (held(id, epoch)?, caller(by)?);
-    let messages = running.end_txn(by, value(name)?, held, value(how)?)?;
+    let messages = running.end_txn(EndTxn {
+        caller: caller(by)?,
+        txn: value(name)?,
+        held: held(id, epoch)?,
+        outcome: value(how)?,
+    })?;
     handed(alloc, messages.as_slice())
 }
 
@@ -105,8 +117,12 @@ fn reply(alloc: Global, running: &mut Running, words: &[&str]) -> Result<String,
     let [by, name, id, epoch, answer] = words else {
         return Err(StepFault::Unknown);
     };
-    let (held, by) = (held(id, epoch)?, partition(by)?);
-    let messages = running.marker_reply(by, value(name)?, held, code(answer)?)?;
+    let messages = running.marker_reply(MarkerReply {
+        partition: partition(by)?,
+        txn: value(name)?,
+        held: raised(id, epoch)?,
+        code: code(answer)?,
+    })?;
     handed(alloc, messages.as_slice())
 }
 

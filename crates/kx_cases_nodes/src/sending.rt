@@ -1,9 +1,8 @@
 //! What is sent to a partition: batches of records and markers.
-use crate::words::held;
+use crate::words::raised;
 use kx_batch::{BatchBuilder, BuildFault};
 use kx_cases::{Runs, StepFault, Texts, known, told_name, told_value, value};
 use kx_log::{FaultStore, MemStore};
-use kx_message::Raised;
 use kx_partition::{Partition, Produced};
 use std::alloc::{AllocError, Global};
 
@@ -78,7 +77,7 @@ fn marked(alloc: Global, kept: &mut Kept, words: &[&str]) -> Result<String, Step
     let [_, id, epoch, coordinator, how] = words else {
         return Err(StepFault::Unknown);
     };
-    let ended = known(Raised::try_from(held(id, epoch)?))?;
+    let ended = raised(id, epoch)?;
     let code = kept.marker(ended, value(coordinator)?, value(how)?)?;
     told_name(alloc, code)
 }

@@ -1,6 +1,6 @@
 //! The values that the words of a step write.
 use kx_cases::{StepFault, known, value};
-use kx_message::{Caller, ClientId, Epoch, ErrorCode, Held, PartitionId, ProducerId};
+use kx_message::{Caller, ClientId, Epoch, ErrorCode, Held, PartitionId, ProducerId, Raised};
 
 /// A client, by its number; its requests have the correlation 0.
 pub fn caller(word: &str) -> Result<Caller, StepFault> {
@@ -21,6 +21,11 @@ pub fn held(id: &str, epoch: &str) -> Result<Held, StepFault> {
         id: producer(id)?,
         epoch: known(Epoch::try_from(value::<i16>(epoch)?))?,
     })
+}
+
+/// The id and the raised epoch that a marker carries.
+pub fn raised(id: &str, epoch: &str) -> Result<Raised, StepFault> {
+    known(Raised::try_from(held(id, epoch)?))
 }
 
 /// A partition's number.

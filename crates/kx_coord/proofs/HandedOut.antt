@@ -5,6 +5,7 @@ use Rattle.std.proofs.Common.{Result, Ok, Err, ap, arith, refl, sym, subst}
 use Rattle.std.proofs.lemmas.Bool.{cond_both, not_from_false}
 use Rattle.std.proofs.lemmas.List.{append-nil, flat_map_more, get_or-map, length-map, map-append}
 use Rattle.std.proofs.lemmas.List.{take_more}
+use Rattle.std.proofs.lemmas.List.Concat.{flat_map-cons}
 use Rattle.std.proofs.lemmas.List.Elements.{filter-append}
 use Rattle.std.proofs.lemmas.List.Folds.{length-flat_map-take}
 use Rattle.std.specs.List.{flat_map, list_any}
@@ -42,6 +43,25 @@ missing_are epoch answered r held outcome h is =
     markers_are epoch (record r {
       partitions = filter (λ p. not (is_answered answered r p)) r.partitions;
     }) held outcome h is
+
+-- where no marker was answered, none is left out
+all_pass : (ps : List ℕ) → filter (λ p. true) ps ≡ ps
+all_pass [] = refl
+all_pass (p ∷ ps) = ap (λ qs. p ∷ qs) (all_pass ps)
+
+pub none_answered : (epoch : ℤ) (r : Row) → missing_of epoch [] r ≡ markers_of epoch r
+none_answered epoch r =
+    ap (λ ps. markers_of epoch (record r { partitions = ps })) (all_pass r.partitions)
+
+pub none_of_all : (epoch : ℤ) (rs : List Row)
+    → flat_map (missing_of epoch []) rs ≡ flat_map (markers_of epoch) rs
+none_of_all epoch [] = refl
+none_of_all epoch (r ∷ rs) = rw (
+  flat_map-cons (missing_of epoch []) r rs,
+  flat_map-cons (markers_of epoch) r rs,
+  none_answered epoch r,
+  none_of_all epoch rs,
+) refl
 
 -- that of a row is looked up by the row's id and epoch
 pub own_answered : (noted : List Answered) (r : Row) (held : Held) (partition : ℕ)

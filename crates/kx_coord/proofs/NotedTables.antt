@@ -103,7 +103,8 @@ module _ {V : Type 0} (items : V → List AnsweredMarker) where
   items_at None = []
   items_at (Some v) = items v
 
-  pub is_at_items : (a : Answered) (o : Option V) → is_at items a o ≡ list_any (is_for a) (items_at o)
+  pub is_at_items : (a : Answered) (o : Option V)
+      → is_at items a o ≡ list_any (is_for a) (items_at o)
   is_at_items a None = refl
   is_at_items a (Some v) = refl
 

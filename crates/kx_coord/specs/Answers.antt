@@ -38,7 +38,7 @@ IsAnswer (answer.Writes entry code held) a =
 abbrev pub reply_by : ReplyTo → Reply
 reply_by (to.Init caller) = the.InitReply caller
 reply_by (to.End caller) = the.EndReply caller
-reply_by (to.Add partition txn held) = λ code after. the.AddReply partition txn held code
+reply_by (to.Add it) = λ code after. the.AddReply it.partition it.txn it.held code
 
 -- nothing is under way, and no markers are on their way
 abbrev pub is_settled : State → Bool

@@ -6,7 +6,7 @@ ghost use Rattle.kx_txnlog.specs.Entry.{row_of};
 ghost use Rattle.kx_coord.specs.Answers.{IsAnswer, IsMade, reply_by};
 
 use kx_message::{
-    AddReply, Caller, EndReply, Epoch, ErrorCode, Held, InitReply, Message, PartitionId, TxnId,
+    AddPartition, AddReply, Caller, EndReply, Epoch, ErrorCode, Held, InitReply, Message,
 };
 use kx_txnlog::{Entry, Row};
 
@@ -91,11 +91,7 @@ pub(crate) enum ReplyTo {
     /// A client that ended its transaction.
     End(Caller),
     /// A partition that asked to be added to a transaction.
-    Add {
-        partition: PartitionId,
-        txn: TxnId,
-        held: Held,
-    },
+    Add(AddPartition),
 }
 
 impl ReplyTo {
@@ -106,11 +102,13 @@ impl ReplyTo {
         match self {
             ReplyTo::Init(caller) => Message::InitReply(InitReply { caller, code, held }),
             ReplyTo::End(caller) => Message::EndReply(EndReply { caller, code, held }),
-            ReplyTo::Add {
-                partition,
-                txn,
-                held,
-            } => Message::AddReply(AddReply {
+            ReplyTo::Add(
+                AddPartition {
+                    partition,
+                    txn,
+                    held,
+                },
+            ) => Message::AddReply(AddReply {
                 partition,
                 txn,
                 held,

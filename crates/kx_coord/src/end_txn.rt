@@ -41,8 +41,8 @@ fn ends(row: &Row, held: &Held) -> bool
     }
 }
 
-// What an end is answered when it is asked again: while the markers are on their way the id and epoch
-// of the transaction after, and else the row's own.
+// What an end is answered when it is asked again: while the markers are on their way the id and
+// epoch of the transaction after, and else the row's own.
 fn ended_as(row: &Row) -> Held
     ensures { result ≡ model.ended_as (row_of row.now) (row_of row.now).state }
 {

@@ -46,7 +46,7 @@ impl<S: Store> Coordinator<S> {
             ≡ markers_of (model.coordinator_epoch self.now.log.notes) (row_of row.now)) }
     {
         let mut handed = Vec::new(self.alloc);
-        push_markers(&mut handed, self.table.epoch, row)?;
+        push_markers(&mut handed, self.alloc, self.table.epoch, row)?;
         Ok(handed)
     }
 

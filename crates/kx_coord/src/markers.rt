@@ -10,37 +10,8 @@ use kx_message::{Message, Raised, WriteMarker};
 use kx_txnlog::{Row, State};
 use std::alloc::{AllocError, Global};
 
-/// Puts the markers that a row owes behind other messages, in the order in which its partitions
-/// were added, with this epoch of the coordinator.
-///
-/// # Errors
-///
-/// Only for want of memory.
-pub(crate) fn push_markers(
-    messages: &mut Vec<Message>,
-    epoch: i32,
-    row: &Row,
-) -> Result<(), AllocError>
-    ensures { OnOk result
-        (messages.new.items ≡ messages.old.items ++ markers_of epoch (row_of row.now)) }
-{
-    let State::Prepare(outcome) = row.state else {
-        return Ok(());
-    };
-    let held = Raised::try_from(own_pair(row)).unwrap();
-    for partition in row.partitions.as_slice() {
-        messages.push(Message::WriteMarker(WriteMarker {
-            partition: *partition,
-            txn: row.txn,
-            held,
-            coordinator_epoch: epoch,
-            outcome,
-        }))?;
-    }
-    Ok(())
-}
-
-/// Puts those of them that were not yet answered behind other messages.
+/// Puts the markers that a row owes and that were not yet answered behind other messages, in the
+/// order in which its partitions were added, with this epoch of the coordinator.
 ///
 /// # Errors
 ///
@@ -74,27 +45,24 @@ pub(crate) fn push_missing(
     Ok(())
 }
 
-/// The markers that some rows owe, row by row.
+/// Puts all markers that a row owes behind other messages.
 ///
 /// # Errors
 ///
 /// Only for want of memory.
-pub(crate) fn all_markers(
+pub(crate) fn push_markers(
+    messages: &mut Vec<Message>,
     alloc: Global,
     epoch: i32,
-    rows: &[Row],
-) -> Result<Vec<Message>, AllocError>
-    ensures { IfOk result (λ messages.
-        messages.items ≡ flat_map (markers_of epoch) (map row_of rows.now)) }
+    row: &Row,
+) -> Result<(), AllocError>
+    ensures { OnOk result
+        (messages.new.items ≡ messages.old.items ++ markers_of epoch (row_of row.now)) }
 {
-    let mut messages = Vec::new(alloc);
-    for row in rows {
-        push_markers(&mut messages, epoch, row)?;
-    }
-    Ok(messages)
+    push_missing(messages, epoch, &NotedMarkers::new(alloc), row)
 }
 
-/// Those of them that were not yet answered.
+/// The markers that some rows owe and that were not yet answered, row by row.
 ///
 /// # Errors
 ///
@@ -115,4 +83,21 @@ pub(crate) fn all_missing(
         push_missing(&mut messages, epoch, noted, row)?;
     }
     Ok(messages)
+}
+
+/// All markers that some rows owe, row by row.
+///
+/// # Errors
+///
+/// Only for want of memory.
+#[tactic(auto, using(crate::proofs::HandedOut::none_of_all))]
+pub(crate) fn all_markers(
+    alloc: Global,
+    epoch: i32,
+    rows: &[Row],
+) -> Result<Vec<Message>, AllocError>
+    ensures { IfOk result (λ messages.
+        messages.items ≡ flat_map (markers_of epoch) (map row_of rows.now)) }
+{
+    all_missing(alloc, epoch, &NotedMarkers::new(alloc), rows)
 }

@@ -16,7 +16,7 @@ use crate::init_producer_id::{allot, init_first, init_row};
 use crate::markers::push_markers;
 use kx_log::Store;
 use kx_message::{
-    Caller, ClientId, ErrorCode, Held, Message, Outcome, PartitionId, Timeout, TxnId,
+    AddPartition, ClientId, EndTxn, ErrorCode, InitProducerId, Message, Timeout, TxnId,
 };
 use kx_txnlog::Entry;
 use std::alloc::AllocError;
@@ -40,7 +40,7 @@ impl<S: Store> Coordinator<S> {
     {
         let mut handed = vec![in self.alloc; message]?;
         if let Entry::Row(row) = entry {
-            push_markers(&mut handed, self.table.epoch, row)?;
+            push_markers(&mut handed, self.alloc, self.table.epoch, row)?;
         }
         Ok(handed)
     }
@@ -107,32 +107,29 @@ impl<S: Store> Coordinator<S> {
     }
 
     // What a partition is answered that asks to be added.
-    fn add_answer(
-        &self,
-        txn: TxnId,
-        held: &Held,
-        partition: PartitionId,
-    ) -> Result<Answer, AllocError>
+    fn add_answer(&self, request: &AddPartition) -> Result<Answer, AllocError>
         ensures { IfOk result (λ answer. IsAnswer answer
-            (model.add self.now.log.notes self.now.clock txn held.now partition)) }
+            (model.add self.now.log.notes self.now.clock request.now.txn request.now.held
+            request.now.partition)) }
     {
         let clock = self.clock;
-        let Some(row) = self.row(txn) else {
+        let Some(row) = self.row(request.txn) else {
             return Ok(refuses(ErrorCode::InvalidProducerIdMapping));
         };
-        add_row(clock, row, held, partition)
+        add_row(clock, row, &request.held, request.partition)
     }
 
     // What a client is answered that ends its transaction.
-    fn end_answer(&self, txn: TxnId, held: &Held, outcome: Outcome) -> Result<Answer, AllocError>
-        ensures { IfOk result (λ answer.
-            IsAnswer answer (model.end_txn self.now.log.notes txn held.now outcome)) }
+    fn end_answer(&self, request: &EndTxn) -> Result<Answer, AllocError>
+        ensures { IfOk result (λ answer. IsAnswer answer
+            (model.end_txn self.now.log.notes request.now.txn request.now.held
+            request.now.outcome)) }
     {
         let fresh = self.fresh();
-        let Some(row) = self.row(txn) else {
+        let Some(row) = self.row(request.txn) else {
             return Ok(refuses(ErrorCode::InvalidProducerIdMapping));
         };
-        end_row(fresh, row, held, outcome)
+        end_row(fresh, row, &request.held, request.outcome)
     }
 
     /// A client asks for an id and an epoch, with a transactional id or without one, and with the
@@ -142,17 +139,17 @@ impl<S: Store> Coordinator<S> {
     /// # Errors
     ///
     /// Only for want of memory; then the coordinator is as before.
-    pub fn init(
-        &mut self,
-        caller: Caller,
-        txn: Option<TxnId>,
-        timeout: Timeout,
-    ) -> Result<Vec<Message>, AllocError>
+    pub fn init(&mut self, request: InitProducerId) -> Result<Vec<Message>, AllocError>
         ensures ok { IfOk result (λ handed. Responds self.old self.new
-            (model.init self.old.log.notes caller.client txn timeout)
-            (the.InitReply caller) handed.items) }
+            (model.init self.old.log.notes request.caller.client request.txn request.timeout)
+            (the.InitReply request.caller) handed.items) }
         ensures err { OnErr result (self.new ≡ self.old) }
     {
+        let InitProducerId {
+            caller,
+            txn,
+            timeout,
+        } = request;
         let answer = self.init_answer(caller.client, txn, timeout)?;
         self.respond(answer, ReplyTo::Init(caller))
     }
@@ -162,26 +159,16 @@ impl<S: Store> Coordinator<S> {
     /// # Errors
     ///
     /// Only for want of memory; then the coordinator is as before.
-    pub fn add_partition(
-        &mut self,
-        txn: TxnId,
-        held: Held,
-        partition: PartitionId,
-    ) -> Result<Vec<Message>, AllocError>
+    pub fn add_partition(&mut self, request: AddPartition) -> Result<Vec<Message>, AllocError>
         ensures ok { IfOk result (λ handed. Responds self.old self.new
-            (model.add self.old.log.notes self.old.clock txn held partition)
-            (λ code after. the.AddReply partition txn held code) handed.items) }
+            (model.add self.old.log.notes self.old.clock request.txn request.held
+            request.partition)
+            (λ code after. the.AddReply request.partition request.txn request.held code)
+            handed.items) }
         ensures err { OnErr result (self.new ≡ self.old) }
     {
-        let answer = self.add_answer(txn, &held, partition)?;
-        self.respond(
-            answer,
-            ReplyTo::Add {
-                partition,
-                txn,
-                held,
-            },
-        )
+        let answer = self.add_answer(&request)?;
+        self.respond(answer, ReplyTo::Add(request))
     }
 
     /// A client ends its transaction. Hands out its reply and the markers.
@@ -189,19 +176,13 @@ impl<S: Store> Coordinator<S> {
     /// # Errors
     ///
     /// Only for want of memory; then the coordinator is as before.
-    pub fn end_txn(
-        &mut self,
-        caller: Caller,
-        txn: TxnId,
-        held: Held,
-        outcome: Outcome,
-    ) -> Result<Vec<Message>, AllocError>
+    pub fn end_txn(&mut self, request: EndTxn) -> Result<Vec<Message>, AllocError>
         ensures ok { IfOk result (λ handed. Responds self.old self.new
-            (model.end_txn self.old.log.notes txn held outcome)
-            (the.EndReply caller) handed.items) }
+            (model.end_txn self.old.log.notes request.txn request.held request.outcome)
+            (the.EndReply request.caller) handed.items) }
         ensures err { OnErr result (self.new ≡ self.old) }
     {
-        let answer = self.end_answer(txn, &held, outcome)?;
-        self.respond(answer, ReplyTo::End(caller))
+        let answer = self.end_answer(&request)?;
+        self.respond(answer, ReplyTo::End(request.caller))
     }
 }

@@ -11,7 +11,7 @@ ghost use Rattle.kx_coord.specs.Noted.{answered};
 use crate::answer::own_pair;
 use crate::coordinator::Coordinator;
 use kx_log::Store;
-use kx_message::{ErrorCode, Held, Message, PartitionId, TxnId};
+use kx_message::{ErrorCode, Held, MarkerReply, Message, PartitionId, TxnId};
 use kx_txnlog::{Entry, Row, State};
 use std::alloc::AllocError;
 
@@ -30,7 +30,8 @@ enum Settled {
 
 // Whether the row has this id and epoch.
 fn has_pair(row: &Row, held: &Held) -> bool
-    ensures { result ≡ ((row_of row.now).id == held.now.id && (row_of row.now).epoch == held.now.epoch) }
+    ensures { result ≡ ((row_of row.now).id == held.now.id
+        && (row_of row.now).epoch == held.now.epoch) }
 {
     own_pair(row) == *held
 }
@@ -91,23 +92,24 @@ impl<S: Store> Coordinator<S> {
     ///
     /// Only for want of memory, and where the reply is noted for the first time, or completes its
     /// row and the coordinator isn't closed; then the coordinator is as before.
-    pub fn marker_reply(
-        &mut self,
-        partition: PartitionId,
-        txn: TxnId,
-        held: Held,
-        code: ErrorCode,
-    ) -> Result<Vec<Message>, AllocError>
+    pub fn marker_reply(&mut self, reply: MarkerReply) -> Result<Vec<Message>, AllocError>
         ensures settles { MatchResult result
             (λ handed. Settles self.old self.new
-            (record { txn = txn; held = held; partition = partition }) code)
+            (answered reply.txn reply.held reply.partition) reply.code)
             (λ refused. self.new ≡ self.old) }
         ensures handed { IfOk result (λ handed. handed.items ≡ []) }
-        ensures refused { OnErr result ((code ≡ error.NoError)
-            × WantsMemory self.old (record { txn = txn; held = held; partition = partition })
+        ensures refused { OnErr result ((reply.code ≡ error.NoError)
+            × WantsMemory self.old (answered reply.txn reply.held reply.partition)
             (settle self.old.log.notes self.old.answered
-            (record { txn = txn; held = held; partition = partition }))) }
+            (answered reply.txn reply.held reply.partition))) }
     {
+        let MarkerReply {
+            partition,
+            txn,
+            held,
+            code,
+        } = reply;
+        let held = held.get();
         let handed = Vec::new(self.alloc);
         if code != ErrorCode::NoError {
             return Ok(handed);

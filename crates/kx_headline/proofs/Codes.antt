@@ -1,5 +1,5 @@
 -- What is said of replies by their codes, and what an EndTxn holds.
-use Rattle.std.proofs.Common.{◌≡◌, Option, Some, None}
+use Rattle.std.proofs.Common.{Option, Some, None}
 use Rattle.std.specs.Bool.{⊤}
 use Rattle.kx_message.specs.declared.code.ErrorCode.{ErrorCode}
 use Rattle.kx_message.specs.declared.code.ErrorCode.TheVariants as code

@@ -1,7 +1,7 @@
 -- All that the coordinator does in any event, once and for all: what its log grows to, what a
 -- failed store may hold, which markers it has noted, and what each message that it hands out rests
 -- on. The theorems read this, and no handler.
-use Rattle.std.proofs.Common.{◌≡◌, ◌⊎◌, ℕ, ℤ, pos, ◌+◌, ◌-◌, max, Bool, true}
+use Rattle.std.proofs.Common.{◌≡◌, ◌⊎◌, ℕ, ℤ, pos, max, Bool, true}
 use Rattle.std.proofs.Common.{false}
 use Rattle.std.proofs.Common.{not, ◌&&◌, ◌||◌, cond, List, [], ◌∷◌, ◌++◌, filter, flat_map}
 use Rattle.std.proofs.Common.{Option}

@@ -1,5 +1,5 @@
 -- Logs that the coordinator grows: note by note, each of which may be written next.
-use Rattle.std.proofs.Common.{◌≡◌, ℕ, ℤ, pos, negsuc, zero, suc, ◌+ℤ◌, ◌<ℤ◌, ◌-◌, ◌^◌, ◌≤◌, false}
+use Rattle.std.proofs.Common.{◌≡◌, ℕ, ℤ, pos, negsuc, zero, suc, ◌+ℤ◌, ◌<ℤ◌, ◌^◌, ◌≤◌, false}
 use Rattle.std.proofs.Common.{List}
 use Rattle.std.proofs.Common.{[], ◌∷◌, ◌++◌}
 use Rattle.std.proofs.Common.{Option, Some, None, Contains, sym, subst, ⊎_elim}

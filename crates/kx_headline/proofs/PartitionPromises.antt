@@ -10,7 +10,7 @@ use Rattle.std.proofs.lemmas.List.{map-append}
 use Rattle.std.proofs.lemmas.List.Elements.{All-weaker, Contains-append_left}
 use Rattle.kx_message.specs.declared.requests.Caller.{Caller}
 use Rattle.std.specs.Bool.{⊤}
-use Rattle.kx_headline.proofs.Codes.{WithNoError, with_no_error}
+use Rattle.kx_headline.proofs.Codes.{WithNoError}
 use Rattle.kx_message.specs.Ranges.{offsets_partition}
 use Rattle.kx_message.specs.declared.code.ErrorCode.{ErrorCode}
 use Rattle.kx_message.specs.declared.code.ErrorCode.TheVariants as code

@@ -13,7 +13,6 @@ use Rattle.kx_message.specs.declared.requests.Caller.{Caller}
 use Rattle.std.specs.Bool.{⊤}
 use Rattle.kx_headline.proofs.Codes.{WithNoError, with_no_error}
 use Rattle.kx_message.specs.Ranges.{offsets_partition}
-use Rattle.kx_message.specs.declared.code.ErrorCode.TheVariants.{NoError}
 use Rattle.kx_message.specs.declared.message.Message.{Message}
 use Rattle.kx_message.specs.declared.message.Message.TheVariants as msg
 use Rattle.kx_model.specs.Client.{value_records}
@@ -235,8 +234,8 @@ module _ (w : World) (number : ℕ) (p : Partition) (s : Served)
   node_promised (msg.MarkerReply it) said =
       let held = it.held in
       with_no_error it.code (λ h.
-        subst (λ n. AtLeast held.epoch (epoch_of (entries_at after n) held.id)) (sym h.0)
-        (subst (λ log. AtLeast held.epoch (epoch_of (entries log) held.id)) log_is h.1)) said
+      subst (λ n. AtLeast held.epoch (epoch_of (entries_at after n) held.id)) (sym h.0)
+      (subst (λ log. AtLeast held.epoch (epoch_of (entries log) held.id)) log_is h.1)) said
   node_promised (msg.ProduceReply it) said =
       with_no_error it.code (λ h. is_there it.partition it.caller h.0 h.1) said
   node_promised (msg.OffsetsReply it) said =

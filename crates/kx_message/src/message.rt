@@ -24,8 +24,8 @@ pub struct Held {
     pub epoch: Epoch,
 }
 
-/// What a transaction marker carries, and the answer to it repeats: the producer's id, and the epoch
-/// of the transaction raised by one, so 1 to 32767 (KIP-890).
+/// What a transaction marker carries, and the answer to it repeats: the producer's id, and the
+/// epoch of the transaction raised by one, so 1 to 32767 (KIP-890).
 #[derive(Clone, Copy, Debug, PartialEq, Eq)]
 pub struct Raised(Held);
 

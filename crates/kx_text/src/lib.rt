@@ -1,7 +1,7 @@
 //! Scripts and dumps: all that is read or printed as text. A script is a list of commands, one a
 //! line, over partitions held in memory; a dump prints the record batches of a file. `words` and
 //! `command` read a line, `world` holds the partitions, `answers` and `dump` print, `script` goes
-//! from line to line, and `program` is what kx_main's subcommands do, with the status they end with.
+//! from line to line, and `program` is what kx_main's subcommands do, with their statuses.
 #![tactic(auto)]
 
 mod answers;

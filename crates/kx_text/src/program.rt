@@ -21,8 +21,8 @@ pub enum Ending {
     Done,
     /// Something that was asked for could not be done.
     Failed,
-    /// The arguments ask for nothing that the program does. Standard error has words on it, where it
-    /// can be written.
+    /// The arguments ask for nothing that the program does. Standard error has words on it, where
+    /// it can be written.
     WrongArguments,
 }
 
@@ -53,8 +53,8 @@ impl Ending {
 ///
 /// # Errors
 ///
-/// Those of [`ScriptFault`]; `Write` also where the writer can't be flushed. Of any other nothing is
-/// left in the buffer.
+/// Those of [`ScriptFault`]; `Write` also where the writer can't be flushed. Of any other nothing
+/// is left in the buffer.
 pub fn run_sim<R: BufRead, W: Write + Drop>(
     alloc: Global,
     reader: &mut R,

@@ -14,7 +14,8 @@ returns-in_err-push_missing-clause-refused c =
     (0 < length (missing_of e c.args.noted.now (row_of c.row-item.result))))
     (to_z-of_z w32 c.args.epoch c.ranges.epoch) c.push_missing.ensures.refused in
     let some = told _ _ _ c.in_err-push_missing.was refused in
-    on_err c.from_residual.result _ (some_of (missing_of c.args.epoch c.args.noted.now) row_of c.args.rows.now
+    on_err c.from_residual.result _
+    (some_of (missing_of c.args.epoch c.args.noted.now) row_of c.args.rows.now
     c.loop-row.row-index c.row-item.result c.loop-row-test.true c.row-item.is some)
 
 pub loop-row-preserved : goal.loop-row-preserved

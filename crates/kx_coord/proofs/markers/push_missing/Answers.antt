@@ -15,7 +15,8 @@ returns-in_err-push-clause-refused c =
     let same = own_answered c.args.noted.now row _ c.partition-item.result
     c.own_pair-in-loop-partition.ensures in
     let unanswered = sym (c.contains.ensures ∙ same) ∙ c.if-contains.false in
-    on_err c.from_residual.result _ (some_missing c.args.epoch c.args.noted.now row c.in-Prepare.outcome
+    on_err c.from_residual.result _
+    (some_missing c.args.epoch c.args.noted.now row c.in-Prepare.outcome
     c.loop-partition.partition-index c.partition-item.result (ap state_of c.in-Prepare.is)
     (subst (λ ps. c.loop-partition.partition-index < length ps) lent c.loop-partition-test.true)
     (c.partition-item.is ∙ ap (λ ps. get_or ps c.loop-partition.partition-index
