@@ -6,7 +6,7 @@ use crate::requests::Caller;
 use crate::{ErrorCode, Held, PartitionId, Raised, TxnId};
 
 /// Answers an `InitProducerId`.
-#[derive(Clone, Copy, Debug, PartialEq, Eq)]
+#[derive(Clone, Copy, PartialEq, Eq)]
 pub struct InitReply {
     /// Who asked.
     pub caller: Caller,
@@ -17,7 +17,7 @@ pub struct InitReply {
 }
 
 /// Answers an `EndTxn`.
-#[derive(Clone, Copy, Debug, PartialEq, Eq)]
+#[derive(Clone, Copy, PartialEq, Eq)]
 pub struct EndReply {
     /// Who asked.
     pub caller: Caller,
@@ -28,7 +28,7 @@ pub struct EndReply {
 }
 
 /// Answers a `Produce`.
-#[derive(Clone, Copy, Debug, PartialEq, Eq)]
+#[derive(Clone, Copy, PartialEq, Eq)]
 pub struct ProduceReply {
     /// Who asked.
     pub caller: Caller,
@@ -41,7 +41,7 @@ pub struct ProduceReply {
 }
 
 /// Answers an `AddPartition`.
-#[derive(Clone, Copy, Debug, PartialEq, Eq)]
+#[derive(Clone, Copy, PartialEq, Eq)]
 pub struct AddReply {
     /// The partition that asked.
     pub partition: PartitionId,
@@ -54,7 +54,7 @@ pub struct AddReply {
 }
 
 /// Answers a `WriteMarker`.
-#[derive(Clone, Copy, Debug, PartialEq, Eq)]
+#[derive(Clone, Copy, PartialEq, Eq)]
 pub struct MarkerReply {
     /// The partition that answers.
     pub partition: PartitionId,
@@ -67,7 +67,7 @@ pub struct MarkerReply {
 }
 
 /// Answers a `Fetch`.
-#[derive(Clone, Debug, PartialEq, Eq, Drop)]
+#[derive(Clone, PartialEq, Eq, Drop)]
 pub struct FetchReply {
     /// Who asked.
     pub caller: Caller,
@@ -88,7 +88,7 @@ pub struct FetchReply {
 }
 
 /// Answers a `Join`.
-#[derive(Clone, Copy, Debug, PartialEq, Eq)]
+#[derive(Clone, Copy, PartialEq, Eq)]
 pub struct JoinReply {
     /// Who asked.
     pub caller: Caller,
@@ -103,7 +103,7 @@ pub struct JoinReply {
 }
 
 /// Answers a `Leave`.
-#[derive(Clone, Copy, Debug, PartialEq, Eq)]
+#[derive(Clone, Copy, PartialEq, Eq)]
 pub struct LeaveReply {
     /// Who asked.
     pub caller: Caller,
@@ -112,7 +112,7 @@ pub struct LeaveReply {
 }
 
 /// Answers a `TxnOffsetCommit`.
-#[derive(Clone, Copy, Debug, PartialEq, Eq)]
+#[derive(Clone, Copy, PartialEq, Eq)]
 pub struct OffsetsReply {
     /// Who asked.
     pub caller: Caller,
@@ -121,7 +121,7 @@ pub struct OffsetsReply {
 }
 
 /// Answers an `OffsetFetch`.
-#[derive(Clone, Copy, Debug, PartialEq, Eq)]
+#[derive(Clone, Copy, PartialEq, Eq)]
 pub struct OffsetFetchReply {
     /// Who asked.
     pub caller: Caller,

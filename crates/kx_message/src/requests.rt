@@ -4,7 +4,7 @@ use crate::payload::{Bytes, Offsets};
 use crate::{ClientId, GroupId, Held, Outcome, PartitionId, Raised, Timeout, TxnId};
 
 /// Who asks, and the number of the request, which the reply repeats.
-#[derive(Clone, Copy, Debug, PartialEq, Eq)]
+#[derive(Clone, Copy, PartialEq, Eq)]
 pub struct Caller {
     /// The client.
     pub client: ClientId,
@@ -13,7 +13,7 @@ pub struct Caller {
 }
 
 /// Asks the coordinator for a producer id and an epoch (KIP-98).
-#[derive(Clone, Copy, Debug, PartialEq, Eq)]
+#[derive(Clone, Copy, PartialEq, Eq)]
 pub struct InitProducerId {
     /// Who asks.
     pub caller: Caller,
@@ -24,7 +24,7 @@ pub struct InitProducerId {
 }
 
 /// Asks the coordinator to end a transaction (KIP-98).
-#[derive(Clone, Copy, Debug, PartialEq, Eq)]
+#[derive(Clone, Copy, PartialEq, Eq)]
 pub struct EndTxn {
     /// Who asks.
     pub caller: Caller,
@@ -37,7 +37,7 @@ pub struct EndTxn {
 }
 
 /// Appends a record batch to a partition.
-#[derive(Clone, Debug, PartialEq, Eq, Drop)]
+#[derive(Clone, PartialEq, Eq, Drop)]
 pub struct Produce {
     /// Who asks.
     pub caller: Caller,
@@ -50,7 +50,7 @@ pub struct Produce {
 }
 
 /// A partition asks the coordinator to enter it into a transaction (KIP-890).
-#[derive(Clone, Copy, Debug, PartialEq, Eq)]
+#[derive(Clone, Copy, PartialEq, Eq)]
 pub struct AddPartition {
     /// The transactional id.
     pub txn: TxnId,
@@ -61,7 +61,7 @@ pub struct AddPartition {
 }
 
 /// The coordinator ends a transaction in a partition (KIP-98's WriteTxnMarkers).
-#[derive(Clone, Copy, Debug, PartialEq, Eq)]
+#[derive(Clone, Copy, PartialEq, Eq)]
 pub struct WriteMarker {
     /// The partition.
     pub partition: PartitionId,
@@ -76,7 +76,7 @@ pub struct WriteMarker {
 }
 
 /// Reads records of a partition.
-#[derive(Clone, Copy, Debug, PartialEq, Eq)]
+#[derive(Clone, Copy, PartialEq, Eq)]
 pub struct Fetch {
     /// Who asks.
     pub caller: Caller,
@@ -91,7 +91,7 @@ pub struct Fetch {
 }
 
 /// Joins a consumer group.
-#[derive(Clone, Copy, Debug, PartialEq, Eq)]
+#[derive(Clone, Copy, PartialEq, Eq)]
 pub struct Join {
     /// Who asks.
     pub caller: Caller,
@@ -100,7 +100,7 @@ pub struct Join {
 }
 
 /// Leaves a consumer group.
-#[derive(Clone, Copy, Debug, PartialEq, Eq)]
+#[derive(Clone, Copy, PartialEq, Eq)]
 pub struct Leave {
     /// Who asks.
     pub caller: Caller,
@@ -109,7 +109,7 @@ pub struct Leave {
 }
 
 /// Commits offsets of a consumer group within a transaction (KIP-447).
-#[derive(Clone, Debug, PartialEq, Eq, Drop)]
+#[derive(Clone, PartialEq, Eq, Drop)]
 pub struct TxnOffsetCommit {
     /// Who asks.
     pub caller: Caller,
@@ -130,7 +130,7 @@ pub struct TxnOffsetCommit {
 }
 
 /// Reads the offset that a consumer group committed for a partition.
-#[derive(Clone, Copy, Debug, PartialEq, Eq)]
+#[derive(Clone, Copy, PartialEq, Eq)]
 pub struct OffsetFetch {
     /// Who asks.
     pub caller: Caller,
