@@ -150,8 +150,7 @@ fn flipped(
     answer
 }
 
-fn flips(alloc: Global, bits: u8, from: usize, bytes: Vec<u8>) -> Result<String, StepFault> {
-    let mut bytes = bytes;
+fn flips(alloc: Global, bits: u8, from: usize, mut bytes: Vec<u8>) -> Result<String, StepFault> {
     let mut runs = Runs::new(alloc);
     for place in from..bytes.len() {
         let answer = flipped(alloc, &mut bytes, place, bits)?;

@@ -43,8 +43,12 @@ fn flipped(
 
 /// What bytes are opened as with any bits of one changed, for each byte from a place on up to
 /// another, numbered by their places.
-pub fn flips(alloc: Global, from: usize, to: usize, bytes: Vec<u8>) -> Result<String, StepFault> {
-    let mut bytes = bytes;
+pub fn flips(
+    alloc: Global,
+    from: usize,
+    to: usize,
+    mut bytes: Vec<u8>,
+) -> Result<String, StepFault> {
     let mut runs = Runs::new(alloc);
     for place in from..to {
         for bits in 1..=u8::MAX {
@@ -56,8 +60,7 @@ pub fn flips(alloc: Global, from: usize, to: usize, bytes: Vec<u8>) -> Result<St
 }
 
 /// What bytes are opened as with any bits of the one at a place changed, numbered by the bits.
-pub fn bits(alloc: Global, place: usize, bytes: Vec<u8>) -> Result<String, StepFault> {
-    let mut bytes = bytes;
+pub fn bits(alloc: Global, place: usize, mut bytes: Vec<u8>) -> Result<String, StepFault> {
     let mut runs = Runs::new(alloc);
     for bits in 1..=u8::MAX {
         let answer = flipped(alloc, &mut bytes, place, bits)?;

@@ -14,7 +14,7 @@ use Rattle.kx_model.specs.CoordinatorNode.{id_limit}
 use Rattle.kx_model.proofs.Notes.{coordinator_epoch-push, last_row-push, next_id-push}
 use Rattle.kx_txnlog.specs.Entry.{row_of}
 use Rattle.kx_txnlog.specs.declared.entry.Row.{Row}
-use Rattle.kx_coord.specs.Follows.{Follows}
+use Rattle.kx_coord.specs.Internal.Follows.{Follows}
 use Rattle.kx_coord.proofs.LastRows.{put_row, rows-push, rows_stay}
 
 -- nothing is kept of an empty log

@@ -9,10 +9,11 @@ use Rattle.std.proofs.lemmas.Bool.{and_parts, or_parts}
 use Rattle.std.proofs.lemmas.Bool.Decides.{nat_tests}
 use Rattle.std.proofs.lemmas.List.Concat.{flat_map-cons}
 use Rattle.std.proofs.lemmas.Slice.Eq.{bytes_eq-Decides}
-use Rattle.kx_model.specs.Markers.{Answered, same_answered}
-use Rattle.kx_coord.specs.Noted.{KeptOnce, answered_by, is_marker}
+use Rattle.kx_model.specs.Markers.{Answered, noting, same_answered}
+use Rattle.kx_coord.specs.Noted.{KeptOnce, SameAnswered, answered_by, is_marker}
 use Rattle.kx_coord.specs.declared.noted.AnsweredMarker.{AnsweredMarker}
-use Rattle.kx_coord.proofs.NotedTables.{and_four, is_for, items_at, shown}
+use Rattle.kx_coord.proofs.NotedTables.{and_four, is_at_items, is_for, items_at, looked_up}
+use Rattle.kx_coord.proofs.NotedTables.{noted_more, shown}
 
 -- how many pass
 abbrev pub count : {A : Type 0} → (A → Bool) → List A → ℕ
@@ -208,3 +209,24 @@ module _ {V : Type 0} (items : V → List AnsweredMarker) where
           → count (is_for b) (items_at items (cond c None o)) ≤ 1
       left true o h = omega arith
       left false o h = h
+
+module _ {V : Type 0} (items : V → List AnsweredMarker) where
+  -- a table with one answer more of a transactional id, which it didn't show, shows it noted
+  pub shows_noted : (txn : List ℕ) (marker : AnsweredMarker) (es new : List (List ℕ × V)) (v : V)
+      (old : List Answered) → IsDistinct bytes_eq (keys_of es) → IsDistinct bytes_eq (keys_of new)
+      → ((q : List ℕ) → lookup (bytes_eq q) new
+      ≡ cond (bytes_eq txn q) (Some v) (lookup (bytes_eq q) es))
+      → items v ≡ items_at items (lookup (bytes_eq txn) es) ++ marker ∷ []
+      → KeptOnce (shown items es) → shown items es ≡ old
+      → list_any (same_answered (answered_by txn marker)) old ≡ false
+      → SameAnswered (shown items new) (noting old (answered_by txn marker))
+  shows_noted txn marker es new v old apart now found is once shows none =
+      let a = answered_by txn marker in
+      let fresh = sym (is_at_items items a (lookup (bytes_eq txn) es))
+      ∙ sym (looked_up items a es apart) ∙ ap (list_any (same_answered a)) shows ∙ none in
+      record {
+        same = λ b. noted_more items txn marker es new v apart now found is b
+            ∙ ap (λ (s : List Answered). list_any (same_answered b) (s ++ a ∷ [])) shows
+            ∙ ap (list_any (same_answered b)) (sym (ap (λ c. cond c old (old ++ a ∷ [])) none));
+        once = noted_once items txn marker es new v apart now found is fresh once;
+      }

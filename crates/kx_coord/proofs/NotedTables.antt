@@ -4,7 +4,7 @@ use Rattle.std.proofs.Common.{None, refl, sym, ap, subst, cond, map, filter}
 use Rattle.std.specs.Prelude.{◌&&◌, ◌||◌, ◌==◌, bytes_eq, not}
 use Rattle.std.specs.Cmp.Lexicographic.{nat_list_eq_equiv}
 use Rattle.std.specs.List.{AllByRecursion, IsDistinct, flat_map, list_any}
-use Rattle.std.specs.Map.{keys_of, lookup}
+use Rattle.std.specs.Map.{keys_of, lookup, set_value}
 use Rattle.std.proofs.lemmas.List.Concat.{flat_map-cons}
 use Rattle.std.proofs.lemmas.List.Folds.{list_any-append}
 use Rattle.std.proofs.lemmas.Slice.Eq.{bytes_eq-Decides}
@@ -107,6 +107,28 @@ module _ {V : Type 0} (items : V → List AnsweredMarker) where
       → is_at items a o ≡ list_any (is_for a) (items_at o)
   is_at_items a None = refl
   is_at_items a (Some v) = refl
+
+  set_step : (test : List ℕ → Bool) (e : List ℕ × V) (es : List (List ℕ × V)) (v w : V) (b : Bool)
+      → (lookup test es ≡ Some v → shown items (set_value test es w) ≡ shown items es)
+      → cond b (Some e.1) (lookup test es) ≡ Some v → items w ≡ items v
+      → shown items (cond b ((e.0, w) ∷ es) (e ∷ set_value test es w)) ≡ shown items (e ∷ es)
+  set_step test e es v w true more found same =
+      flat_map-cons (λ (f : List ℕ × V). map (answered_by f.0) (items f.1)) (e.0, w) es
+      ∙ ap (λ l. map (answered_by e.0) l ++ shown items es) (same ∙ sym (ap items_at found))
+      ∙ sym (flat_map-cons (λ (f : List ℕ × V). map (answered_by f.0) (items f.1)) e es)
+  set_step test e es v w false more found same =
+      flat_map-cons (λ (f : List ℕ × V). map (answered_by f.0) (items f.1)) e
+      (set_value test es w)
+      ∙ ap (λ l. map (answered_by e.0) (items e.1) ++ l) (more found)
+      ∙ sym (flat_map-cons (λ (f : List ℕ × V). map (answered_by f.0) (items f.1)) e es)
+
+  -- another value with the same answers shows nothing else
+  pub shown_set : (test : List ℕ → Bool) (es : List (List ℕ × V)) (v w : V)
+      → lookup test es ≡ Some v → items w ≡ items v
+      → shown items (set_value test es w) ≡ shown items es
+  shown_set test [] v w found same = refl
+  shown_set test (e ∷ es) v w found same =
+      set_step test e es v w (test e.0) (λ f. shown_set test es v w f same) found same
 
   one_more : (b : Answered) (txn : List ℕ) (marker : AnsweredMarker) (v : V) (o p : Option V)
       (c : Bool) → bytes_eq b.txn txn ≡ c → (c ≡ true → o ≡ p)

@@ -1,6 +1,7 @@
 -- What each call does to the coordinator, and what it hands out.
 use Rattle.std.specs.Prelude.{◌≡◌, ◌⊎◌, ℕ, ℤ, Bool, true, false, List, [], ◌∷◌, ◌++◌, max, Option}
 use Rattle.std.specs.Prelude.{Some, None, is_some, if◌then◌else◌}
+use Rattle.std.specs.List.{list_any}
 use Rattle.kx_log.specs.Opening.{OpenFailed}
 use Rattle.kx_log.specs.Store.{AppendFailed, MayLoad, StoreState}
 use Rattle.kx_log.specs.declared.fault.OpenFault.{OpenFault}
@@ -11,7 +12,8 @@ use Rattle.kx_message.specs.declared.message.Message.{Message}
 use Rattle.kx_model.specs.Coordinator.{Note, Row, Written, coordinator_epoch}
 use Rattle.kx_model.specs.CoordinatorNode.{Reply, has_no_id}
 use Rattle.kx_model.specs.Markers.{Answered, Settled, Ignored, Noted, Completes, all_markers}
-use Rattle.kx_model.specs.Markers.{expire, markers_after, noting, reopen, settle, without_row}
+use Rattle.kx_model.specs.Markers.{expire, markers_after, noting, reopen, same_answered, settle}
+use Rattle.kx_model.specs.Markers.{without_row}
 use Rattle.kx_model.specs.Requests.{Answer}
 use Rattle.kx_txnlog.specs.Layout.{entry_text}
 use Rattle.kx_txnlog.specs.LogState.{AppendBreaks, IsAppendedTo, LogState}
@@ -85,6 +87,12 @@ SettlesBy old new a (Completes row) = CompletesRow old new row
 abbrev pub Settles : CoordinatorState → CoordinatorState → Answered → ErrorCode → Type 0
 Settles old new a code.NoError = SettlesBy old new a (settle old.log.notes old.answered a)
 Settles old new a other = new ≡ old
+
+-- the answer to a marker is noted and wasn't before, or completes its row in a log that takes it
+abbrev pub WantsMemory : CoordinatorState → Answered → Settled → Type 0
+WantsMemory co a Ignored = ⊥
+WantsMemory co a Noted = list_any (same_answered a) co.answered ≡ false
+WantsMemory co a (Completes row) = co.log.closed ≡ false
 
 ------ time
 

@@ -1,6 +1,4 @@
-pub mod Answers
 pub mod Noted
-pub mod Follows
 pub mod CoordinatorState
 pub mod Calls
-pub mod Deciding
+pub mod Internal

@@ -4,7 +4,7 @@ ghost use Rattle.kx_model.specs.Coordinator.{is};
 ghost use Rattle.kx_message.specs.Ranges.{spent_epoch};
 ghost use Rattle.kx_model.specs.Requests as model;
 ghost use Rattle.kx_txnlog.specs.Entry.{row_of};
-ghost use Rattle.kx_coord.specs.Answers.{IsAnswer};
+ghost use Rattle.kx_coord.specs.Internal.Answers.{IsAnswer};
 
 use crate::answer::{Answer, refuses, repeats, writes};
 use crate::rows::added;

@@ -3,7 +3,7 @@ ghost use Rattle.std.specs.Prelude.{◌≡◌};
 ghost use Rattle.kx_model.specs.Coordinator as coordinator;
 ghost use Rattle.kx_model.specs.Requests as model;
 ghost use Rattle.kx_txnlog.specs.Entry.{row_of};
-ghost use Rattle.kx_coord.specs.Answers.{IsAnswer, IsMade, reply_by};
+ghost use Rattle.kx_coord.specs.Internal.Answers.{IsAnswer, IsMade, reply_by};
 
 use kx_message::{
     AddPartition, AddReply, Caller, EndReply, Epoch, ErrorCode, Held, InitReply, Message,

@@ -5,7 +5,7 @@ ghost use Rattle.kx_model.specs.Coordinator.{ByEnd, Note, Ongoing};
 ghost use Rattle.kx_model.specs.Requests as model;
 ghost use Rattle.kx_txnlog.specs.Entry.{row_of};
 ghost use Rattle.kx_txnlog.specs.State.{state_of};
-ghost use Rattle.kx_coord.specs.Answers.{IsAnswer, IsNextId, is_settled};
+ghost use Rattle.kx_coord.specs.Internal.Answers.{IsAnswer, IsNextId, is_settled};
 
 use crate::add_partition::{is, is_old, refused_first};
 use crate::answer::{Answer, held_after, own_pair, refuses, repeats, writes};

@@ -6,7 +6,7 @@ ghost use Rattle.kx_model.specs.Coordinator.{Ongoing};
 ghost use Rattle.kx_model.specs.Markers.{expire, is_overdue, markers_of};
 ghost use Rattle.kx_txnlog.specs.Entry.{row_of};
 ghost use Rattle.kx_coord.specs.Calls.{Expires};
-ghost use Rattle.kx_coord.specs.Deciding.{IsExpired};
+ghost use Rattle.kx_coord.specs.Internal.Deciding.{IsExpired};
 
 use crate::coordinator::Coordinator;
 use crate::markers::push_markers;

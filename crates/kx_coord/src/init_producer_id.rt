@@ -3,7 +3,7 @@ ghost use Rattle.std.specs.Prelude.{◌≡◌, ℕ, IfOk, List, None};
 ghost use Rattle.kx_model.specs.Coordinator.{Note, Ongoing};
 ghost use Rattle.kx_model.specs.Requests as model;
 ghost use Rattle.kx_txnlog.specs.Entry.{row_of};
-ghost use Rattle.kx_coord.specs.Answers.{IsAnswer, IsNextId};
+ghost use Rattle.kx_coord.specs.Internal.Answers.{IsAnswer, IsNextId};
 
 use crate::answer::{Answer, own_pair, refuses, repeats, writes};
 use crate::rows::Fresh;

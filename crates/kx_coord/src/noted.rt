@@ -58,19 +58,6 @@ fn has_marker(markers: &[AnsweredMarker], held: &Held, partition: PartitionId) -
         .any(|marker| is_same(marker, held, partition))
 }
 
-// These, of which there are no more than partitions of a row, and one more.
-fn with_marker(
-    alloc: Global,
-    before: &[AnsweredMarker],
-    marker: AnsweredMarker,
-) -> Result<Vec<AnsweredMarker>, AllocError>
-    ensures { IfOk result (λ markers. markers.items ≡ before.now ++ marker ∷ []) }
-{
-    let mut markers = Vec::from_slice(alloc, before)?;
-    markers.push(marker)?;
-    Ok(markers)
-}
-
 impl NotedMarkers {
     /// None. Takes no memory.
     pub(crate) fn new(alloc: Global) -> NotedMarkers
@@ -116,10 +103,11 @@ impl NotedMarkers {
             held: *held,
             partition,
         };
-        let markers = match self.by_txn.get(&txn) {
-            Some(markers) => with_marker(self.alloc, markers.as_slice(), marker)?,
-            None => with_marker(self.alloc, &[], marker)?,
-        };
+        if let Some(markers) = self.by_txn.get_mut(&txn) {
+            markers.push(marker)?;
+            return Ok(());
+        }
+        let markers = vec![in self.alloc; marker]?;
         self.by_txn.insert(txn, markers)?;
         Ok(())
     }

@@ -4,7 +4,7 @@ ghost use Rattle.kx_model.specs.Coordinator as model;
 ghost use Rattle.kx_model.specs.Markers.{reopen};
 ghost use Rattle.kx_txnlog.specs.Entry.{note_of};
 ghost use Rattle.kx_coord.specs.Calls.{IsOpen, OpenRefuses, RestartRefuses};
-ghost use Rattle.kx_coord.specs.Deciding.{IsTaken, TakeFaults, open_fault_of};
+ghost use Rattle.kx_coord.specs.Internal.Deciding.{IsTaken, TakeFaults, open_fault_of};
 
 use crate::coordinator::Coordinator;
 use crate::markers::all_markers;
@@ -130,23 +130,19 @@ impl<S: Store> Coordinator<S> {
     {
         let content = self.log.reload()?;
         let opening = take_up(self.alloc, content.entries())?;
-        let epoch = opening.epoch;
-        let entry = Entry::CoordinatorEpoch(epoch);
-        match self.log.install_with(content, entry) {
-            Ok(()) => {
-                self.table.replace(opening.table);
-                self.table.epoch = epoch;
-                self.clock = now;
-                self.answered.forget_all();
-                Ok(opening.handed)
-            }
-            Err(StoreFault::Memory) => Err(OpenFault::Memory),
-            Err(StoreFault::Device) => {
-                self.table.replace(opening.table);
-                self.clock = now;
-                self.answered.forget_all();
-                Err(OpenFault::Device)
-            }
+        let entry = Entry::CoordinatorEpoch(opening.epoch);
+        let appended = match self.log.install_with(content, entry) {
+            Ok(()) => true,
+            Err(StoreFault::Device) => false,
+            Err(StoreFault::Memory) => return Err(OpenFault::Memory),
+        };
+        self.table.replace(opening.table);
+        self.clock = now;
+        self.answered.forget_all();
+        if !appended {
+            return Err(OpenFault::Device);
         }
+        self.table.epoch = opening.epoch;
+        Ok(opening.handed)
     }
 }

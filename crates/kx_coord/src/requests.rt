@@ -5,7 +5,7 @@ ghost use Rattle.kx_model.specs.Markers.{markers_after};
 ghost use Rattle.kx_model.specs.Requests as model;
 ghost use Rattle.kx_txnlog.specs.Entry.{note_of};
 ghost use Rattle.kx_message.specs.Messages as the;
-ghost use Rattle.kx_coord.specs.Answers.{IsAnswer, reply_by};
+ghost use Rattle.kx_coord.specs.Internal.Answers.{IsAnswer, reply_by};
 ghost use Rattle.kx_coord.specs.Calls.{Hands, Responds};
 
 use crate::add_partition::add_row;
@@ -22,11 +22,10 @@ use kx_txnlog::Entry;
 use std::alloc::AllocError;
 
 // This message alone, in the place of others.
-fn only(handed: Vec<Message>, message: Message) -> Vec<Message>
+fn only(mut handed: Vec<Message>, message: Message) -> Vec<Message>
     requires { 0 < length handed.items }
     ensures { result.items ≡ message ∷ [] }
 {
-    let mut handed = handed;
     handed.truncate(1);
     handed[0] = message;
     handed

@@ -6,7 +6,7 @@ ghost use Rattle.kx_model.specs.Requests as model;
 ghost use Rattle.kx_txnlog.specs.Entry.{row_of};
 ghost use Rattle.kx_txnlog.specs.State.{cause_of, state_of};
 ghost use Rattle.kx_txnlog.specs.Ranges.{may_stand};
-ghost use Rattle.kx_coord.specs.Answers.{IsMade, IsNextId, is_settled};
+ghost use Rattle.kx_coord.specs.Internal.Answers.{IsMade, IsNextId, is_settled};
 
 use kx_message::{ClientId, Epoch, Outcome, PartitionId, ProducerId, Timeout, TxnId};
 use kx_txnlog::{Cause, Partitions, Row, State};

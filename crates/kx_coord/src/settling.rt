@@ -3,8 +3,8 @@ ghost use Rattle.std.specs.Prelude.{◌≡◌, ◌==◌, ◌&&◌, ◌||◌, [],
 ghost use Rattle.std.specs.List.{list_all, list_any};
 ghost use Rattle.kx_model.specs.Markers.{answered_at, same_answered, settle};
 ghost use Rattle.kx_txnlog.specs.Entry.{row_of};
-ghost use Rattle.kx_coord.specs.Calls.{CompletesRow, Settles};
-ghost use Rattle.kx_coord.specs.Deciding.{IsSettled, WantsMemory};
+ghost use Rattle.kx_coord.specs.Calls.{CompletesRow, Settles, WantsMemory};
+ghost use Rattle.kx_coord.specs.Internal.Deciding.{IsSettled};
 ghost use Rattle.kx_message.specs.declared.code.ErrorCode.TheVariants as error;
 ghost use Rattle.kx_coord.specs.Noted.{answered};
 

@@ -6,8 +6,8 @@ ghost use Rattle.kx_model.specs.Coordinator as model;
 ghost use Rattle.kx_model.specs.Coordinator.{Note};
 ghost use Rattle.kx_model.specs.CoordinatorNode.{id_limit};
 ghost use Rattle.kx_txnlog.specs.Entry.{note_of, row_of};
-ghost use Rattle.kx_coord.specs.Answers.{IsNextId};
-ghost use Rattle.kx_coord.specs.Follows.{Follows};
+ghost use Rattle.kx_coord.specs.Internal.Answers.{IsNextId};
+ghost use Rattle.kx_coord.specs.Internal.Follows.{Follows};
 
 use indexmap::IndexMap;
 use kx_message::{ProducerId, TxnId};

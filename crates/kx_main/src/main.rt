@@ -121,11 +121,12 @@ fn run(rt: &(impl Env + Files + Input + Print + Eprint + AllocGlobal)) -> Ending
     };
     match usage.try_get_matches_from(words.as_slice()) {
         Ok(given) => match given.subcommand() {
-            Some((_, options)) => match options.get_str("FILE") {
+            Some(("sim", _)) => sim(rt),
+            Some(("dump", options)) => match options.get_str("FILE") {
                 Some(path) => dump(rt, path),
-                None => sim(rt),
+                None => Ending::WrongArguments,
             },
-            None => sim(rt),
+            Some(_) | None => Ending::WrongArguments,
         },
         Err(error) => refused(rt, &error),
     }

@@ -33,9 +33,9 @@ pub struct OpenTxns {
 
 impl Model for OpenTxns {
     ghost use Rattle.std.specs.Prelude.{◌-◌, vec_len, vec_capacity};
-    ghost use Rattle.kx_open.specs.Open.{Held, IsOpenList};
+    ghost use Rattle.kx_open.specs.Open.{OpenState, IsOpenList};
 
-    ghost Value = { Held };
+    ghost Value = { OpenState };
 
     ghost view = { λ o. record {
       txns = o.txns.items;

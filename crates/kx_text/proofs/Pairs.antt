@@ -3,7 +3,7 @@ use Rattle.std.proofs.Common.{◌≡◌, ℕ, ℤ, List, [], ◌∷◌, ◌++◌
 use Rattle.std.specs.Prelude.{flat_map}
 use Rattle.kx_batch.specs.Record.{Record}
 use Rattle.kx_model.specs.Reading.{Shown}
-use Rattle.kx_reader.specs.Left.{pair_of, pairs}
+use Rattle.kx_reader.specs.Pairs.{pair_of, pairs}
 use Rattle.kx_text.specs.World.{shown_lines, value_line}
 
 abbrev pub pair_line : ℤ × Record → List ℕ

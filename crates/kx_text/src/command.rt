@@ -49,10 +49,9 @@ fn partition_of(word: &[u8]) -> Option<usize>
     Some(partition as usize)
 }
 
-fn world_of<'a>(words: Words<'a>) -> Option<Command<'a>>
+fn world_of<'a>(mut words: Words<'a>) -> Option<Command<'a>>
     ensures { result ≡ world_of words.entry }
 {
-    let mut words = words;
     let count = number_below(words.next()?, 17)?;
     if count == 0 || words.next().is_some() {
         return None;
@@ -60,19 +59,17 @@ fn world_of<'a>(words: Words<'a>) -> Option<Command<'a>>
     Some(Command::World(count as usize))
 }
 
-fn put_of<'a>(words: Words<'a>) -> Option<Command<'a>>
+fn put_of<'a>(mut words: Words<'a>) -> Option<Command<'a>>
     ensures { result ≡ put_of words.entry }
 {
-    let mut words = words;
     let partition = partition_of(words.next()?)?;
     let values = SomeWords::of(words)?;
     Some(Command::Put(partition, values))
 }
 
-fn max_of(words: Words<'_>) -> Option<u32>
+fn max_of(mut words: Words<'_>) -> Option<u32>
     ensures { result ≡ max_of words.entry }
 {
-    let mut words = words;
     let Some(word) = words.next() else {
         return Some(DEFAULT_MAX);
     };
@@ -95,10 +92,9 @@ fn mode_of(word: &[u8]) -> Option<Mode>
     }
 }
 
-fn fetch_of<'a>(words: Words<'a>) -> Option<Command<'a>>
+fn fetch_of<'a>(mut words: Words<'a>) -> Option<Command<'a>>
     ensures { result ≡ fetch_of words.entry }
 {
-    let mut words = words;
     let partition = words.next()?;
     let from = words.next()?;
     let mode = mode_of(words.next()?)?;
@@ -123,10 +119,9 @@ fn named<'a>(name: &[u8], words: Words<'a>) -> Option<Command<'a>>
 }
 
 /// The command that a line's words are, or None where they are none.
-pub fn command_of<'a>(words: Words<'a>) -> Option<Command<'a>>
+pub fn command_of<'a>(mut words: Words<'a>) -> Option<Command<'a>>
     ensures { result ≡ command_of words.entry }
 {
-    let mut words = words;
     let name = words.next()?;
     named(name, words)
 }

@@ -86,11 +86,10 @@ impl<'a> Model for SomeWords<'a> {
 
 impl<'a> SomeWords<'a> {
     /// The words, or None where there is none.
-    pub fn of(words: Words<'a>) -> Option<SomeWords<'a>>
+    pub fn of(mut words: Words<'a>) -> Option<SomeWords<'a>>
         ensures some { IfSome result (λ some. some ≡ words.entry) }
         ensures none { IsNone result ↔ (words.entry ≡ []) }
     {
-        let mut words = words;
         let first = words.next()?;
         Some(SomeWords { first, more: words })
     }

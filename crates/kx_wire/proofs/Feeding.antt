@@ -93,18 +93,18 @@ pub frame_fault : (bytes : List ℕ) (f : FrameFault) → frame_at bytes ≡ Bad
 unfolding frame_at
 frame_fault bytes f e = number_fault (unsigned w32 bytes) f e
 
-answered : (held piece : List ℕ) (f : FrameFault) → IsFault f → frame_at (held ++ piece) ≡ Bad f
-    → Fed (Reads held) piece (Err f) Over
-answered held piece fault.TooLong h e = (e, refl)
-answered held piece fault.Kind h e = (e, refl)
-answered held piece fault.Field h e = (e, refl)
-answered held piece fault.Failed h e = absurd h
-answered held piece fault.Memory h e = absurd h
+answered : (partial piece : List ℕ) (f : FrameFault) → IsFault f
+    → frame_at (partial ++ piece) ≡ Bad f → Fed (Reads partial) piece (Err f) Over
+answered partial piece fault.TooLong h e = (e, refl)
+answered partial piece fault.Kind h e = (e, refl)
+answered partial piece fault.Field h e = (e, refl)
+answered partial piece fault.Failed h e = absurd h
+answered partial piece fault.Memory h e = absurd h
 
 -- a fault before which nothing comes is answered at once
-pub fed_fault : (held piece rest : List ℕ) (ms : List Message) (f : FrameFault)
-    → Splits (held ++ piece) ms rest → ms ≡ [] → frame_at rest ≡ Bad f
-    → Fed (Reads held) piece (Err f) Over
-fed_fault held piece rest ms f s none e =
-    let nothing = subst (λ (xs : List Message). Splits (held ++ piece) xs rest) none s in
-    answered held piece f (frame_fault rest f e) (ap frame_at nothing.whole ∙ e)
+pub fed_fault : (partial piece rest : List ℕ) (ms : List Message) (f : FrameFault)
+    → Splits (partial ++ piece) ms rest → ms ≡ [] → frame_at rest ≡ Bad f
+    → Fed (Reads partial) piece (Err f) Over
+fed_fault partial piece rest ms f s none e =
+    let nothing = subst (λ (xs : List Message). Splits (partial ++ piece) xs rest) none s in
+    answered partial piece f (frame_fault rest f e) (ap frame_at nothing.whole ∙ e)

@@ -39,9 +39,9 @@ some_first bytes used (inl z) n = absurd (n z)
 
 -- ---- a piece behind nothing
 
-pub only_rest : (held piece : List ℕ) (used : ℕ) → held ≡ []
-    → held ++ take (length piece - used) (drop used piece) ≡ drop used (held ++ piece)
-only_rest held piece used none =
+pub only_rest : (partial piece : List ℕ) (used : ℕ) → partial ≡ []
+    → partial ++ take (length piece - used) (drop used piece) ≡ drop used (partial ++ piece)
+only_rest partial piece used none =
     subst (λ (h : List ℕ). h ++ take (length piece - used) (drop used piece)
     ≡ drop used (h ++ piece)) (sym none) (all_taken (length piece - used) (drop used piece)
     (omega (arith, length-drop used piece)))

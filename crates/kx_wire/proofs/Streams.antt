@@ -146,9 +146,9 @@ decode (m ∷ ms) (x ∷ xs) rest all each e =
 
 -- what is known of the pieces behind this one
 abbrev Behind : List (List ℕ) → Type 0
-Behind pieces = (ms : List Message) (held : List ℕ) → AllByRecursion IsSendable ms
-    → IsBytes (frames_of ms) → held ++ joined pieces ≡ frames_of ms → frame_at held ≡ More
-    → Comes (Reads held) pieces ms
+Behind pieces = (ms : List Message) (partial : List ℕ) → AllByRecursion IsSendable ms
+    → IsBytes (frames_of ms) → partial ++ joined pieces ≡ frames_of ms → frame_at partial ≡ More
+    → Comes (Reads partial) pieces ms
 
 stands_on : (front : Front) (pieces : List (List ℕ)) (xs others : List Message) (rest : List ℕ)
     (new : Stream) → Behind pieces → AllByRecursion IsSendable others
@@ -161,14 +161,14 @@ stands_on (Bad f) pieces xs others rest new more all fits e is s =
 stands_on More pieces xs others rest new more all fits e is s =
     subst (λ (t : Stream). Comes t pieces others) (sym s) (more others rest all fits e is)
 
-goes : (piece : List ℕ) (pieces : List (List ℕ)) (ms : List Message) (held : List ℕ)
+goes : (piece : List ℕ) (pieces : List (List ℕ)) (ms : List Message) (partial : List ℕ)
     (answer : Result (List Message) FrameFault) (new : Stream) → Behind pieces
     → AllByRecursion IsSendable ms → IsBytes (frames_of ms)
-    → (held ++ piece) ++ joined pieces ≡ frames_of ms → Fed (Reads held) piece answer new
+    → (partial ++ piece) ++ joined pieces ≡ frames_of ms → Fed (Reads partial) piece answer new
     → MatchResult answer
     (λ first. (others : List Message) × (ms ≡ first ++ others) × Comes new pieces others)
     (λ f. f ≡ fault.Memory)
-goes piece pieces ms held (Ok xs) new more all fits e (rest, s, stands) =
+goes piece pieces ms partial (Ok xs) new more all fits e (rest, s, stands) =
     let whole : frames_of xs ++ (rest ++ joined pieces) ≡ frames_of ms =
     sym (append_assoc (frames_of xs) rest (joined pieces))
     ∙ ap (λ (t : List ℕ). t ++ joined pieces) (sym s.whole) ∙ e in
@@ -180,29 +180,29 @@ goes piece pieces ms held (Ok xs) new more all fits e (rest, s, stands) =
       d.is,
       stands_on (frame_at rest) pieces xs d.others rest new more d.all bytes d.left refl stands,
     )
-goes piece pieces ms held (Err fault.Memory) new more all fits e fed = refl
-goes piece pieces ms held (Err fault.TooLong) new more all fits e fed =
-    absurd (not_bad ms fault.TooLong all (ap frame_at (sym e) ∙ bad_stays (held ++ piece)
+goes piece pieces ms partial (Err fault.Memory) new more all fits e fed = refl
+goes piece pieces ms partial (Err fault.TooLong) new more all fits e fed =
+    absurd (not_bad ms fault.TooLong all (ap frame_at (sym e) ∙ bad_stays (partial ++ piece)
     (joined pieces) fault.TooLong
-    (IsBytes-front (frames_of ms) (held ++ piece) (joined pieces) (sym e) fits) fed.0))
-goes piece pieces ms held (Err fault.Kind) new more all fits e fed =
-    absurd (not_bad ms fault.Kind all (ap frame_at (sym e) ∙ bad_stays (held ++ piece)
+    (IsBytes-front (frames_of ms) (partial ++ piece) (joined pieces) (sym e) fits) fed.0))
+goes piece pieces ms partial (Err fault.Kind) new more all fits e fed =
+    absurd (not_bad ms fault.Kind all (ap frame_at (sym e) ∙ bad_stays (partial ++ piece)
     (joined pieces) fault.Kind
-    (IsBytes-front (frames_of ms) (held ++ piece) (joined pieces) (sym e) fits) fed.0))
-goes piece pieces ms held (Err fault.Field) new more all fits e fed =
-    absurd (not_bad ms fault.Field all (ap frame_at (sym e) ∙ bad_stays (held ++ piece)
+    (IsBytes-front (frames_of ms) (partial ++ piece) (joined pieces) (sym e) fits) fed.0))
+goes piece pieces ms partial (Err fault.Field) new more all fits e fed =
+    absurd (not_bad ms fault.Field all (ap frame_at (sym e) ∙ bad_stays (partial ++ piece)
     (joined pieces) fault.Field
-    (IsBytes-front (frames_of ms) (held ++ piece) (joined pieces) (sym e) fits) fed.0))
-goes piece pieces ms held (Err fault.Failed) new more all fits e fed = absurd fed
+    (IsBytes-front (frames_of ms) (partial ++ piece) (joined pieces) (sym e) fits) fed.0))
+goes piece pieces ms partial (Err fault.Failed) new more all fits e fed = absurd fed
 
 come : (pieces : List (List ℕ)) → Behind pieces
-come [] ms held all fits e more =
-    not_more ms all (ap frame_at (sym e ∙ append-nil held) ∙ more)
-come (piece ∷ pieces) ms held all fits e more = λ answer new fed.
-    let regrouped : (held ++ piece) ++ joined pieces ≡ frames_of ms =
-    append_assoc held piece (joined pieces)
-    ∙ ap (λ (t : List ℕ). held ++ t) (sym (flat_map-cons (λ p. p) piece pieces)) ∙ e in
-    goes piece pieces ms held answer new (come pieces) all fits regrouped fed
+come [] ms partial all fits e more =
+    not_more ms all (ap frame_at (sym e ∙ append-nil partial) ∙ more)
+come (piece ∷ pieces) ms partial all fits e more = λ answer new fed.
+    let regrouped : (partial ++ piece) ++ joined pieces ≡ frames_of ms =
+    append_assoc partial piece (joined pieces)
+    ∙ ap (λ (t : List ℕ). partial ++ t) (sym (flat_map-cons (λ p. p) piece pieces)) ∙ e in
+    goes piece pieces ms partial answer new (come pieces) all fits regrouped fed
 
 pub pieces_come : (pieces : List (List ℕ)) (ms : List Message) → AllByRecursion IsSendable ms
     → IsBytes (joined pieces) → joined pieces ≡ frames_of ms → Comes (Reads []) pieces ms

@@ -88,16 +88,16 @@ answer_of (Err f) = Err f
 
 -- feeding a piece may answer this and leave the stream so
 abbrev pub Fed : Stream → List ℕ → Result (List Message) FrameFault → Stream → Type 0
-Fed (Reads held) piece (Ok messages) new =
-    (rest : List ℕ) × Splits (held ++ piece) messages rest
+Fed (Reads partial) piece (Ok messages) new =
+    (rest : List ℕ) × Splits (partial ++ piece) messages rest
     × Stands (frame_at rest) messages rest new
-Fed (Reads held) piece (Err fault.Memory) new = new ≡ Reads held
-Fed (Reads held) piece (Err fault.TooLong) new =
-    (frame_at (held ++ piece) ≡ Bad fault.TooLong) × (new ≡ Over)
-Fed (Reads held) piece (Err fault.Kind) new =
-    (frame_at (held ++ piece) ≡ Bad fault.Kind) × (new ≡ Over)
-Fed (Reads held) piece (Err fault.Field) new =
-    (frame_at (held ++ piece) ≡ Bad fault.Field) × (new ≡ Over)
-Fed (Reads held) piece (Err fault.Failed) new = ⊥
+Fed (Reads partial) piece (Err fault.Memory) new = new ≡ Reads partial
+Fed (Reads partial) piece (Err fault.TooLong) new =
+    (frame_at (partial ++ piece) ≡ Bad fault.TooLong) × (new ≡ Over)
+Fed (Reads partial) piece (Err fault.Kind) new =
+    (frame_at (partial ++ piece) ≡ Bad fault.Kind) × (new ≡ Over)
+Fed (Reads partial) piece (Err fault.Field) new =
+    (frame_at (partial ++ piece) ≡ Bad fault.Field) × (new ≡ Over)
+Fed (Reads partial) piece (Err fault.Failed) new = ⊥
 Fed (Faulty f) piece answer new = (answer ≡ Err f) × (new ≡ Over)
 Fed Over piece answer new = (answer ≡ Err fault.Failed) × (new ≡ Over)

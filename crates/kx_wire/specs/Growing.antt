@@ -30,4 +30,4 @@ MayTakeFront bytes = MayTake (frame_at bytes) (drop 4 bytes)
 -- none are held, to read it or to hold it back
 abbrev pub MayWant : List ℕ → List ℕ → Type 0
 MayWant [] piece = MayTakeFront piece ⊎ ((frame_at piece ≡ More) × (piece ≢ []))
-MayWant (byte ∷ held) piece = piece ≢ []
+MayWant (byte ∷ partial) piece = piece ≢ []

@@ -13,5 +13,6 @@ pub mod Gives
 pub mod Faults
 pub mod Frames
 pub mod Growing
-pub mod Held
+pub mod Internal
 pub mod Pieces
+pub mod Writing

@@ -107,47 +107,47 @@ fn scan(alloc: Global, bytes: &[u8]) -> Result<Scanned, AllocError>
 }
 
 // Takes the first bytes out, so that what stands behind them is left.
-fn drop_front(held: &mut Vec<u8>, used: usize)
-    requires { used ≤ length held.old.items }
-    ensures { held.new.items ≡ drop used held.old.items }
+fn drop_front(partial: &mut Vec<u8>, used: usize)
+    requires { used ≤ length partial.old.items }
+    ensures { partial.new.items ≡ drop used partial.old.items }
 {
-    let left = held.len() - used;
-    held.copy_within(used.., 0);
-    held.truncate(left);
+    let left = partial.len() - used;
+    partial.copy_within(used.., 0);
+    partial.truncate(left);
 }
 
 // Takes a piece that isn't empty: what is held is then the rest behind the messages, and nothing
 // where a fault stands there. A piece behind nothing is read where it stands, and only its rest is
 // copied, if it may go on.
-fn take_piece(held: &mut Vec<u8>, piece: &[u8]) -> Result<Scanned, AllocError>
+fn take_piece(partial: &mut Vec<u8>, piece: &[u8]) -> Result<Scanned, AllocError>
     requires { piece.now ≢ [] }
-    ensures splits { IfOk result (λ s. Splits (held.old.items ++ piece.now) s.messages.items
-        (drop s.used (held.old.items ++ piece.now))) }
+    ensures splits { IfOk result (λ s. Splits (partial.old.items ++ piece.now) s.messages.items
+        (drop s.used (partial.old.items ++ piece.now))) }
     ensures ends { IfOk result (λ s.
-        Ends s.fault (frame_at (drop s.used (held.old.items ++ piece.now)))) }
+        Ends s.fault (frame_at (drop s.used (partial.old.items ++ piece.now)))) }
     ensures rest { IfOk result (λ s. s.fault ≡ None
-        → held.new.items ≡ drop s.used (held.old.items ++ piece.now)) }
-    ensures err { OnErr result (held.new.items ≡ held.old.items) }
-    ensures memory { OnErr result (MayWant held.old.items piece.now) }
+        → partial.new.items ≡ drop s.used (partial.old.items ++ piece.now)) }
+    ensures err { OnErr result (partial.new.items ≡ partial.old.items) }
+    ensures memory { OnErr result (MayWant partial.old.items piece.now) }
 {
-    let alloc = *held.allocator();
-    if held.is_empty() {
+    let alloc = *partial.allocator();
+    if partial.is_empty() {
         let found = scan(alloc, piece)?;
         if found.fault.is_none() {
-            held.extend_from_slice(&piece[found.used..])?;
+            partial.extend_from_slice(&piece[found.used..])?;
         }
         return Ok(found);
     }
-    let before = held.len();
-    held.extend_from_slice(piece)?;
-    let Ok(found) = scan(alloc, held) else {
-        held.truncate(before);
+    let before = partial.len();
+    partial.extend_from_slice(piece)?;
+    let Ok(found) = scan(alloc, partial) else {
+        partial.truncate(before);
         return Err(AllocError);
     };
     if found.fault.is_some() {
-        *held = Vec::new(alloc);
+        *partial = Vec::new(alloc);
     } else {
-        drop_front(held, found.used);
+        drop_front(partial, found.used);
     }
     Ok(found)
 }
@@ -162,7 +162,7 @@ enum State {
 /// A reader of a stream of frames, which holds back what has come of the next frame.
 #[derive(Drop)]
 pub struct Frames {
-    held: Vec<u8>,
+    partial: Vec<u8>,
     state: State,
 }
 
@@ -171,11 +171,11 @@ impl Model for Frames {
 
     ghost Value = { Stream };
 
-    ghost use Rattle.kx_wire.specs.Held.{stream_of, HoldsLess};
+    ghost use Rattle.kx_wire.specs.Internal.StreamState.{stream_of, HoldsLess};
 
-    ghost view = { λ frames. stream_of frames.state frames.held.items };
+    ghost view = { λ frames. stream_of frames.state frames.partial.items };
 
-    ghost invariant = { λ frames. HoldsLess frames.state frames.held.items };
+    ghost invariant = { λ frames. HoldsLess frames.state frames.partial.items };
 }
 
 impl Frames {
@@ -184,7 +184,7 @@ impl Frames {
         ensures { result ≡ Reads [] }
     {
         Frames {
-            held: Vec::new(alloc),
+            partial: Vec::new(alloc),
             state: State::Reading,
         }
     }
@@ -202,10 +202,10 @@ impl Frames {
     /// to read the fields of a message with bytes or a list, and to hold back less than a frame.
     pub fn feed(&mut self, piece: &[u8]) -> Result<Vec<Message>, FrameFault>
         ensures fed { Fed self.old piece.now (answer_of result) self.new }
-        ensures nothing { (held : List ℕ) → self.old ≡ Reads held → piece.now ≡ []
+        ensures nothing { (partial : List ℕ) → self.old ≡ Reads partial → piece.now ≡ []
             → (answer_of result ≡ Ok []) × (self.new ≡ self.old) }
-        ensures memory { (held : List ℕ) → self.old ≡ Reads held
-            → answer_of result ≡ Err FrameFault.Memory → MayWant held piece.now }
+        ensures memory { (partial : List ℕ) → self.old ≡ Reads partial
+            → answer_of result ≡ Err FrameFault.Memory → MayWant partial piece.now }
     {
         match self.state {
             State::Failed => Err(FrameFault::Failed),
@@ -213,9 +213,9 @@ impl Frames {
                 self.state = State::Failed;
                 Err(fault)
             }
-            State::Reading if piece.is_empty() => Ok(Vec::new(*self.held.allocator())),
+            State::Reading if piece.is_empty() => Ok(Vec::new(*self.partial.allocator())),
             State::Reading => {
-                let Ok(found) = take_piece(&mut self.held, piece) else {
+                let Ok(found) = take_piece(&mut self.partial, piece) else {
                     return Err(FrameFault::Memory);
                 };
                 let Scanned {
@@ -258,6 +258,6 @@ pub fn streams_come_as_their_messages()
 
 /// A law: what is less than a frame is no longer than the longest frame, so no more is held back.
 pub fn less_than_a_frame_is_held()
-    ensures { (held : List ℕ) → IsBytes held → frame_at held ≡ More
-        → length held ≤ 4 + longest_frame }
+    ensures { (partial : List ℕ) → IsBytes partial → frame_at partial ≡ More
+        → length partial ≤ 4 + longest_frame }
 {}

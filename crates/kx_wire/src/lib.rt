@@ -16,7 +16,7 @@ pub use kx_message::{
     Timeout, TxnId, TxnOffsetCommit, ValueFault, WriteMarker, code, message, outcome, payload,
     replies, requests,
 };
-pub use writing::put_frame;
+pub use writing::{put_frame, put_held, put_name};
 
 mod fault;
 mod fields;

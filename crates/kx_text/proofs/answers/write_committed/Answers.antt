@@ -6,7 +6,7 @@ use Rattle.std.proofs.lemmas.Int.{to_z-of_z}
 use Rattle.std.specs.Io.KnownBytes.{Appends}
 use Rattle.kx_batch.specs.Record.{Record}
 use Rattle.kx_model.specs.Reading.{Shown}
-use Rattle.kx_reader.specs.Left.{pairs}
+use Rattle.kx_reader.specs.Pairs.{pairs}
 use Rattle.kx_text.specs.World.{value_line}
 use Rattle.kx_text.proofs.Pairs.{pair_line, pair_lines, same_lines}
 use Rattle.kx_text.proofs.Writes.{IsBegun, appends_nothing, begins, ends, goes_on}

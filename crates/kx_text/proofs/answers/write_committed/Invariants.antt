@@ -1,4 +1,4 @@
-use Rattle.kx_reader.specs.Left.{pairs}
+use Rattle.kx_reader.specs.Pairs.{pairs}
 use Rattle.kx_text.proofs.Pairs.{pair_lines}
 use Rattle.kx_text.proofs.Writes.{IsBegun}
 use Rattle.kx_text.proofs.answers.write_committed.Given as goal

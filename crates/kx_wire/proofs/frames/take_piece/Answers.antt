@@ -11,12 +11,12 @@ returns-then-is_empty-clause-splits c = grind (arith, common_steps)
 
 pub returns-then-is_empty-clause-rest : goal.returns-then-is_empty-clause-rest
 returns-then-is_empty-clause-rest c none =
-    let nothing : c.args.held.now.items ≡ [] = grind (arith, common_steps) in
+    let nothing : c.args.partial.now.items ≡ [] = grind (arith, common_steps) in
     elim c.if-is_none.branch [
       | then-is_none+in_ok-extend_from_slice w ↦
-          ap (λ (v : Vec ℕ). v.items) w.held-is
+          ap (λ (v : Vec ℕ). v.items) w.partial-is
           ∙ w.in_ok-extend_from_slice.ensures.items
-          ∙ only_rest c.args.held.now.items c.args.piece.now c.in_ok-found.found.used nothing
+          ∙ only_rest c.args.partial.now.items c.args.piece.now c.in_ok-found.found.used nothing
       | else-is_none w ↦ absurd (none_some c.in_ok-found.found.fault none w.if-is_none.ensures)
     ]
 

@@ -1,97 +1,78 @@
-use Rattle.std.proofs.Common.{◌≡◌, ◌∙◌, ◌++◌, ◌∷◌, [], ℕ, List, Some, ap, false, sym, cond}
-use Rattle.std.specs.Prelude.{bytes_eq}
-use Rattle.std.specs.List.{list_any}
+use Rattle.std.proofs.Common.{◌≡◌, ◌∙◌, ◌++◌, ◌∷◌, [], List, Result, Ok, Err, ap, sym, cond}
+use Rattle.std.proofs.Common.{None, Some, ℕ, subst, OnErr}
+use Rattle.std.specs.Prelude.{bytes_eq, is_some}
 use Rattle.std.specs.Map.{lookup}
-use Rattle.std.specs.Option.{option_copied}
-use Rattle.kx_model.specs.Markers.{Answered, same_answered}
-use Rattle.kx_coord.specs.Noted.{answered, is_marker}
+use Rattle.std.specs.Option.{option_copied_mut}
+use Rattle.kx_coord.specs.Noted.{KeptOnce}
 use Rattle.kx_coord.specs.declared.noted.AnsweredMarker.{AnsweredMarker}
-use Rattle.kx_coord.proofs.NotedCounts.{noted_once}
-use Rattle.kx_coord.proofs.NotedTables.{is_at_items, items_at, looked_up, noted_more}
+use Rattle.kx_coord.proofs.NotedCounts.{shows_noted}
+use Rattle.kx_coord.proofs.NotedTables.{items_at, shown, shown_set}
 use Rattle.kx_coord.proofs.noted.NotedMarkers.note.Goals as goal
+
+on_err : {A E : Type 0} (r : Result A E) (P : Type 0) → P → OnErr r P
+on_err (Ok x) P p = tt
+on_err (Err e) P p = p
+
+pub invariant_of-self : goal.invariant_of-self
+invariant_of-self c =
+    let es = c.self.inside.by_txn.entries in
+    let through = c.get_mut.follows.holds c.push.new.self in
+    let found : lookup (bytes_eq c.args.txn) es ≡ Some c.in-Some.markers.now =
+    sym c.get_mut.ensures.value ∙ ap option_copied_mut c.in-Some.is in
+    let same = ap (shown (λ v. v.items)) through.0
+    ∙ shown_set (λ v. v.items) (bytes_eq c.args.txn) es c.in-Some.markers.now c.push.new.self found
+    c.in_err-push.ensures.items in
+    (through.4, subst KeptOnce (sym same) c.self.invariant.1)
+
+pub returns-in_err-push-clause-err : goal.returns-in_err-push-clause-err
+returns-in_err-push-clause-err c =
+    let es = c.self.inside.by_txn.entries in
+    let through = c.get_mut.follows.holds c.push.new.self in
+    let found : lookup (bytes_eq c.args.txn) es ≡ Some c.in-Some.markers.now =
+    sym c.get_mut.ensures.value ∙ ap option_copied_mut c.in-Some.is in
+    let same = ap (shown (λ v. v.items)) through.0
+    ∙ shown_set (λ v. v.items) (bytes_eq c.args.txn) es c.in-Some.markers.now c.push.new.self found
+    c.in_err-push.ensures.items in
+    on_err c.from_residual.result _ (same ∙ c.self.view_is)
+
+pub returns-in-Some-clause-ok : goal.returns-in-Some-clause-ok
+returns-in-Some-clause-ok c =
+    let marker : AnsweredMarker = record { held = c.args.held.now; partition = c.args.partition } in
+    let es = c.self.inside.by_txn.entries in
+    let through = c.get_mut.follows.holds c.push.new.self in
+    let found : lookup (bytes_eq c.args.txn) es ≡ Some c.in-Some.markers.now =
+    sym c.get_mut.ensures.value ∙ ap option_copied_mut c.in-Some.is in
+    let is : c.push.new.self.items
+    ≡ items_at (λ v. v.items) (lookup (bytes_eq c.args.txn) es) ++ marker ∷ [] =
+    c.in_ok-push.ensures.items
+    ∙ ap (λ o. items_at (λ v. v.items) o ++ marker ∷ []) (sym found) in
+    shows_noted (λ v. v.items) c.args.txn marker es
+    (c.get_mut.follows.lender c.push.new.self).entries c.push.new.self c.args.self.now
+    c.self.invariant.0 through.4 (through.3 (ap is_some found)).0 is c.self.invariant.1
+    c.self.view_is (sym c.contains.ensures ∙ c.if-contains.false)
+
+pub invariant_of-self-in-Some : goal.invariant_of-self-in-Some
+invariant_of-self-in-Some c =
+    ((c.get_mut.follows.holds c.push.new.self).4, (returns-in-Some-clause-ok c).once)
 
 pub returns-clause-ok : goal.returns-clause-ok
 returns-clause-ok c =
-    let a = answered c.args.txn c.args.held.now c.args.partition in
     let marker : AnsweredMarker = record { held = c.args.held.now; partition = c.args.partition } in
-    let old = c.args.self.now in
     let es = c.self.inside.by_txn.entries in
-    let same : c.match-get.self-inside ≡ c.self.inside = elim c.match-get.branch [
-      | goal.in-Some+in_ok-markers-in-Some w ↦ w.self-inside-is
-      | goal.in-None+in_ok-markers-in-None w ↦ w.self-inside-is
-    ] in
-    let is : c.match-get.markers.items
+    let none : lookup (bytes_eq c.args.txn) es ≡ None =
+    sym c.get_mut.ensures.value ∙ ap option_copied_mut c.in_default.is in
+    let is : c.in_ok-markers.markers.items
     ≡ items_at (λ v. v.items) (lookup (bytes_eq c.args.txn) es) ++ marker ∷ [] =
-    elim c.match-get.branch [
-      | goal.in-Some+in_ok-markers-in-Some w ↦
-          ap (λ v. v.items) w.markers-is ∙ w.in_ok-markers-in-Some.ensures
-          ∙ ap (λ l. l ++ marker ∷ []) (w.as_slice.ensures.value
-          ∙ ap (items_at (λ v. v.items)) (sym (ap option_copied w.in-Some.is)
-          ∙ c.get.ensures.value))
-      | goal.in-None+in_ok-markers-in-None w ↦
-          ap (λ v. v.items) w.markers-is ∙ w.in_ok-markers-in-None.ensures
-          ∙ ap (λ l. l ++ marker ∷ []) (ap (items_at (λ v. v.items))
-          (sym (ap option_copied w.in-None.is) ∙ c.get.ensures.value))
-    ] in
-    let found : (q : List ℕ) → lookup (bytes_eq q) c.insert.new.self.entries
-    ≡ cond (bytes_eq c.args.txn q) (Some c.match-get.markers) (lookup (bytes_eq q) es) =
+    c.in_ok-markers.ensures.items
+    ∙ ap (λ o. items_at (λ v. v.items) o ++ marker ∷ []) (sym none) in
+    let updated : (q : List ℕ) → lookup (bytes_eq q) c.insert.new.self.entries
+    ≡ cond (bytes_eq c.args.txn q) (Some c.in_ok-markers.markers) (lookup (bytes_eq q) es) =
     λ q. c.in_ok-insert.ensures.updates.0 q
-    ∙ (λ i. cond (bytes_eq c.args.txn q) (Some c.match-get.markers)
-    (lookup (bytes_eq q) (same i).by_txn.entries)) in
-    let apart : list_any (is_marker c.args.held.now c.args.partition)
-    (items_at (λ v. v.items) (lookup (bytes_eq c.args.txn) es)) ≡ false =
-    sym (is_at_items (λ v. v.items) a (lookup (bytes_eq c.args.txn) es))
-    ∙ sym (looked_up (λ v. v.items) a es c.self.invariant.0)
-    ∙ ap (list_any (same_answered a)) c.self.view_is
-    ∙ sym c.contains.ensures ∙ c.if-contains.false in
-    let fresh : cond (list_any (same_answered a) old) old (old ++ a ∷ []) ≡ old ++ a ∷ [] =
-    ap (λ x. cond x old (old ++ a ∷ [])) (sym c.contains.ensures ∙ c.if-contains.false) in
-    record {
-      same = λ b. noted_more (λ v. v.items) c.args.txn marker es c.insert.new.self.entries
-          c.match-get.markers c.self.invariant.0 c.in_ok-insert.ensures.unique found is b
-          ∙ ap (λ (s : List Answered). list_any (same_answered b) (s ++ a ∷ [])) c.self.view_is
-          ∙ ap (list_any (same_answered b)) (sym fresh);
-      once = noted_once (λ v. v.items) c.args.txn marker es c.insert.new.self.entries
-          c.match-get.markers c.self.invariant.0 c.in_ok-insert.ensures.unique found is apart
-          c.self.invariant.1;
-    }
+    ∙ ap (λ m. cond (bytes_eq c.args.txn q) (Some c.in_ok-markers.markers)
+    (lookup (bytes_eq q) m.entries)) c.get_mut.follows.holds-at-none in
+    shows_noted (λ v. v.items) c.args.txn marker es c.insert.new.self.entries
+    c.in_ok-markers.markers c.args.self.now c.self.invariant.0 c.in_ok-insert.ensures.unique updated
+    is c.self.invariant.1 c.self.view_is (sym c.contains.ensures ∙ c.if-contains.false)
 
 pub invariant_of-self-2 : goal.invariant_of-self-2
-invariant_of-self-2 c =
-    let a = answered c.args.txn c.args.held.now c.args.partition in
-    let marker : AnsweredMarker = record { held = c.args.held.now; partition = c.args.partition } in
-    let old = c.args.self.now in
-    let es = c.self.inside.by_txn.entries in
-    let same : c.match-get.self-inside ≡ c.self.inside = elim c.match-get.branch [
-      | goal.in-Some+in_ok-markers-in-Some w ↦ w.self-inside-is
-      | goal.in-None+in_ok-markers-in-None w ↦ w.self-inside-is
-    ] in
-    let is : c.match-get.markers.items
-    ≡ items_at (λ v. v.items) (lookup (bytes_eq c.args.txn) es) ++ marker ∷ [] =
-    elim c.match-get.branch [
-      | goal.in-Some+in_ok-markers-in-Some w ↦
-          ap (λ v. v.items) w.markers-is ∙ w.in_ok-markers-in-Some.ensures
-          ∙ ap (λ l. l ++ marker ∷ []) (w.as_slice.ensures.value
-          ∙ ap (items_at (λ v. v.items)) (sym (ap option_copied w.in-Some.is)
-          ∙ c.get.ensures.value))
-      | goal.in-None+in_ok-markers-in-None w ↦
-          ap (λ v. v.items) w.markers-is ∙ w.in_ok-markers-in-None.ensures
-          ∙ ap (λ l. l ++ marker ∷ []) (ap (items_at (λ v. v.items))
-          (sym (ap option_copied w.in-None.is) ∙ c.get.ensures.value))
-    ] in
-    let found : (q : List ℕ) → lookup (bytes_eq q) c.insert.new.self.entries
-    ≡ cond (bytes_eq c.args.txn q) (Some c.match-get.markers) (lookup (bytes_eq q) es) =
-    λ q. c.in_ok-insert.ensures.updates.0 q
-    ∙ (λ i. cond (bytes_eq c.args.txn q) (Some c.match-get.markers)
-    (lookup (bytes_eq q) (same i).by_txn.entries)) in
-    let apart : list_any (is_marker c.args.held.now c.args.partition)
-    (items_at (λ v. v.items) (lookup (bytes_eq c.args.txn) es)) ≡ false =
-    sym (is_at_items (λ v. v.items) a (lookup (bytes_eq c.args.txn) es))
-    ∙ sym (looked_up (λ v. v.items) a es c.self.invariant.0)
-    ∙ ap (list_any (same_answered a)) c.self.view_is
-    ∙ sym c.contains.ensures ∙ c.if-contains.false in (
-      c.in_ok-insert.ensures.unique,
-      noted_once (λ v. v.items) c.args.txn marker es c.insert.new.self.entries
-          c.match-get.markers c.self.invariant.0 c.in_ok-insert.ensures.unique found is apart
-          c.self.invariant.1,
-    )
+invariant_of-self-2 c = (c.in_ok-insert.ensures.unique, (returns-clause-ok c).once)

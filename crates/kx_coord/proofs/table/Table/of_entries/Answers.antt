@@ -4,7 +4,7 @@ use Rattle.std.proofs.lemmas.List.{map-append}
 use Rattle.kx_model.specs.Coordinator.{Note}
 use Rattle.kx_txnlog.specs.Entry.{note_of}
 use Rattle.kx_txnlog.specs.declared.entry.Entry.{Entry}
-use Rattle.kx_coord.specs.Follows.{Follows}
+use Rattle.kx_coord.specs.Internal.Follows.{Follows}
 use Rattle.kx_coord.proofs.HandedOut.{one_taken}
 use Rattle.kx_coord.proofs.table.Table.of_entries.Goals as goal
 

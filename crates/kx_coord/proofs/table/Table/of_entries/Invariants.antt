@@ -1,6 +1,6 @@
 use Rattle.std.proofs.Common.{map, take}
 use Rattle.kx_txnlog.specs.Entry.{note_of}
-use Rattle.kx_coord.specs.Follows.{Follows}
+use Rattle.kx_coord.specs.Internal.Follows.{Follows}
 use Rattle.kx_coord.proofs.table.Table.of_entries.Given as goal
 
 -- the entries so far

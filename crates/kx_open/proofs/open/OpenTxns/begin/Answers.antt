@@ -5,7 +5,7 @@ use Rattle.std.specs.List.{insert}
 use Rattle.std.proofs.lemmas.Bool.Decides.{nat_tests}
 use Rattle.std.proofs.lemmas.Int.{to_z-of_z}
 use Rattle.kx_model.specs.Produce.{open_limit}
-use Rattle.kx_open.specs.Open.{Held, IsOpenList, IsPlaceBehind, begun, epoch_in}
+use Rattle.kx_open.specs.Open.{OpenState, IsOpenList, IsPlaceBehind, begun, epoch_in}
 use Rattle.kx_open.specs.declared.open.OpenTxn.{OpenTxn}
 use Rattle.kx_open.proofs.Order.{begun_at_place, begun_is_open_list}
 use Rattle.kx_open.proofs.open.OpenTxns.begin.Goals as goal
@@ -13,7 +13,7 @@ use Rattle.kx_open.proofs.open.OpenTxns.begin.Goals as goal
 -- it isn't full
 room : (c : goal.In_ok-insert) → length c.args.self.now.txns < open_limit
 room c =
-    let seen = ap (λ (held : Held). held.txns) c.self.view_is in
+    let seen = ap (λ (kept : OpenState). kept.txns) c.self.view_is in
     let within : length c.args.self.now.txns ≤ open_limit =
     subst (λ (l : List OpenTxn). length l ≤ open_limit) seen c.self.invariant.within in
     let other : (length c.args.self.now.txns == open_limit) ≡ false =
@@ -33,7 +33,7 @@ invariant_of-self-2 c =
     let txn = txn_at c (passed c) in
     let txns = c.self.inside.txns.items in
     let place = c.place_behind-place.result in
-    let seen : txns ≡ c.args.self.now.txns = ap (λ (held : Held). held.txns) c.self.view_is in
+    let seen : txns ≡ c.args.self.now.txns = ap (λ (kept : OpenState). kept.txns) c.self.view_is in
     let between : IsPlaceBehind txn.first txns place =
     subst (λ (l : List OpenTxn). IsPlaceBehind txn.first l place) (sym seen)
     c.place_behind-place.ensures.between in
@@ -51,7 +51,7 @@ returns c =
     let txn = txn_at c (passed c) in
     let txns = c.args.self.now.txns in
     let place = c.place_behind-place.result in
-    let seen = ap (λ (held : Held). held.txns) c.self.view_is in
+    let seen = ap (λ (kept : OpenState). kept.txns) c.self.view_is in
     let at : c.insert.new.self.items ≡ insert txns place txn =
     c.in_ok-insert.ensures.items ∙ ap (λ (l : List OpenTxn). insert l place txn) seen in
     let fits : FitsSigned w64 c.args.offset = search rules in

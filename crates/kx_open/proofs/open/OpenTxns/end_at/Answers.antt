@@ -18,4 +18,4 @@ returns-clause-rest c =
     let left : c.retain.new.self.items ≡ ended c.args.id c.self.inside.txns.items =
     filter_same _ (λ (t : OpenTxn). not (is_txn_of c.args.id t)) _
     (λ x b f' k. search (rules, tests)) _ _ c.retain.ensures.filtered in
-    left ∙ ap (λ (l : List OpenTxn). ended c.args.id l) (ap (λ held. held.txns) c.self.view_is)
+    left ∙ ap (λ (l : List OpenTxn). ended c.args.id l) (ap (λ kept. kept.txns) c.self.view_is)
