@@ -37,6 +37,7 @@ pub(crate) fn refused_first(row: &Row, held: &Held) -> Option<ErrorCode>
     if !is_own && !is_previous {
         return Some(ErrorCode::InvalidProducerIdMapping);
     }
+    // The numbers, whose range says that every other epoch is below the spent one.
     let is_spent = held.epoch.get() == Epoch::SPENT.get();
     if is_spent || (is_own && row.epoch < held.epoch) {
         return Some(ErrorCode::InvalidProducerEpoch);
