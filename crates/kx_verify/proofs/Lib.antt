@@ -1,0 +1,5 @@
+pub mod Asking
+pub mod Messages
+pub mod Pairs
+pub mod Same
+pub mod Tables
