@@ -33,8 +33,8 @@ fn told_frames(alloc: Global, messages: &[Message]) -> Result<String, StepFault>
     Ok(told_bytes(alloc, frames.as_slice())?)
 }
 
-// The message of these bytes, which are one frame.
-fn message_of(alloc: Global, bytes: &[u8]) -> Result<Message, StepFault> {
+/// The message of these bytes, which are one frame.
+pub fn message_of(alloc: Global, bytes: &[u8]) -> Result<Message, StepFault> {
     let Ok(mut messages) = Frames::new(alloc).feed(bytes) else {
         return Err(StepFault::Unknown);
     };

@@ -3,7 +3,7 @@
 #![tactic(auto)]
 
 pub use batches::BatchCases;
-pub use frames::FrameCases;
+pub use frames::{FrameCases, message_of};
 pub use numbers::NumberCases;
 pub use values::ValueCases;
 

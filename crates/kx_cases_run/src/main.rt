@@ -5,6 +5,7 @@
 
 use kx_cases::{Tally, try_cases};
 use kx_cases_formats::{BatchCases, FrameCases, NumberCases, ValueCases};
+use kx_cases_groups::{GuardCases, OffsetCases};
 use kx_cases_logs::{AbortedCases, EntryCases, LogCases, OpenCases, ProducerCases, TxnLogCases};
 use kx_cases_nodes::{CoordinatorNode, Dumps, PartitionNode, Replies, Scripts, try_pair};
 use std::process::ExitCode;
@@ -31,6 +32,15 @@ fn try_logs(rt: &(impl Print + AllocGlobal), front: &str, text: &str) -> io::Res
         "logs" => try_cases::<LogCases>(rt, text),
         "entries" => try_cases::<EntryCases>(rt, text),
         "txnlogs" => try_cases::<TxnLogCases>(rt, text),
+        _ => try_groups(rt, front, text),
+    }
+}
+
+// Tries cases of groups and of parked requests, or of what stands above them.
+fn try_groups(rt: &(impl Print + AllocGlobal), front: &str, text: &str) -> io::Result<Tally> {
+    match front {
+        "offsets" => try_cases::<OffsetCases>(rt, text),
+        "guard" => try_cases::<GuardCases>(rt, text),
         _ => try_nodes(rt, front, text),
     }
 }
