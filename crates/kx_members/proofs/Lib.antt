@@ -1,0 +1,5 @@
+pub mod Facts
+pub mod Leaving
+pub mod Noting
+pub mod Standings
+pub mod Tables

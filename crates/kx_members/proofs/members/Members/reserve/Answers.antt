@@ -1,0 +1,42 @@
+use Rattle.std.proofs.Common.{◌≡◌, ◌∙◌, Some, None, ap, sym, subst, cond, Result, Ok, Err, OnErr, OnOk}
+use Rattle.std.specs.Prelude.{bytes_eq, is_some}
+use Rattle.std.specs.Map.{lookup}
+use Rattle.std.specs.Option.{option_copied_mut}
+use Rattle.kx_members.specs.Table.{GroupState, Table, standing_in}
+use Rattle.kx_members.proofs.Tables.{IsSet, known_state, new_state, stays}
+use Rattle.kx_members.proofs.members.Members.reserve.Goals as goal
+
+either_way : {A E P Q X : Type 0} (r : Result A E) → OnOk r P → OnErr r Q → (P → X) → (Q → X) → X
+either_way (Ok x) p q f g = f p
+either_way (Err e) p q f g = g q
+
+pub returns-in-Some-clause-same : goal.returns-in-Some-clause-same
+returns-in-Some-clause-same c =
+    let es = c.self.inside.groups.entries in
+    let found : lookup (bytes_eq c.args.group) es ≡ Some c.in-Some.known.now =
+    sym c.get_mut.ensures.value ∙ ap option_copied_mut c.in-Some.is in
+    let here = known_state es c.args.group c.args.self.now c.in-Some.known.now c.self.view_is
+    found in
+    let through = c.get_mut.follows.holds c.reserve.new.self in
+    stays c.args.self.now (c.get_mut.follows.lender c.reserve.new.self).entries c.args.group
+    c.reserve.new.self
+    (subst (λ (t : Table). IsSet t (c.get_mut.follows.lender c.reserve.new.self).entries
+    c.args.group c.reserve.new.self) c.self.view_is (through.3 (ap is_some found)).0)
+    (c.reserve.ensures.same ∙ ap (λ (s : GroupState). s.standing) (sym here))
+
+pub returns-clause-same : goal.returns-clause-same
+returns-clause-same c =
+    let es = c.self.inside.groups.entries in
+    let none : lookup (bytes_eq c.args.group) es ≡ None =
+    sym c.get_mut.ensures.value ∙ ap option_copied_mut c.in_default.is in
+    let before = new_state es c.args.group c.args.self.now c.self.view_is none in
+    either_way c.insert.result c.insert.ensures.updates c.insert.ensures.err
+    (λ updates. stays c.args.self.now c.insert.new.self.entries c.args.group c.reserve-2.new.self
+    (λ q. updates.0 q ∙ ap (λ m. cond (bytes_eq c.args.group q) (Some c.reserve-2.new.self)
+    (lookup (bytes_eq q) m.entries)) c.get_mut.follows.holds-at-none
+    ∙ ap (λ (t : Table). cond (bytes_eq c.args.group q) (Some c.reserve-2.new.self)
+    (lookup (bytes_eq q) t)) c.self.view_is)
+    (c.in_ok-reserve.ensures.same ∙ c.new-fresh.ensures
+    ∙ ap (λ (s : GroupState). s.standing) (sym before)))
+    (λ unchanged. λ other. ap (λ (t : Table). standing_in t other)
+    (unchanged ∙ ap (λ m. m.entries) c.get_mut.follows.holds-at-none ∙ c.self.view_is))
