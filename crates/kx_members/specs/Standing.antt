@@ -1,5 +1,5 @@
--- What is kept of consumer groups (Kafka's protocol guide, "JoinGroup", "LeaveGroup"), what one more
--- record of a group's membership changes, and what becomes of a request by it.
+-- What is kept of consumer groups (Kafka's protocol guide, "JoinGroup", "LeaveGroup"), what one
+-- more record of a group's membership changes, and what becomes of a request by it.
 use Rattle.std.specs.Prelude.{ℕ, ◌+◌, Bool, not, List, [], ◌∷◌, ◌++◌, filter, ◌==◌, bytes_eq}
 use Rattle.std.specs.Prelude.{if◌then◌else◌, length, nat_le, nat_lt}
 use Rattle.std.specs.List.{list_any}
