@@ -4,3 +4,6 @@ pub mod Settling
 pub mod Growing
 pub mod Ending
 pub mod Reading
+pub mod Waiters
+pub mod OneByOne
+pub mod Keeping

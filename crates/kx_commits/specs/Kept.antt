@@ -2,15 +2,13 @@
 -- of one more transaction change.
 use Rattle.std.specs.Prelude.{◌≡◌, ℕ, ℤ, ◌+◌, ◌-◌, Bool, ◌&&◌, List, [], ◌∷◌, ◌++◌, filter, fold}
 use Rattle.std.specs.Prelude.{Option, Some, None, nat_lt, ◌==◌, bytes_eq, if◌then◌else◌}
+use Rattle.kx_commits.specs.declared.said.SaidOffset.{SaidOffset}
 use Rattle.kx_message.specs.declared.outcome.Outcome.{Outcome}
 use Rattle.kx_message.specs.declared.outcome.Outcome.TheVariants.{Commit, Abort}
 
--- an offset that a batch says, of a group and an input partition, and the log offset of the batch
-pub record Said : Type 0 where
-  pub group : List ℕ
-  pub partition : ℕ
-  pub offset : ℤ
-  pub at : ℕ
+-- an offset that a batch says, of a group and an input partition, with the log offset of the batch
+abbrev pub Said : Type 0
+Said = SaidOffset
 
 -- what is kept of a group and an input partition: the committed offset, with the log offset of the
 -- batch that says it, and how many offsets of open transactions there are
