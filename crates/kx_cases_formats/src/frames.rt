@@ -2,6 +2,9 @@
 //! tells the frames of the messages that come of it, or the fault; `singly BYTES` gives each byte
 //! by itself. `message FRAME` tells the one message of a frame, `fields FRAME` its fields,
 //! `receiver FRAME` where it goes. `random SEED COUNT BYTES` feeds random pieces of the bytes.
+ghost use Rattle.std.specs.Prelude.{◌∷◌, [], IfOk, Ok};
+ghost use Rattle.kx_wire.specs.Frames.{Fed, Reads, Stream};
+
 use kx_cases::{Runs, StepFault, Subject, Texts, told_bytes, told_name, told_value, value};
 use kx_message::{Caller, EndReply, Join, Message};
 use kx_wire::{FrameFault, Frames, put_frame};
@@ -34,7 +37,10 @@ fn told_frames(alloc: Global, messages: &[Message]) -> Result<String, StepFault>
 }
 
 /// The message of these bytes, which are one frame.
-pub fn message_of(alloc: Global, bytes: &[u8]) -> Result<Message, StepFault> {
+pub fn message_of(alloc: Global, bytes: &[u8]) -> Result<Message, StepFault>
+    ensures { IfOk result (λ message.
+        (behind : Stream) × Fed (Reads []) bytes.now (Ok (message ∷ [])) behind) }
+{
     let Ok(mut messages) = Frames::new(alloc).feed(bytes) else {
         return Err(StepFault::Unknown);
     };

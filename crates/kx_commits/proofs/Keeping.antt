@@ -1,9 +1,9 @@
 -- Each offset that waits has its slot, and what a transaction's batch and its end change.
 use Rattle.std.proofs.Common.{◌≡◌, ◌∙◌, ◌++◌, ℕ, List, [], ◌∷◌, Bool, true, false, Some, All, cond}
-use Rattle.std.proofs.Common.{refl, sym, ap, subst, nat_eq, arith}
-use Rattle.std.specs.Prelude.{◌==◌, is_some, unwrap_or}
+use Rattle.std.proofs.Common.{refl, sym, ap, subst, nat_eq}
+use Rattle.std.specs.Prelude.{is_some, unwrap_or}
 use Rattle.std.specs.Map.{lookup}
-use Rattle.std.proofs.lemmas.Bool.Decides.{nat_tests}
+use Rattle.std.proofs.lemmas.Cmp.{nat_eq_equiv}
 use Rattle.std.proofs.lemmas.List.Elements.{All-nil, All-push, All-weaker}
 use Rattle.kx_message.specs.declared.outcome.Outcome.{Outcome}
 use Rattle.kx_commits.specs.Kept.{Said, SameKept, empty_slot, ended, is_for, noted}
@@ -11,15 +11,6 @@ use Rattle.kx_commits.specs.Kept.{settled_all, waits}
 use Rattle.kx_commits.specs.Table.{HasSlots, Key, SlotTable, Table, WaitingTable, has_slot}
 use Rattle.kx_commits.specs.Table.{kept_of, key_of, same_key, slot_in, waiting_in}
 use Rattle.kx_commits.proofs.OneByOne.{key_decides}
-
-swap : (m n : ℕ) → (m == n) ≡ (n == m)
-swap m n = at (m == n) (n == m) refl refl
-  where
-    at : (a b : Bool) → (m == n) ≡ a → (n == m) ≡ b → a ≡ b
-    at true true e f = refl
-    at true false e f = absurd (grind (arith, nat_tests))
-    at false true e f = absurd (grind (arith, nat_tests))
-    at false false e f = refl
 
 -- no slot goes, and the offsets stay
 pub same_slots : (old new : Table)
@@ -97,7 +88,7 @@ module _ (old new : Table) (id : ℕ) (said : Said)
     slots = λ group partition. slot (group, partition);
     waiting = λ other. more other
         ∙ ap (λ b. cond b ((waiting_in old.waiting other).said ++ said ∷ [])
-        (waiting_in old.waiting other).said) (swap id other);
+        (waiting_in old.waiting other).said) (nat_eq_equiv.symm id other);
   }
     where
       slot : (key : Key) → slot_in new.slots key
@@ -123,7 +114,7 @@ is_ended old new id outcome all is slots gone = record {
       ∙ ap (λ (l : List Said). settled_all outcome group partition l
       (slot_in old.slots (group, partition))) is;
   waiting = λ other. gone other
-      ∙ ap (λ b. cond b [] (waiting_in old.waiting other).said) (swap id other);
+      ∙ ap (λ b. cond b [] (waiting_in old.waiting other).said) (nat_eq_equiv.symm id other);
 }
 
 -- only room was made

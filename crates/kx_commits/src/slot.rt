@@ -8,15 +8,15 @@ use std::marker::Model;
 
 /// What is kept of a group and an input partition.
 #[derive(Drop)]
-pub(crate) struct Offsets {
+pub(crate) struct Slot {
     committed: Option<(i64, u64)>,
     pending: u64,
 }
 
-impl Model for Offsets {
-    ghost use Rattle.kx_commits.specs.Kept.{Slot};
+impl Model for Slot {
+    ghost use Rattle.kx_commits.specs.Kept as kept;
 
-    ghost Value = { Slot };
+    ghost Value = { kept.Slot };
 
     ghost view = { λ s. record { committed = s.committed; pending = s.pending } };
 }
@@ -31,12 +31,12 @@ fn later_one(said: SaidOffset, committed: Option<(i64, u64)>) -> (i64, u64)
     }
 }
 
-impl Offsets {
+impl Slot {
     /// Nothing is committed, and nothing pending.
-    pub(crate) fn new() -> Offsets
+    pub(crate) fn new() -> Slot
         ensures { result ≡ empty_slot }
     {
-        Offsets {
+        Slot {
             committed: None,
             pending: 0,
         }

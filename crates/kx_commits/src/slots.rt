@@ -6,7 +6,7 @@ ghost use Rattle.kx_commits.specs.Kept.{empty_slot, settled, settled_all, waits}
 ghost use Rattle.kx_commits.specs.Table.{Key, has_slot, key_of, same_key, slot_in};
 
 use crate::said::SaidOffset;
-use crate::slot::Offsets;
+use crate::slot::Slot;
 use indexmap::IndexMap;
 use kx_message::{GroupId, Outcome, PartitionId};
 use std::alloc::{AllocError, Global};
@@ -15,7 +15,7 @@ use std::marker::Model;
 /// What is kept of each group and input partition, found by both in constant time.
 #[derive(Drop)]
 pub(crate) struct Slots {
-    by_key: IndexMap<(GroupId, PartitionId), Offsets>,
+    by_key: IndexMap<(GroupId, PartitionId), Slot>,
 }
 
 impl Model for Slots {
@@ -81,7 +81,7 @@ impl Slots {
             slot.wait();
             return;
         }
-        let mut slot = Offsets::new();
+        let mut slot = Slot::new();
         slot.wait();
         let _ = self.by_key.insert(key, slot).unwrap();
     }

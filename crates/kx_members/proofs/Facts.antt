@@ -5,7 +5,7 @@ use Rattle.std.proofs.Common.{append-nil}
 use Rattle.std.specs.Prelude.{bytes_eq, count_by, filter_map, if◌then◌else◌}
 use Rattle.std.specs.List.{AllByRecursion, cons_option, list_any}
 use Rattle.std.proofs.Math.Bool.{or-false}
-use Rattle.std.proofs.lemmas.Bool.Decides.{nat_tests}
+use Rattle.std.proofs.lemmas.Cmp.{nat_eq_equiv}
 use Rattle.std.proofs.lemmas.List.Elements.{filter-append, filter_agree, filter_map-append}
 use Rattle.std.proofs.lemmas.List.Folds.{list_any-append}
 use Rattle.std.proofs.lemmas.List.Sums.{sum_by_push}
@@ -16,15 +16,6 @@ use Rattle.kx_members.specs.Follows.{SaysOffset, gone_from}
 use Rattle.kx_members.specs.Standing.{Standing, after, is_among, joined, went}
 
 ------ lists
-
-pub eqb_swap : (m n : ℕ) → (m == n) ≡ (n == m)
-eqb_swap m n = at (m == n) (n == m) refl refl
-  where
-    at : (a b : Bool) → (m == n) ≡ a → (n == m) ≡ b → a ≡ b
-    at true true e f = refl
-    at true false e f = absurd (grind (arith, nat_tests))
-    at false true e f = absurd (grind (arith, nat_tests))
-    at false false e f = refl
 
 module _ {A : Type 0} where
   any-push : (test : A → Bool) (items : List A) (item : A)
@@ -165,7 +156,7 @@ module _ (group : List ℕ) where
         (append-nil (filter (λ m. stays facts m && not (member == m)) (joins facts))
         ∙ filter_both (stays facts) (λ m. not (member == m)) (joins facts)
         ∙ filter_agree (λ m. not (member == m)) (λ m. not (m == member))
-        (λ m. ap not (eqb_swap member m)) (filter (stays facts) (joins facts))) refl
+        (λ m. ap not (nat_eq_equiv.symm member m)) (filter (stays facts) (joins facts))) refl
     went_by member false =
         standing_is _ _ _ _ _ _ (omega arith)
         (append-nil (filter (λ m. stays facts m && true) (joins facts))
