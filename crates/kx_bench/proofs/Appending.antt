@@ -1,6 +1,6 @@
 -- A new log, and a log with one more batch.
 use Rattle.std.proofs.Common.{◌≡◌, ◌+◌, [], ◌∷◌, ap, ◌∙◌}
-use Rattle.std.specs.Prelude.{ℕ, ℤ, Bool, List, Result, Ok, Err, Some, length, IfSome, MatchResult}
+use Rattle.std.specs.Prelude.{ℕ, ℤ, List, Result, Ok, Err, Some, length, IfSome, MatchResult}
 use Rattle.std.specs.Result.{result_ok}
 use Rattle.std.proofs.lemmas.List.{length-append}
 use Rattle.kx_model.specs.Log.{end, entries}
@@ -8,7 +8,7 @@ use Rattle.kx_model.specs.Produce.{Verdict, Next, Duplicate, Unverified, Refused
 use Rattle.kx_log.specs.Log.{log_from, log_in}
 use Rattle.kx_log.specs.LogState.{LogState}
 use Rattle.kx_log.specs.Store.{StoreState}
-use Rattle.kx_partition.specs.Answer.{Breaks, IsAnswered, IsAppended, IsProduced, answer_of}
+use Rattle.kx_partition.specs.Answer.{Breaks, FollowsVerdict, IsAnswered, IsAppended, answer_of}
 use Rattle.kx_partition.specs.Opening.{Rebuilds}
 use Rattle.kx_partition.specs.declared.answer.Produced.{Produced}
 use Rattle.kx_partition.specs.declared.answer.Produced.TheVariants as produced
@@ -30,9 +30,9 @@ never_appended Unverified offset e = absurd cc
 never_appended (Refused code) offset e = absurd cc
 
 -- a batch that is appended makes the log one longer
-pub one_more : {text : List ℕ} {verified : Bool} {old new : LogState} {answer : Produced}
-    (offset : ℤ) → answer ≡ produced.Appended offset → IsProduced text verified old new answer
-    → length new.batches ≡ length old.batches + 1
+pub one_more : {verdict : Verdict} {text : List ℕ} {old new : LogState} {answer : Produced}
+    (offset : ℤ) → answer ≡ produced.Appended offset
+    → FollowsVerdict verdict text old new answer → length new.batches ≡ length old.batches + 1
 one_more {old = old} offset e (IsAppended at next appended) =
     ap (λ (log : LogState). length log.batches) appended.rest ∙ length-append old.batches _
 one_more offset e (IsAnswered answer is same) =

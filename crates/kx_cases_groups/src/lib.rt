@@ -1,9 +1,12 @@
 //! Cases of consumer groups and of verification: the records of the offsets partition
-//! (`kx_offsets`), and the requests that a partition parks (`kx_verify`).
+//! (`kx_offsets`), the requests that a partition parks (`kx_verify`), and the groups themselves
+//! (`kx_group`).
 #![tactic(auto)]
 
+pub use groups::GroupCases;
 pub use guard::GuardCases;
 pub use offsets::OffsetCases;
 
+mod groups;
 mod guard;
 mod offsets;

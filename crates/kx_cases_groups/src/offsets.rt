@@ -4,7 +4,7 @@
 use kx_batch::{BatchBuilder, BatchView};
 use kx_cases::{StepFault, Subject, Texts, told_same, told_value, value};
 use kx_cases_formats::message_of;
-use kx_message::{ClientId, GroupId, Message};
+use kx_message::{ClientId, GroupId, Message, TxnOffsetCommit};
 use kx_offsets::{Fact, membership_batch, offsets_batch};
 use std::alloc::{AllocError, Global};
 
@@ -65,12 +65,17 @@ fn change(name: &str, group: GroupId, member: ClientId) -> Result<Fact, StepFaul
     }
 }
 
+/// The commit of offsets in a frame.
+pub(crate) fn commit_in(alloc: Global, frame: &[u8]) -> Result<TxnOffsetCommit, StepFault> {
+    match message_of(alloc, frame)? {
+        Message::TxnOffsetCommit(commit) => Ok(commit),
+        _ => Err(StepFault::Unknown),
+    }
+}
+
 // Whether the commit of offsets in a frame becomes this batch.
 fn commit(alloc: Global, frame: &[u8], batch: &[u8]) -> Result<String, StepFault> {
-    let Message::TxnOffsetCommit(commit) = message_of(alloc, frame)? else {
-        return Err(StepFault::Unknown);
-    };
-    let text = offsets_batch(alloc, &commit)?;
+    let text = offsets_batch(alloc, &commit_in(alloc, frame)?)?;
     Ok(told_same(alloc, text.as_slice(), batch)?)
 }
 

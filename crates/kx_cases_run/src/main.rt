@@ -5,7 +5,7 @@
 
 use kx_cases::{Tally, try_cases};
 use kx_cases_formats::{BatchCases, FrameCases, NumberCases, ValueCases};
-use kx_cases_groups::{GuardCases, OffsetCases};
+use kx_cases_groups::{GroupCases, GuardCases, OffsetCases};
 use kx_cases_logs::{AbortedCases, EntryCases, LogCases, OpenCases, ProducerCases, TxnLogCases};
 use kx_cases_nodes::{CoordinatorNode, Dumps, PartitionNode, Replies, Scripts, try_pair};
 use std::process::ExitCode;
@@ -41,6 +41,7 @@ fn try_groups(rt: &(impl Print + AllocGlobal), front: &str, text: &str) -> io::R
     match front {
         "offsets" => try_cases::<OffsetCases>(rt, text),
         "guard" => try_cases::<GuardCases>(rt, text),
+        "groups" => try_cases::<GroupCases>(rt, text),
         _ => try_nodes(rt, front, text),
     }
 }

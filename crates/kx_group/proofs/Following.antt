@@ -41,7 +41,7 @@ offset_only (Some (Joined group member)) facts is all = absurd cc
 offset_only (Some (Left group member)) facts is all = absurd cc
 offset_only (Some (Dropped group member)) facts is all = absurd cc
 
-offsets_only : (records : List Record)
+pub offsets_only : (records : List Record)
     → AllByRecursion (λ r. is_offset (fact_of r) ≡ true) records
     → AllByRecursion SaysOffset (filter_map fact_of records)
 offsets_only [] all = tt

@@ -1,3 +1,17 @@
 pub mod Texts
+pub mod Resuming
+pub mod Unverified
 pub mod Growing
 pub mod Following
+pub mod Same
+pub mod Answers
+pub mod Standing
+pub mod Batches
+pub mod Noting
+pub mod Taking
+pub mod Members
+pub mod Changing
+pub mod Ending
+pub mod Committing
+pub mod Putting
+pub mod Fetching

@@ -1,6 +1,7 @@
-//! That groups are as before when their log is read again, and that what is kept of them follows
-//! it.
-ghost use Rattle.std.specs.Prelude.{◌≡◌, ◌++◌, ◌∷◌, [], ℕ, ℤ, pos, Bool, true, List, Some};
+//! That groups are as before when their log is read again, that what is kept of them follows it, and
+//! that offsets whose transaction is yet to be verified begin at sequence 0.
+ghost use Rattle.std.specs.Prelude.{◌≡◌, ◌++◌, ◌∷◌, [], ℕ, ℤ, pos, Bool, true, false, List};
+ghost use Rattle.std.specs.Prelude.{Some};
 ghost use Rattle.std.specs.List.{AllByRecursion};
 ghost use Rattle.kx_batch.specs.Record.{Record};
 ghost use Rattle.kx_commits.specs.Follows.{AllInTransactions, said_by};
@@ -12,10 +13,12 @@ ghost use Rattle.kx_members.specs.Follows.{Makes};
 ghost use Rattle.kx_members.specs.Standing.{Standing, after, unknown};
 ghost use Rattle.kx_message.specs.declared.message.Held.{Held};
 ghost use Rattle.kx_message.specs.declared.payload.PartitionOffset.{PartitionOffset};
-ghost use Rattle.kx_model.specs.Groups.{Fact, fact_of, membership_text, offsets_batch};
+ghost use Rattle.kx_model.specs.Groups.{Fact, fact_of, judge_offsets, membership_text};
+ghost use Rattle.kx_model.specs.Groups.{offsets_batch};
 ghost use Rattle.kx_model.specs.Log.{Control, Data, Entry, Marker, MarkerFits, Plain, Sequenced};
 ghost use Rattle.kx_model.specs.Log.{Stored, end, entries, entry_of};
-ghost use Rattle.kx_model.specs.Produce.{Appends, Next, judge, judge_marker, judge_text};
+ghost use Rattle.kx_model.specs.Produce.{Appends, Next, Unverified, judge, judge_marker};
+ghost use Rattle.kx_model.specs.Produce.{judge_text};
 ghost use Rattle.kx_model.specs.Produce.{stored_at, text_of};
 ghost use Rattle.kx_offsets.specs.Facts.{CommitFits, FactFits};
 
@@ -76,4 +79,15 @@ pub fn groups_follow_their_log()
         → MarkerFits marker → judge_marker (entries log) marker ≡ Appends
         → Follows (entries (log ++ stored_at (end (entries log)) (text_of marker) ∷ [])) standing
         (ended marker.id marker.outcome kept) }
+{}
+
+/// Offsets whose transaction is yet to be verified begin at sequence 0, in a log that groups grew:
+/// no batch of their id and epoch stands in it. So commits of one id and epoch that are parked for
+/// the coordinator's answer begin at one sequence.
+pub fn unverified_commits_begin_at_0()
+    ensures { (log : List Stored) (group : List ℕ) (member : ℕ) (named : ℤ) (held : Held)
+        (first : ℕ) (offsets : List PartitionOffset) → IsGrown log → IsGroupLog log
+        → CommitFits group held (pos first) offsets
+        → judge_offsets (entries log) false group member named
+        (offsets_batch group held (pos first) offsets) ≡ Unverified → first ≡ 0 }
 {}

@@ -1,8 +1,17 @@
-//! Consumer groups: that the offsets partition's log is read again as they grew it, and that what
-//! is kept of them beside it follows it. The functions here do nothing when they run, and carry
-//! the laws in their contracts.
+//! The consumer groups of an offsets partition (KIP-447): members and generations, and offsets that
+//! are committed in transactions. Their answers and the partition's log after them are what
+//! `kx_model` says of the list of its batches; what is kept beside the log follows it, so that no
+//! call but opening scans it.
 #![tactic(auto)]
 
+mod commit;
+mod content;
+mod groups;
 mod law;
+mod notes;
 
-pub use law::{groups_follow_their_log, reopened_groups_are_as_before};
+pub use content::GroupsContent;
+pub use groups::Groups;
+pub use law::{
+    groups_follow_their_log, reopened_groups_are_as_before, unverified_commits_begin_at_0,
+};

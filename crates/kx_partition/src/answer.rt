@@ -1,4 +1,6 @@
 //! What a partition answers.
+ghost use Rattle.std.specs.Prelude.{◌≡◌};
+ghost use Rattle.kx_partition.specs.Answer.{code_of};
 
 use kx_message::ErrorCode;
 
@@ -15,4 +17,18 @@ pub enum Produced {
     Unverified,
     /// It is refused. Nothing is appended.
     Refused(ErrorCode),
+}
+
+impl Produced {
+    /// The code that the client is answered. What isn't verified is outside its transaction where
+    /// the coordinator can't be asked.
+    pub fn code(self) -> ErrorCode
+        ensures { result ≡ code_of self }
+    {
+        match self {
+            Produced::Appended(_) | Produced::Duplicate(_) => ErrorCode::NoError,
+            Produced::Unverified => ErrorCode::InvalidTxnState,
+            Produced::Refused(code) => code,
+        }
+    }
 }

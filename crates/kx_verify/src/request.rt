@@ -145,6 +145,13 @@ impl Request {
         self.held
     }
 
+    /// The message that it came as, lent.
+    pub fn message(&self) -> &Append
+        ensures { IsParked (message_of result.now) self.now }
+    {
+        &self.message
+    }
+
     /// The message that it came as.
     pub fn into_message(self) -> Append
         ensures { IsParked (message_of result) self }

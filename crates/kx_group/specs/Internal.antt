@@ -1,0 +1,4 @@
+-- What this crate's own functions say to one another; no contract of a public call names it.
+pub mod Kept
+pub mod Reading
+pub mod Commits
