@@ -3,6 +3,7 @@ ghost use Rattle.std.specs.Prelude.{◌≡◌, ◌≢◌, ◌+◌, ◌-◌, ◌^
 ghost use Rattle.std.specs.Prelude.{None, Some, IfNone, IfOk, IfSome, OnErr, OnOk, min};
 ghost use Rattle.std.specs.Prelude.{option_map, string_bytes};
 ghost use Rattle.std.specs.Option.{IsNone};
+ghost use Rattle.std.specs.Process.{exit_status};
 ghost use Rattle.kx_cases.specs.Tally.{IsRight, IsWithin, IsWrong, Judged, answer_of, ended};
 
 use crate::fault::StepFault;
@@ -11,6 +12,7 @@ use crate::subject::Subject;
 use crate::texts::Texts;
 use std::alloc::{AllocError, Global};
 use std::io;
+use std::process::ExitCode;
 
 /// How many cases were tried, and how many of them failed.
 #[derive(Clone, Copy)]
@@ -41,6 +43,18 @@ impl Tally {
         Tally {
             tried: self.tried.saturating_add(other.tried),
             failed: self.failed.saturating_add(other.failed),
+        }
+    }
+
+    /// How a program ends that tried them: with status 1 where a case failed, else 0.
+    pub fn exit_code(self) -> ExitCode
+        ensures passed { self.failed ≡ 0 → exit_status result ≡ 0 }
+        ensures failed { 1 ≤ self.failed → exit_status result ≡ 1 }
+    {
+        if self.failed == 0 {
+            ExitCode::SUCCESS
+        } else {
+            ExitCode::FAILURE
         }
     }
 }

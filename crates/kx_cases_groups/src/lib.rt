@@ -8,5 +8,6 @@ pub use guard::GuardCases;
 pub use offsets::OffsetCases;
 
 mod groups;
+mod growth;
 mod guard;
 mod offsets;

@@ -91,9 +91,5 @@ fn try_arguments(rt: &HostRuntime) -> io::Result<Tally> {
 fn main(rt: HostRuntime) -> io::Result<ExitCode> {
     let tally = try_arguments(&rt)?;
     println!(rt; "{} cases, {} failed", tally.tried, tally.failed)?;
-    Ok(if tally.failed == 0 {
-        ExitCode::SUCCESS
-    } else {
-        ExitCode::FAILURE
-    })
+    Ok(tally.exit_code())
 }

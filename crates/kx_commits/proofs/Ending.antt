@@ -2,7 +2,7 @@
 use Rattle.std.proofs.Common.{◌≡◌, ◌<◌, ◌+◌, ◌-◌, ◌==◌, ◌&&◌, ◌||◌, ℕ, Bool, true, false, not}
 use Rattle.std.proofs.Common.{cond, List, [], ◌∷◌, ◌++◌, filter, length, flat_map, Contains, refl}
 use Rattle.std.proofs.Common.{sym}
-use Rattle.std.proofs.Common.{ap, ◌∙◌, arith, append_assoc, append-nil, subst, None}
+use Rattle.std.proofs.Common.{ap, ◌∙◌, arith, append-nil, subst, None}
 use Rattle.std.specs.List.{list_any}
 use Rattle.std.proofs.Math.Bool.{and-false, and-true}
 use Rattle.std.proofs.lemmas.Bool.{false_from_ne_true}
@@ -21,8 +21,8 @@ use Rattle.kx_model.proofs.Growth.{unclosed-push}
 use Rattle.kx_laws.specs.Grown.{IsGrown}
 use Rattle.kx_laws.proofs.ClosedByCommit.{commit_tells}
 use Rattle.kx_laws.proofs.GrownLogs.{Admits, each_admitted, marker_next}
-use Rattle.kx_laws.proofs.LogRules.{batch_epoch, closes_its_own, marker_above, marker_epoch}
-use Rattle.kx_laws.proofs.Membership.{any_holds, in_the_middle, split_at}
+use Rattle.kx_laws.proofs.LogRules.{closes_its_own, marker_above, marker_behind, marker_epoch}
+use Rattle.kx_laws.proofs.Membership.{any_holds}
 use Rattle.kx_laws.proofs.Splits.{Each}
 use Rattle.kx_commits.specs.Follows.{AllInTransactions, StandsFor, counting}
 use Rattle.kx_commits.specs.Follows.{last_of, said_by, slot_of, waiting_of}
@@ -52,33 +52,17 @@ in_transactions : (before after : List Entry) (d : Sequenced)
 in_transactions [] after d all = all.0
 in_transactions (entry ∷ before) after d all = in_transactions before after d all.1
 
-marker_tells_id : (id : ℕ) (entry : Entry) → is_marker_of id entry ≡ true
-    → (m : Marker) × (entry ≡ Control m) × (m.id ≡ id)
-marker_tells_id id (Plain records) e = absurd cc
-marker_tells_id id (Data d) e = absurd cc
-marker_tells_id id (Control m) e = (m, refl, grind (arith, nat_tests))
-
 module _ (log : List Entry) (each : Each Admits log) (all : AllInTransactions log) (m : Marker)
     (appends : judge_marker log m ≡ Appends) where
   -- a marker behind a batch of the id has an epoch between the batch's and the new marker's
   behind_between : (before after : List Entry) (d : Sequenced) → log ≡ before ++ Data d ∷ after
       → d.id ≡ m.id → list_any (is_marker_of d.id) after ≡ true → d.epoch + 1 < m.epoch
   behind_between before after d parts same marked =
-      let (entry, there, is) = any_holds (is_marker_of d.id) after marked in
-      let (k, at, its) = marker_tells_id d.id entry is in
-      let s = split_at after (Control k) (subst (Contains after) at there) in
-      let front : List Entry = before ++ Data d ∷ s.before in
-      let whole : log ≡ front ++ Control k ∷ s.after =
-      parts ∙ ap (λ l. before ++ Data d ∷ l) s.parts
-      ∙ sym (append_assoc before (Data d ∷ s.before) (Control k ∷ s.after)) in
-      let above : d.epoch < k.epoch = marker_above front k (Data d) d.epoch
-      (each front (Control k) s.after whole) (in_the_middle before s.before (Data d))
-      (batch_epoch d k.id (sym its)) in
-      let below : k.epoch < m.epoch = marker_above log m (Control k) k.epoch
-      (marker_next m appends)
-      (subst (λ l. Contains l (Control k)) (sym whole) (in_the_middle front s.after (Control k)))
-      (marker_epoch k m.id (its ∙ same)) in
-      omega (arith, above, below)
+      let behind = marker_behind log before after d each parts marked in
+      let below : behind.marker.epoch < m.epoch =
+      marker_above log m (Control behind.marker) behind.marker.epoch (marker_next m appends)
+      behind.there (marker_epoch behind.marker m.id (behind.its ∙ same)) in
+      omega (arith, behind.above, below)
 
   closes : Closes m log
   closes before after d parts =

@@ -1,6 +1,6 @@
 -- A change of members that is appended.
 use Rattle.std.proofs.Common.{◌≡◌, ℕ, Bool, true, false, cond, List, [], ◌∷◌, ◌++◌}
-use Rattle.std.proofs.Common.{sym, ap, ◌∙◌, subst}
+use Rattle.std.proofs.Common.{refl, sym, ap, ◌∙◌, subst}
 use Rattle.kx_commits.specs.Kept.{Kept}
 use Rattle.kx_commits.specs.Table.{kept_of}
 use Rattle.kx_members.specs.Follows.{Makes}
@@ -9,7 +9,7 @@ use Rattle.kx_members.specs.Table.{Table, group_in, standing_in, verdict_of}
 use Rattle.kx_members.specs.declared.membership.Membership.{Membership as Answer}
 use Rattle.kx_members.proofs.Standings.{drop_same, join_same, leave_same}
 use Rattle.kx_message.specs.declared.code.ErrorCode.TheVariants.{KafkaStorageError, UnknownMemberId}
-use Rattle.kx_model.specs.Groups.{Fact, Joined, Left, Dropped, Already, Changes}
+use Rattle.kx_model.specs.Groups.{Fact, Joined, Left, Dropped, Already, Changes, Membership}
 use Rattle.kx_model.specs.Groups.{Refuses, changes, generation, greatest_generation, has_gone}
 use Rattle.kx_model.specs.Groups.{is_member, judge_drop, judge_join, judge_leave, member_limit}
 use Rattle.kx_model.specs.Groups.{members, membership_text}
@@ -90,35 +90,34 @@ module _ (log : List Entry) (group : List ℕ) (member : ℕ) (fact : Fact) wher
 module _ (log : List Entry) (standing : List ℕ → Standing) (kept : Kept)
     (follows : Follows log standing kept) (change : Answer) (group : List ℕ)
     (member : ℕ) where
+  -- what it comes to can be but one change
+  of_one : (judged : Membership) (one : Fact) → (judged ≡ Changes one → Makes log one)
+      → group_in one ≡ group → ((fact : Fact) → judged ≡ Changes fact → fact ≡ one)
+      → judged ≡ verdict_of change → IsAsked log change group
+  of_one judged one made own only same = record {
+    makes = λ fact e.
+        let is = only fact (same ∙ e) in
+        subst (Makes log) (sym is) (made (same ∙ e ∙ ap Changes is));
+    of_group = λ fact e. ap group_in (only fact (same ∙ e)) ∙ own;
+  }
+
   pub join_asked : verdict_of change ≡ join_verdict (standing group) group member
       → IsAsked log change group
   join_asked v =
-      let same = join_same standing log group member follows.members in
-      record {
-        makes = λ fact e.
-            let is = joins_only log group member fact (same ∙ sym v ∙ e) in
-            subst (Makes log) (sym is) (same ∙ sym v ∙ e ∙ ap Changes is);
-        of_group = λ fact e. ap group_in (joins_only log group member fact (same ∙ sym v ∙ e));
-      }
+      of_one (judge_join log group member) (Joined group member) (λ e. e) refl
+      (joins_only log group member)
+      (join_same standing log group member follows.members ∙ sym v)
 
   pub leave_asked : verdict_of change ≡ leave_verdict (standing group) group member
       → IsAsked log change group
   leave_asked v =
-      let same = leave_same standing log group member follows.members in
-      record {
-        makes = λ fact e.
-            let is = leaves_only log group member fact (same ∙ sym v ∙ e) in
-            subst (Makes log) (sym is) (same ∙ sym v ∙ e ∙ ap Changes is);
-        of_group = λ fact e. ap group_in (leaves_only log group member fact (same ∙ sym v ∙ e));
-      }
+      of_one (judge_leave log group member) (Left group member) (λ e. e) refl
+      (leaves_only log group member)
+      (leave_same standing log group member follows.members ∙ sym v)
 
   pub drop_asked : verdict_of change ≡ drop_verdict (standing group) group member
       → IsAsked log change group
   drop_asked v =
-      let same = drop_same standing log group member follows.members in
-      record {
-        makes = λ fact e.
-            let is = drops_only log group member fact (same ∙ sym v ∙ e) in
-            subst (Makes log) (sym is) (same ∙ sym v ∙ e ∙ ap Changes is);
-        of_group = λ fact e. ap group_in (drops_only log group member fact (same ∙ sym v ∙ e));
-      }
+      of_one (judge_drop log group member) (Dropped group member) (λ e. e) refl
+      (drops_only log group member)
+      (drop_same standing log group member follows.members ∙ sym v)

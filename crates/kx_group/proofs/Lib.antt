@@ -1,5 +1,6 @@
 pub mod Texts
 pub mod Resuming
+pub mod Alike
 pub mod Unverified
 pub mod Growing
 pub mod Following

@@ -24,7 +24,7 @@ use Rattle.kx_model.proofs.Logs.{entries-push}
 use Rattle.kx_laws.proofs.GrownLogs.{no_batch_is_marker, same_marker, KindOf, control_kind}
 use Rattle.kx_laws.proofs.GrownLogs.{data_kind, plain_kind, batch_is}
 use Rattle.kx_laws.proofs.GrownLogs.{kind_of, marker_is}
-use Rattle.kx_laws.proofs.LogRules.{batch_tells}
+use Rattle.kx_laws.proofs.LogRules.{may_open}
 use Rattle.kx_laws.proofs.Membership.{any_holds, in_the_middle, no_element}
 use Rattle.kx_laws.proofs.OpenBatches.{listed_stands}
 use Rattle.kx_headline.proofs.PartitionDoes.{HasNoProducer, behind}
@@ -213,7 +213,7 @@ module _ (sent : List Message) (number : ℕ) where
             → WasAdded d.id d.epoch
         by_list r verified unlisted e v before =
             was_open (opened d.transactional (is_open (entries earlier) d.id d.epoch)
-            (batch_tells (entries earlier) false d v).may_open t) before
+            (may_open (entries earlier) false d v) t) before
         by_list r verified (listed txn held h p) e v before = record {
           txn = txn;
           handed = subst (λ k. Contains sent (the.AddReply number txn k NoError))
