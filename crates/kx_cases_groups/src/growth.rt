@@ -2,10 +2,11 @@
 //! same call is answered when it is made again.
 use crate::groups::Kept;
 use kx_log::OpenFault;
-use kx_message::{Caller, ErrorCode, Join, TxnOffsetCommit, WriteMarker};
+use kx_message::{Caller, ClientId, ErrorCode, Join, TxnOffsetCommit, WriteMarker};
 use std::alloc::AllocError;
 
 // A call that appends a batch, or reads the store again.
+#[derive(Clone, Copy)]
 enum Call<'a> {
     Join,
     Commit,
@@ -14,7 +15,7 @@ enum Call<'a> {
 }
 
 // What groups tell of the group and the first offset of a commit.
-#[derive(PartialEq)]
+#[derive(Drop, PartialEq)]
 struct Told {
     end: i64,
     generation: i32,
@@ -38,7 +39,7 @@ fn made(groups: &mut Kept, commit: &TxnOffsetCommit, call: &Call<'_>) -> Result<
     match call {
         Call::Join => {
             let caller = Caller {
-                client: commit.member,
+                client: ClientId::from(commit.member),
                 correlation: 0,
             };
             let group = commit.group;
