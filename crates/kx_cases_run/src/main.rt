@@ -4,6 +4,7 @@
 #![tactic(auto)]
 
 use kx_cases::{Tally, try_cases};
+use kx_cases_clients::ClientCases;
 use kx_cases_formats::{BatchCases, FrameCases, NumberCases, ValueCases};
 use kx_cases_groups::{GroupCases, GuardCases, OffsetCases};
 use kx_cases_logs::{AbortedCases, EntryCases, LogCases, OpenCases, ProducerCases, TxnLogCases};
@@ -36,12 +37,13 @@ fn try_logs(rt: &(impl Print + AllocGlobal), front: &str, text: &str) -> io::Res
     }
 }
 
-// Tries cases of groups and of parked requests, or of what stands above them.
+// Tries cases of groups, of parked requests and of clients, or of what stands above them.
 fn try_groups(rt: &(impl Print + AllocGlobal), front: &str, text: &str) -> io::Result<Tally> {
     match front {
         "offsets" => try_cases::<OffsetCases>(rt, text),
         "guard" => try_cases::<GuardCases>(rt, text),
         "groups" => try_cases::<GroupCases>(rt, text),
+        "clients" => try_cases::<ClientCases>(rt, text),
         _ => try_nodes(rt, front, text),
     }
 }

@@ -1,0 +1,6 @@
+//! Cases of clients (`kx_client`).
+#![tactic(auto)]
+
+pub use client::ClientCases;
+
+mod client;

@@ -1,0 +1,46 @@
+use Rattle.std.proofs.Common.{◌≡◌, ◌+◌, ◌++◌, ◌∷◌, [], ℕ, List, take, drop, sym, ap, ◌∙◌}
+use Rattle.std.proofs.Common.{subst, arith, false}
+use Rattle.std.specs.Prelude.{is_some}
+use Rattle.std.proofs.lemmas.List.{take-append-drop, take_more}
+use Rattle.kx_batch.specs.Build.{within_limit}
+use Rattle.kx_client.proofs.Sizes.{next_size, passes_limit}
+use Rattle.kx_model.specs.Client.{value_records}
+use Rattle.kx_client.proofs.values.Values.fit.Goals as goal
+
+pub returns-in_default-with_record : goal.returns-in_default-with_record
+returns-in_default-with_record c =
+    let first = c.args.self.now.first in
+    let items = c.deref-value-items.result.now in
+    let i = c.loop-at.at in
+    let x = c.as_slice-in-loop-at.result.now in
+    let one : take (i + 1) items ≡ take i items ++ x ∷ [] =
+    take_more items i c.value-item.result c.loop-at-test.true
+    ∙ ap (λ (y : List ℕ). take i items ++ y ∷ [])
+    (sym c.value-item.is ∙ sym c.as_slice-in-loop-at.ensures) in
+    let grown = next_size first items i x c.loop-at.len c.loop-at-test.true one
+    c.loop-at.invariant.len in
+    let all : (first ∷ take (i + 1) items) ++ drop (i + 1) items
+    ≡ first ∷ c.args.self.now.more.items =
+    ap (λ (xs : List (List ℕ)). first ∷ xs) (take-append-drop (i + 1) items
+    ∙ c.deref-value-items.ensures.value) in
+    let over = passes_limit (first ∷ take (i + 1) items) (drop (i + 1) items)
+    (omega (arith, grown, c.in_default-with_record.ensures)) in
+    sym (subst (λ (xs : List (List ℕ)). is_some (within_limit (value_records xs)) ≡ false) all over)
+
+pub loop-at-preserved : goal.loop-at-preserved
+loop-at-preserved c =
+    let first = c.args.self.now.first in
+    let items = c.deref-value-items.result.now in
+    let i = c.loop-at.at in
+    let x = c.as_slice-in-loop-at.result.now in
+    let one : take (i + 1) items ≡ take i items ++ x ∷ [] =
+    take_more items i c.value-item.result c.loop-at-test.true
+    ∙ ap (λ (y : List ℕ). take i items ++ y ∷ [])
+    (sym c.value-item.is ∙ sym c.as_slice-in-loop-at.ensures) in
+    let h = c.in-Some-with_record.ensures in
+    record {
+      len = h.0 ∙ next_size first items i x c.loop-at.len c.loop-at-test.true one
+          c.loop-at.invariant.len;
+      within = h.1;
+      places = omega (arith, h.2);
+    }

@@ -1,0 +1,40 @@
+-- What a client answers where it refuses a command.
+use Rattle.std.specs.Prelude.{◌≡◌, ℕ, List, [], ◌∷◌}
+use Rattle.kx_client.specs.declared.fault.ClientFault.{ClientFault}
+use Rattle.kx_client.specs.declared.fault.ClientFault.TheVariants as fault
+use Rattle.kx_model.specs.Client as model
+use Rattle.kx_model.specs.Client.{Client, Command, Commanded, Declines, Does, SendOffsets, command}
+use Rattle.kx_message.specs.declared.payload.PartitionOffset.{PartitionOffset}
+
+abbrev pub number_of : ClientFault → ℕ
+number_of fault.NotReady = 1
+number_of fault.InFlight = 2
+number_of fault.WindowFull = 3
+number_of fault.Failed = 4
+number_of fault.NotTransactional = 5
+number_of fault.UsedUp = 6
+number_of fault.MustAbort = 7
+number_of fault.TooLarge = 8
+number_of fault.Memory = 9
+
+-- the rules have nothing against the command
+abbrev pub IsAllowed : Commanded → Type 0
+IsAllowed (Declines fault) = ⊥
+IsAllowed (Does client sent) = Unit {0}
+
+-- the fault is the one that the rules have; want of memory comes only where they have none
+abbrev pub IsRefused : ClientFault → Commanded → Type 0
+IsRefused fault.NotReady answer = answer ≡ Declines model.NotReady
+IsRefused fault.InFlight answer = answer ≡ Declines model.InFlight
+IsRefused fault.WindowFull answer = answer ≡ Declines model.WindowFull
+IsRefused fault.Failed answer = answer ≡ Declines model.Failed
+IsRefused fault.NotTransactional answer = answer ≡ Declines model.NotTransactional
+IsRefused fault.UsedUp answer = answer ≡ Declines model.UsedUp
+IsRefused fault.MustAbort answer = answer ≡ Declines model.MustAbort
+IsRefused fault.TooLarge answer = answer ≡ Declines model.TooLarge
+IsRefused fault.Memory answer = IsAllowed answer
+
+-- what a commit of offsets comes to, of which there is at least one
+abbrev pub commanded_offsets : Client → List PartitionOffset → Commanded
+commanded_offsets c [] = Declines model.NotReady
+commanded_offsets c (offset ∷ more) = command c (SendOffsets offset more)
