@@ -1,6 +1,7 @@
 -- What a client's parts say to one another.
 use Rattle.std.specs.Prelude.{◌≡◌, ◌+◌, ◌≤◌, ◌<◌, ◌==◌, ◌++◌, [], ◌∷◌, ℕ, Bool, true, false}
-use Rattle.std.specs.Prelude.{not, List, map, filter, length, take, drop, Some, count_by, slice_index}
+use Rattle.std.specs.Prelude.{not, List, map, filter, length, take, drop, Some, count_by}
+use Rattle.std.specs.Prelude.{slice_index}
 use Rattle.std.specs.Prelude.{if◌then◌else◌}
 use Rattle.std.specs.List.{list_any}
 use Rattle.kx_message.specs.Ranges.{IsPartition, data_partitions, offsets_partition}

@@ -35,7 +35,9 @@ pub(crate) struct Numbers {
     pub(crate) next: u32,
 }
 
-/// What a client that produces holds.
+/// The core of a client that produces, alone or in transactions (KIP-98), and commits offsets of
+/// its group in them (KIP-447): the id and epoch that it was handed, the next sequence of each
+/// partition, and the requests that it keeps until they are answered.
 #[derive(Drop)]
 pub struct ProducerClient {
     pub(crate) alloc: Global,
