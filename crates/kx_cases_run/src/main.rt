@@ -3,6 +3,8 @@
 //! Prints of each case and each script whether its answers came, and how many failed.
 #![tactic(auto)]
 
+ghost use Rattle.std.specs.Prelude.{◌≤◌, IfOk};
+
 use kx_cases::{Tally, try_cases};
 use kx_cases_clients::ClientCases;
 use kx_cases_formats::{BatchCases, FrameCases, NumberCases, ValueCases};
@@ -14,7 +16,9 @@ use std::rt::Files;
 use std::{env, fs, io};
 
 // Tries cases of formats, or of what stands above them.
-fn try_formats(rt: &(impl Print + AllocGlobal), front: &str, text: &str) -> io::Result<Tally> {
+fn try_formats(rt: &(impl Print + AllocGlobal), front: &str, text: &str) -> io::Result<Tally>
+    ensures { IfOk result (λ tally. tally.failed ≤ tally.tried) }
+{
     match front {
         "numbers" => try_cases::<NumberCases>(rt, text),
         "values" => try_cases::<ValueCases>(rt, text),
@@ -25,7 +29,9 @@ fn try_formats(rt: &(impl Print + AllocGlobal), front: &str, text: &str) -> io::
 }
 
 // Tries cases of logs, or of what stands above them.
-fn try_logs(rt: &(impl Print + AllocGlobal), front: &str, text: &str) -> io::Result<Tally> {
+fn try_logs(rt: &(impl Print + AllocGlobal), front: &str, text: &str) -> io::Result<Tally>
+    ensures { IfOk result (λ tally. tally.failed ≤ tally.tried) }
+{
     match front {
         "open" => try_cases::<OpenCases>(rt, text),
         "aborted" => try_cases::<AbortedCases>(rt, text),
@@ -38,7 +44,9 @@ fn try_logs(rt: &(impl Print + AllocGlobal), front: &str, text: &str) -> io::Res
 }
 
 // Tries cases of groups, of parked requests and of clients, or of what stands above them.
-fn try_groups(rt: &(impl Print + AllocGlobal), front: &str, text: &str) -> io::Result<Tally> {
+fn try_groups(rt: &(impl Print + AllocGlobal), front: &str, text: &str) -> io::Result<Tally>
+    ensures { IfOk result (λ tally. tally.failed ≤ tally.tried) }
+{
     match front {
         "offsets" => try_cases::<OffsetCases>(rt, text),
         "guard" => try_cases::<GuardCases>(rt, text),
@@ -49,7 +57,9 @@ fn try_groups(rt: &(impl Print + AllocGlobal), front: &str, text: &str) -> io::R
 }
 
 // Tries cases of nodes. Cases of anything else fail.
-fn try_nodes(rt: &(impl Print + AllocGlobal), front: &str, text: &str) -> io::Result<Tally> {
+fn try_nodes(rt: &(impl Print + AllocGlobal), front: &str, text: &str) -> io::Result<Tally>
+    ensures { IfOk result (λ tally. tally.failed ≤ tally.tried) }
+{
     match front {
         "coordinator" => try_cases::<CoordinatorNode>(rt, text),
         "partition" => try_cases::<PartitionNode>(rt, text),
