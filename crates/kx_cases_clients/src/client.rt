@@ -3,7 +3,7 @@
 use kx_batch::BatchView;
 use kx_cases::{StepFault, Subject, Texts, known, told_bytes, told_name, told_value, value};
 use kx_cases_formats::message_of;
-use kx_client::{ClientFault, ProducerClient, Values};
+use kx_client::{ClientFault, ProducerClient, ValueList, Values};
 use kx_message::{Bytes, ClientId, Message, Offsets, PartitionId, PartitionOffset, Timeout, TxnId};
 use std::alloc::Global;
 
@@ -90,7 +90,7 @@ fn values(alloc: Global, texts: &Texts, first: &str, more: &[&str]) -> Result<Va
     }
     Ok(Values {
         first,
-        more: others,
+        more: ValueList::from_vec(others),
     })
 }
 

@@ -96,7 +96,7 @@ without c reply = record c { waiting = filter (λ m. not (is_answer_to reply m))
 
 -- the records that values become
 abbrev pub records_of : Values → List Record
-records_of values = value_records (values.first ∷ values.more.items)
+records_of values = value_records (values.first ∷ values.more)
 
 -- the draft has records, and is within the limit
 pub record HasRecords (draft : Draft) : Type 0 where

@@ -105,6 +105,13 @@ impl ProducerClient {
         }
     }
 
+    /// Its own number, any u32.
+    pub fn number(&self) -> ClientId
+        ensures { result ≡ self.now.number }
+    {
+        self.number
+    }
+
     // The client and the number of its next request, if one is left.
     pub(crate) fn caller(&self) -> Option<Caller>
         ensures { MatchOption result (is_spent self.now ≡ true)

@@ -93,10 +93,10 @@ impl ProducerClient {
     #[tactic(auto, unfolding(kx_model::specs::Client::command))]
     pub fn send(&mut self, partition: PartitionId, values: &Values) -> Result<Message, ClientFault>
         ensures { MatchResult result
-            (λ sent. command self.old (Send partition values.now.first values.now.more.items)
+            (λ sent. command self.old (Send partition values.now.first values.now.more)
             ≡ Does self.new (sent ∷ []))
             (λ fault. IsRefused fault (command self.old
-            (Send partition values.now.first values.now.more.items)) × (self.new ≡ self.old)) }
+            (Send partition values.now.first values.now.more)) × (self.new ≡ self.old)) }
     {
         if self.failed {
             return Err(ClientFault::Failed);

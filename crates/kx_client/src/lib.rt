@@ -13,4 +13,4 @@ mod windows;
 
 pub use client::ProducerClient;
 pub use fault::ClientFault;
-pub use values::Values;
+pub use values::{ValueList, Values};

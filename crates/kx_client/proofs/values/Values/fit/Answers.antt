@@ -10,7 +10,7 @@ use Rattle.kx_client.proofs.values.Values.fit.Goals as goal
 pub returns-in_default-with_record : goal.returns-in_default-with_record
 returns-in_default-with_record c =
     let first = c.args.self.now.first in
-    let items = c.deref-value-items.result.now in
+    let items = c.as_slice-value-items.result.now in
     let i = c.loop-at.at in
     let x = c.as_slice-in-loop-at.result.now in
     let one : take (i + 1) items ≡ take i items ++ x ∷ [] =
@@ -20,9 +20,9 @@ returns-in_default-with_record c =
     let grown = next_size first items i x c.loop-at.len c.loop-at-test.true one
     c.loop-at.invariant.len in
     let all : (first ∷ take (i + 1) items) ++ drop (i + 1) items
-    ≡ first ∷ c.args.self.now.more.items =
+    ≡ first ∷ c.args.self.now.more =
     ap (λ (xs : List (List ℕ)). first ∷ xs) (take-append-drop (i + 1) items
-    ∙ c.deref-value-items.ensures.value) in
+    ∙ c.as_slice-value-items.ensures) in
     let over = passes_limit (first ∷ take (i + 1) items) (drop (i + 1) items)
     (omega (arith, grown, c.in_default-with_record.ensures)) in
     sym (subst (λ (xs : List (List ℕ)). is_some (within_limit (value_records xs)) ≡ false) all over)
@@ -30,7 +30,7 @@ returns-in_default-with_record c =
 pub loop-at-preserved : goal.loop-at-preserved
 loop-at-preserved c =
     let first = c.args.self.now.first in
-    let items = c.deref-value-items.result.now in
+    let items = c.as_slice-value-items.result.now in
     let i = c.loop-at.at in
     let x = c.as_slice-in-loop-at.result.now in
     let one : take (i + 1) items ≡ take i items ++ x ∷ [] =

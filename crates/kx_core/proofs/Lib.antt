@@ -1,0 +1,5 @@
+pub mod Declining
+pub mod Rising
+pub mod Numbers
+pub mod Taking
+pub mod Handing

@@ -1,0 +1,5 @@
+pub mod Clients
+pub mod Promises
+pub mod Sent
+pub mod World
+pub mod Internal

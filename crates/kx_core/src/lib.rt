@@ -1,0 +1,17 @@
+//! The whole system in one process: every node as a machine on a store that can be made to fail,
+//! and all messages that were ever handed out. Any of them may come to any node, again and in any
+//! order, so that loss, delay and repetition are schedules like any other; over every schedule the
+//! world keeps the promises of exactly-once semantics (KIP-98, KIP-447, KIP-890).
+#![tactic(auto)]
+
+mod client;
+mod clients;
+mod event;
+mod hand;
+mod promises;
+mod sent;
+
+pub use client::ClientMachine;
+pub use event::Event;
+pub use promises::schedules_keep_promises;
+pub use sent::Sent;

@@ -1,0 +1,25 @@
+//! What every world keeps.
+ghost use Rattle.std.specs.Prelude.{◌≡◌, ℕ, List};
+ghost use Rattle.kx_core.specs.Promises.{KeepsPromises};
+ghost use Rattle.kx_model.specs.World.{Event, IsSchedule, run, start};
+
+use kx_headline::{
+    batches_stand_once, ids_have_one_holder, markers_agree, nothing_fenced_commits,
+    offsets_commit_with_their_transaction, open_transactions_are_owed_markers,
+    readers_get_exactly_what_is_visible,
+};
+
+/// Every schedule leads to a world that keeps the promises of exactly-once semantics (KIP-98,
+/// KIP-447, KIP-890). This does nothing when it runs.
+pub fn schedules_keep_promises()
+    ensures { (partitions : ℕ) (events : List Event) → IsSchedule events
+        → KeepsPromises (run events (start partitions)) }
+{
+    markers_agree();
+    readers_get_exactly_what_is_visible();
+    batches_stand_once();
+    ids_have_one_holder();
+    nothing_fenced_commits();
+    offsets_commit_with_their_transaction();
+    open_transactions_are_owed_markers();
+}

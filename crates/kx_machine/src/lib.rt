@@ -1,0 +1,14 @@
+//! The nodes of the system as machines: what a node is handed, what it does with it, and what it
+//! hands out. Each kind of node is a [`Machine`], whose step is that of the definitions: it stands
+//! for a node of theirs before the step and after it.
+#![tactic(auto)]
+
+mod input;
+mod machine;
+mod messages;
+mod taken;
+
+pub use input::{Command, Input};
+pub use machine::{Failing, Machine, Making, StoreMode};
+pub use messages::Messages;
+pub use taken::{Closing, Note, Taken};

@@ -1,0 +1,85 @@
+//! What every node does.
+use crate::input::Input;
+use crate::taken::Taken;
+use kx_message::{ClientId, Message, PartitionId, Timeout, TxnId};
+use std::alloc::AllocError;
+
+/// How a node is made.
+#[derive(Clone, Copy, PartialEq, Eq)]
+pub enum Making {
+    /// The coordinator, of an empty log, at moment 0.
+    Coordinator,
+    /// The server of a partition, the offsets partition among them, with an empty log.
+    Partition(PartitionId),
+    /// A client, which has sent nothing yet.
+    Client {
+        number: ClientId,
+        txn: Option<TxnId>,
+        timeout: Timeout,
+    },
+}
+
+/// What a node's store does in one step.
+#[derive(Clone, Copy, Debug, PartialEq, Eq)]
+pub enum StoreMode {
+    /// All works.
+    Works,
+    /// An append fails, and leaves this many of its bytes in the store, all where it has fewer.
+    Fails {
+        keep: u64,
+    },
+    /// The log can't be read.
+    CannotLoad,
+}
+
+/// A node of the system: it takes one input at a time, changes what it keeps, and hands messages
+/// out (KIP-98, "Data Flow").
+pub trait Machine: Drop {
+    ghost use Rattle.std.specs.Prelude.{MatchResult};
+    ghost use Rattle.kx_machine.specs.Meaning.{IsTaken, NodeState, input_of};
+    ghost use Rattle.kx_model.specs.Disk.{Store};
+    ghost use Rattle.kx_model.specs.Step.{Comes};
+
+    // the node of the definitions for which it stands
+    ghost stands: { NodeState → Self → Type 0 };
+
+    // what its store may do in the next step
+    ghost allows: { Self → Store → Type 0 };
+
+    /// Takes an input, and does what a node of the definitions does with it. What isn't for the
+    /// node changes nothing, and hands out nothing.
+    ///
+    /// # Errors
+    ///
+    /// Only for want of memory; then the node is as before.
+    fn take(&mut self, input: &Input) -> Result<Taken, AllocError>
+        ensures { (state : NodeState) → stands state self.old → MatchResult result
+            (IsTaken state (input_of input.now) (allows self.old) (λ s. stands s self.new))
+            (λ refused. stands state self.new) };
+
+    /// Takes a message that is lent, as [`take`](Machine::take) takes one that an input has.
+    ///
+    /// # Errors
+    ///
+    /// Only for want of memory; then the node is as before.
+    fn deliver(&mut self, message: &Message) -> Result<Taken, AllocError>
+        ensures { (state : NodeState) → stands state self.old → MatchResult result
+            (IsTaken state (Comes message.now) (allows self.old) (λ s. stands s self.new))
+            (λ refused. stands state self.new) };
+
+    /// How often its store's device failed.
+    fn failures(&self) -> u64;
+}
+
+/// A machine on a store that is made to fail.
+pub trait Failing: Machine {
+    ghost use Rattle.kx_machine.specs.Meaning.{NodeState};
+    ghost use Rattle.kx_machine.specs.Stores.{IsMode};
+    ghost use Rattle.kx_model.specs.Disk.{Store};
+
+    /// Makes its store do this in the next step, whatever it was to do before.
+    fn prepare(&mut self, mode: StoreMode)
+        ensures stands { (state : NodeState) → Self.stands state self.old
+            → Self.stands state self.new }
+        ensures allows { (store : Store) → Self.allows self.new store → IsMode mode store };
+}

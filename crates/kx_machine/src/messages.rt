@@ -1,0 +1,66 @@
+//! The messages of a step.
+ghost use Rattle.std.specs.Prelude.{◌≡◌, [], ◌∷◌, IfOk};
+
+use kx_message::Message;
+use std::alloc::{AllocError, Global};
+use std::marker::Model;
+
+/// Messages in the order in which they are handed out.
+#[derive(Drop)]
+pub struct Messages {
+    items: Vec<Message>,
+}
+
+impl Model for Messages {
+    ghost use Rattle.std.specs.Prelude.{List};
+    ghost use Rattle.kx_message.specs.declared.message.Message.{Message};
+
+    ghost Value = { List Message };
+
+    ghost view = { λ m. m.items.items };
+}
+
+impl Messages {
+    /// None. Takes no memory.
+    pub fn none(alloc: Global) -> Messages
+        ensures { result ≡ [] }
+    {
+        Messages {
+            items: Vec::new(alloc),
+        }
+    }
+
+    /// One message.
+    ///
+    /// # Errors
+    ///
+    /// Only for want of memory.
+    pub fn one(alloc: Global, message: Message) -> Result<Messages, AllocError>
+        ensures { IfOk result (λ messages. messages ≡ message ∷ []) }
+    {
+        Ok(Messages {
+            items: vec![in alloc; message]?,
+        })
+    }
+
+    /// These messages.
+    pub fn from_vec(items: Vec<Message>) -> Messages
+        ensures { result ≡ items.items }
+    {
+        Messages { items }
+    }
+
+    /// The messages, lent.
+    pub fn as_slice(&self) -> &[Message]
+        ensures { result.now ≡ self.now }
+    {
+        self.items.as_slice()
+    }
+
+    /// The messages.
+    pub fn into_vec(self) -> Vec<Message>
+        ensures { result.items ≡ self }
+    {
+        self.items
+    }
+}

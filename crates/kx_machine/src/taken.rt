@@ -1,0 +1,45 @@
+//! What a step answers.
+use crate::messages::Messages;
+use kx_client::ClientFault;
+use kx_message::ErrorCode;
+use kx_partition::Produced;
+
+/// What closed a node's log at a restart.
+#[derive(Clone, Copy, Debug, PartialEq, Eq)]
+pub enum Closing {
+    /// Its log couldn't be read.
+    Read,
+    /// The coordinator's new epoch couldn't be written.
+    Write,
+}
+
+/// What a step answers beside its messages.
+#[derive(Clone, Copy, Debug, PartialEq, Eq)]
+pub enum Note {
+    /// Nothing more.
+    Done,
+    /// A client refuses the command, and nothing is changed.
+    Refused(ClientFault),
+    /// What a batch of no producer was answered.
+    Put(Produced),
+    /// What the drop of a member was answered.
+    Code(ErrorCode),
+    /// The restart failed, and the node is closed.
+    Closed(Closing),
+    /// The coordinator's epochs are used up, and the restart changed nothing.
+    UsedUp,
+}
+
+/// What a node answers to one input.
+#[derive(Drop)]
+pub struct Taken {
+    /// The messages that it hands out.
+    pub messages: Messages,
+    /// What it answers beside them.
+    pub note: Note,
+    /// Whether the node's store failed in this step.
+    pub failed: bool,
+    /// Whether this step opened the node again and found the whole entry of an append that had
+    /// failed.
+    pub found: bool,
+}
