@@ -1,0 +1,294 @@
+//! The coordinator, and what it does with each input.
+ghost use Rattle.std.specs.Prelude.{◌≡◌, ◌&&◌, not, length, false, [], MatchResult};
+ghost use Rattle.kx_coord.specs.Calls.{OpenRefuses};
+ghost use Rattle.kx_coord_node.specs.Stands.{Keeps, MayDo, Stands, Takes};
+ghost use Rattle.kx_machine.specs.Meaning.{made_as};
+ghost use Rattle.kx_machine.specs.declared.machine.Making.TheVariants as making;
+ghost use Rattle.kx_machine.specs.declared.taken.Note.TheVariants as note;
+ghost use Rattle.kx_message.specs.declared.message.Message.TheVariants as msg;
+ghost use Rattle.kx_model.specs.Step.{Comes, Expires, Reminds, Restarts};
+
+use kx_coord::{Coordinator, RestartFault};
+use kx_log::{FaultStore, OpenFault, Steady, Store};
+use kx_machine::{Closing, Failing, Input, Machine, Messages, Note, StoreMode, Taken};
+use kx_message::{AddPartition, EndTxn, InitProducerId, MarkerReply, Message};
+use std::alloc::{AllocError, Global};
+use std::marker::Model;
+
+/// The transaction coordinator on a store, as a machine: it takes the requests that come, the
+/// replies to its markers, time, reminders and restarts.
+#[derive(Drop)]
+pub struct CoordinatorMachine<S: Store> {
+    alloc: Global,
+    coordinator: Coordinator<S>,
+}
+
+impl<S: Store> Model for CoordinatorMachine<S> {
+    ghost use Rattle.kx_coord.specs.CoordinatorState.{CoordinatorState};
+
+    ghost Value = { CoordinatorState };
+
+    ghost view = { λ m. m.coordinator };
+}
+
+impl<S: Store> CoordinatorMachine<S> {
+    /// The coordinator of an empty store, opened at moment 0. Its log has one entry, the first
+    /// coordinator epoch. Memory is taken from `alloc`, now and later.
+    ///
+    /// # Errors
+    ///
+    /// As [`Coordinator::open`]: the store comes back beside the fault.
+    pub fn new(alloc: Global, store: S) -> Result<CoordinatorMachine<S>, (OpenFault, S)>
+        ensures { MatchResult result
+            (λ m. (S.state store).bytes ≡ [] → Stands (made_as making.Coordinator) m)
+            (λ refused. OpenRefuses (S.state store) (S.state refused.1) refused.0) }
+    {
+        let (coordinator, _none) = Coordinator::open(alloc, store, 0)?;
+        Ok(CoordinatorMachine { alloc, coordinator })
+    }
+
+    /// The coordinator, lent.
+    pub fn coordinator(&self) -> &Coordinator<S>
+        ensures { result.now ≡ self.now }
+    {
+        &self.coordinator
+    }
+
+    /// How often its store's device failed.
+    pub fn failures(&self) -> u64
+        ensures { result ≡ self.now.log.store.failures }
+    {
+        self.coordinator.failures()
+    }
+
+    // What it answers with these messages, where its log was closed before, or wasn't.
+    fn answer(&self, was_closed: bool, messages: Vec<Message>) -> Taken
+        ensures { result ≡ record {
+          messages = messages.items;
+          note = note.Done;
+          failed = not was_closed && self.now.log.closed;
+          found = false;
+        } }
+    {
+        Taken {
+            messages: Messages::from_vec(messages),
+            note: Note::Done,
+            failed: !was_closed && self.coordinator.is_closed(),
+            found: false,
+        }
+    }
+
+    // What it answers to what isn't for it.
+    fn rest(&self) -> Taken
+        ensures { result ≡ record {
+          messages = [];
+          note = note.Done;
+          failed = false;
+          found = false;
+        } }
+    {
+        Taken {
+            messages: Messages::none(self.alloc),
+            note: Note::Done,
+            failed: false,
+            found: false,
+        }
+    }
+
+    // A client asks for an id and an epoch.
+    fn init(&mut self, request: InitProducerId) -> Result<Taken, AllocError>
+        ensures { MatchResult result
+            (Takes (Comes (msg.InitProducerId request)) self.old self.new)
+            (λ refused. self.new ≡ self.old) }
+    {
+        // its clause says what the store holds
+        let _rows = self.coordinator.rows();
+        let was_closed = self.coordinator.is_closed();
+        let messages = self.coordinator.init(request)?;
+        Ok(self.answer(was_closed, messages))
+    }
+
+    // A partition asks to be added to a transaction.
+    fn add_partition(&mut self, request: AddPartition) -> Result<Taken, AllocError>
+        ensures { MatchResult result
+            (Takes (Comes (msg.AddPartition request)) self.old self.new)
+            (λ refused. self.new ≡ self.old) }
+    {
+        // its clause says what the store holds
+        let _rows = self.coordinator.rows();
+        let was_closed = self.coordinator.is_closed();
+        let messages = self.coordinator.add_partition(request)?;
+        Ok(self.answer(was_closed, messages))
+    }
+
+    // A client ends its transaction.
+    fn end_txn(&mut self, request: EndTxn) -> Result<Taken, AllocError>
+        ensures { MatchResult result
+            (Takes (Comes (msg.EndTxn request)) self.old self.new)
+            (λ refused. self.new ≡ self.old) }
+    {
+        // its clause says what the store holds
+        let _rows = self.coordinator.rows();
+        let was_closed = self.coordinator.is_closed();
+        let messages = self.coordinator.end_txn(request)?;
+        Ok(self.answer(was_closed, messages))
+    }
+
+    // A partition answers a marker.
+    fn marker_reply(&mut self, reply: MarkerReply) -> Result<Taken, AllocError>
+        ensures { MatchResult result
+            (Takes (Comes (msg.MarkerReply reply)) self.old self.new)
+            (λ refused. self.new ≡ self.old) }
+    {
+        // its clause says what the store holds
+        let _rows = self.coordinator.rows();
+        let was_closed = self.coordinator.is_closed();
+        let messages = self.coordinator.marker_reply(reply)?;
+        Ok(self.answer(was_closed, messages))
+    }
+
+    // A message comes.
+    fn message(&mut self, message: &Message) -> Result<Taken, AllocError>
+        ensures { MatchResult result (Takes (Comes message.now) self.old self.new)
+            (λ refused. self.new ≡ self.old) }
+    {
+        match message {
+            Message::InitProducerId(request) => self.init(*request),
+            Message::AddPartition(request) => self.add_partition(*request),
+            Message::EndTxn(request) => self.end_txn(*request),
+            Message::MarkerReply(reply) => self.marker_reply(*reply),
+            Message::InitReply(_)
+            | Message::EndReply(_)
+            | Message::Produce(_)
+            | Message::ProduceReply(_)
+            | Message::AddReply(_)
+            | Message::WriteMarker(_)
+            | Message::Fetch(_)
+            | Message::FetchReply(_)
+            | Message::Join(_)
+            | Message::JoinReply(_)
+            | Message::Leave(_)
+            | Message::LeaveReply(_)
+            | Message::TxnOffsetCommit(_)
+            | Message::OffsetsReply(_)
+            | Message::OffsetFetch(_)
+            | Message::OffsetFetchReply(_) => Ok(self.rest()),
+        }
+    }
+
+    // It is this moment.
+    fn expire(&mut self, now: u64) -> Result<Taken, AllocError>
+        ensures { MatchResult result (Takes (Expires now) self.old self.new)
+            (λ refused. self.new ≡ self.old) }
+    {
+        // its clause says what the store holds
+        let _rows = self.coordinator.rows();
+        let was_closed = self.coordinator.is_closed();
+        let messages = self.coordinator.expire(now)?;
+        Ok(self.answer(was_closed, messages))
+    }
+
+    // It hands out again the markers that weren't answered.
+    fn remind(&self) -> Result<Taken, AllocError>
+        ensures { IfOk result (Takes Reminds self.now self.now) }
+    {
+        let was_closed = self.coordinator.is_closed();
+        let messages = self.coordinator.remind()?;
+        Ok(self.answer(was_closed, messages))
+    }
+
+    // How many more entries its log has than this many.
+    fn grown(&self, before: usize) -> usize
+        ensures { result ≡ length self.now.log.notes - before }
+    {
+        self.coordinator.entry_count().saturating_sub(before)
+    }
+
+    // What it answers where a restart failed.
+    fn refusal(&self, note: Note, failed: bool, found: bool) -> Taken
+        ensures { result ≡ record {
+          messages = [];
+          note = note;
+          failed = failed;
+          found = found;
+        } }
+    {
+        Taken {
+            messages: Messages::none(self.alloc),
+            note,
+            failed,
+            found,
+        }
+    }
+
+    // It is opened again, at this moment. A restart appends one entry, and finds one more where an
+    // append that had failed left the whole of its entry.
+    fn restart(&mut self, now: u64) -> Result<Taken, AllocError>
+        ensures { MatchResult result (Takes (Restarts now) self.old self.new)
+            (λ refused. Keeps self.old self.new) }
+    {
+        let before = self.coordinator.entry_count();
+        match self.coordinator.restart(now) {
+            Ok(messages) => Ok(Taken {
+                messages: Messages::from_vec(messages),
+                note: Note::Done,
+                failed: false,
+                found: self.grown(before) > 1,
+            }),
+            Err(RestartFault::Unopened(OpenFault::Memory)) => Err(AllocError),
+            Err(RestartFault::Unopened(OpenFault::UsedUp)) => {
+                Ok(self.refusal(Note::UsedUp, false, false))
+            }
+            Err(RestartFault::Unopened(OpenFault::Device | OpenFault::Damaged(_))) => {
+                Ok(self.refusal(Note::Closed(Closing::Read), true, false))
+            }
+            Err(RestartFault::Unwritten) => {
+                let found = self.grown(before) > 0;
+                Ok(self.refusal(Note::Closed(Closing::Write), true, found))
+            }
+        }
+    }
+}
+
+impl<S: Store> Machine for CoordinatorMachine<S> {
+    ghost stands = { Stands };
+
+    ghost allows = { MayDo };
+
+    fn take(&mut self, input: &Input) -> Result<Taken, AllocError> {
+        match input {
+            Input::Deliver(message) => self.message(message),
+            Input::Expire(now) => self.expire(*now),
+            Input::Remind => self.remind(),
+            Input::Restart(now) => self.restart(*now),
+            Input::Command(_) | Input::Drop(_, _) | Input::Put(_) => Ok(self.rest()),
+        }
+    }
+
+    fn deliver(&mut self, message: &Message) -> Result<Taken, AllocError> {
+        self.message(message)
+    }
+
+    fn failures(&self) -> u64 {
+        CoordinatorMachine::failures(self)
+    }
+}
+
+impl<S: Steady> Failing for CoordinatorMachine<FaultStore<S>> {
+    fn prepare(&mut self, mode: StoreMode) {
+        match mode {
+            StoreMode::Works => {
+                self.coordinator.arm(None);
+                self.coordinator.arm_load(false);
+            }
+            StoreMode::Fails { keep } => {
+                self.coordinator.arm(Some(keep));
+                self.coordinator.arm_load(false);
+            }
+            StoreMode::CannotLoad => {
+                self.coordinator.arm(None);
+                self.coordinator.arm_load(true);
+            }
+        }
+    }
+}
