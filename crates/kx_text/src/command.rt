@@ -6,8 +6,8 @@ ghost use Rattle.kx_text.specs.World.{is_committed};
 
 use crate::words::{SomeWords, Words, number_below};
 
-// How many bytes a fetch shows where it doesn't say.
-const DEFAULT_MAX: u32 = 1_048_588;
+/// How many bytes a fetch shows where it doesn't say.
+pub const DEFAULT_MAX: u32 = 1_048_588;
 
 /// A command of a script.
 #[derive(Drop)]
@@ -80,7 +80,8 @@ fn max_of(mut words: Words<'_>) -> Option<u32>
     Some(max as u32)
 }
 
-fn mode_of(word: &[u8]) -> Option<Mode>
+/// The mode of a fetch that a word names.
+pub fn mode_of(word: &[u8]) -> Option<Mode>
     ensures { result ≡ mode_of word.now }
 {
     if word == b"all".as_slice() {

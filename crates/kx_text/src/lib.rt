@@ -13,7 +13,10 @@ mod script;
 mod words;
 mod world;
 
+pub use answers::{write_answer, write_refusal};
+pub use command::{DEFAULT_MAX, Mode, mode_of};
 pub use dump::{DumpFault, dump_batches};
 pub use fault::ScriptFault;
 pub use program::{Ending, run_dump, run_sim};
-pub use script::run_script;
+pub use script::{next_line, run_script, show, written};
+pub use words::{Words, number, number_below, without_newline, words_of};

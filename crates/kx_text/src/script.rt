@@ -21,7 +21,12 @@ use std::io::{BufRead, ErrorKind, Write};
 // How many lines a script has at most.
 const LINES: u64 = 1 << 32;
 
-fn written(done: io::Result<()>) -> Result<(), ScriptFault>
+/// What a write is to a script.
+///
+/// # Errors
+///
+/// [`ScriptFault::Write`] where it failed.
+pub fn written(done: io::Result<()>) -> Result<(), ScriptFault>
     ensures { MatchResult result (λ _. IsOk done) (λ f. f ≡ fault.Write) }
 {
     match done {
@@ -30,8 +35,12 @@ fn written(done: io::Result<()>) -> Result<(), ScriptFault>
     }
 }
 
-// Reads the next line, with its newline; false where there is none.
-fn next_line<R: BufRead>(reader: &mut R, line: &mut Vec<u8>) -> Result<bool, ScriptFault>
+/// Reads the next line, with its newline; false where there is none.
+///
+/// # Errors
+///
+/// [`ScriptFault::Read`] where the reader failed, and [`ScriptFault::Memory`].
+pub fn next_line<R: BufRead>(reader: &mut R, line: &mut Vec<u8>) -> Result<bool, ScriptFault>
     ensures { IfSome (R.remaining reader.old)
         (λ bytes. ReadsLine bytes (R.remaining reader.new) line.new.items result) }
 {
@@ -108,8 +117,13 @@ fn show_records<W: Write>(
     }
 }
 
-// Writes a page: its records, and where it ends.
-fn show<W: Write>(
+/// Writes a page: its records, and where it ends.
+///
+/// # Errors
+///
+/// [`ScriptFault::Write`] where the writer failed, and [`ScriptFault::Memory`], which leaves the
+/// writer as it was.
+pub fn show<W: Write>(
     alloc: Global,
     page: FetchPage<'_>,
     from: i64,

@@ -126,8 +126,8 @@ pub fn words_of<'a>(line: &'a [u8]) -> Option<Words<'a>>
     Some(Words::of(line))
 }
 
-// The number that the digits write, where it fits.
-fn number(word: &[u8]) -> Option<u64>
+/// The number that a word writes in decimal digits, where it fits.
+pub fn number(word: &[u8]) -> Option<u64>
     ensures { result ≡ below (2 ^ 64) (number_of word.now) }
 {
     if word.is_empty() {
