@@ -3,8 +3,8 @@
 use crate::parts::{Parts, nothing};
 use crate::words::{caller, code, held, partition, raised};
 use kx_cases::{StepFault, Subject, Texts, known, told_name, told_value, value};
-use kx_coord::Coordinator;
-use kx_log::{FaultStore, MemStore, Store};
+use kx_coord::{Coordinator, RestartFault};
+use kx_log::{FaultStore, MemStore, OpenFault, Store};
 use kx_message::{
     AddPartition, EndTxn, InitProducerId, MarkerReply, Message, Outcome, Timeout, TxnId,
 };
@@ -81,7 +81,8 @@ fn init(
 fn restart(alloc: Global, running: &mut Running, now: u64) -> Result<String, StepFault> {
     match running.restart(now) {
         Ok(messages) => handed(alloc, messages.as_slice()),
-        Err(fault) => told_name(alloc, fault),
+        Err(RestartFault::Unopened(fault)) => told_name(alloc, fault),
+        Err(RestartFault::Unwritten) => told_name(alloc, OpenFault::Device),
     }
 }
 

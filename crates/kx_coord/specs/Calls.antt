@@ -20,6 +20,8 @@ use Rattle.kx_txnlog.specs.LogState.{AppendBreaks, IsAppendedTo, LogState}
 use Rattle.kx_txnlog.specs.Opening.{IsDamaged, IsOpened}
 use Rattle.kx_txnlog.specs.Ranges.{IsEntry}
 use Rattle.kx_coord.specs.CoordinatorState.{CoordinatorState}
+use Rattle.kx_coord.specs.declared.fault.RestartFault.{RestartFault}
+use Rattle.kx_coord.specs.declared.fault.RestartFault.TheVariants.{Unopened, Unwritten}
 use Rattle.kx_coord.specs.Noted.{SameAnswered}
 
 ------ appending
@@ -169,13 +171,13 @@ pub record RestartBreaks (old new : CoordinatorState) (now : ℕ) : Type 0 where
   pub answered : new.answered ≡ []
 
 -- why a restart failed, and what it leaves
-abbrev pub RestartRefuses : CoordinatorState → CoordinatorState → ℕ → OpenFault → Type 0
-RestartRefuses old new now Device =
-    (OpenFailed old.log.store new.log.store × (new ≡ closed_on old new.log.store))
-    ⊎ RestartBreaks old new now
-RestartRefuses old new now (Damaged place) = IsDamaged old.log.store.bytes place
+abbrev pub RestartRefuses : CoordinatorState → CoordinatorState → ℕ → RestartFault → Type 0
+RestartRefuses old new now (Unopened Device) =
+    OpenFailed old.log.store new.log.store × (new ≡ closed_on old new.log.store)
+RestartRefuses old new now (Unopened (Damaged place)) = IsDamaged old.log.store.bytes place
     × MayLoad old.log.store.loads × (new ≡ closed_on old old.log.store)
-RestartRefuses old new now Memory = (new ≡ old)
+RestartRefuses old new now (Unopened Memory) = (new ≡ old)
     ⊎ (IsCutTo old.log.store new.log.store × (new ≡ on_store old new.log.store))
-RestartRefuses old new now UsedUp =
+RestartRefuses old new now (Unopened UsedUp) =
     RunsOut old.log.store new.log.store × (new ≡ on_store old new.log.store)
+RestartRefuses old new now Unwritten = RestartBreaks old new now

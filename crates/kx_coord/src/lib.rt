@@ -9,6 +9,7 @@ mod answer;
 mod coordinator;
 mod end_txn;
 mod expiry;
+mod fault;
 mod init_producer_id;
 mod markers;
 mod noted;
@@ -19,3 +20,4 @@ mod settling;
 mod table;
 
 pub use coordinator::Coordinator;
+pub use fault::RestartFault;

@@ -7,6 +7,7 @@ ghost use Rattle.kx_coord.specs.Calls.{IsOpen, OpenRefuses, RestartRefuses};
 ghost use Rattle.kx_coord.specs.Internal.Deciding.{IsTaken, TakeFaults, open_fault_of};
 
 use crate::coordinator::Coordinator;
+use crate::fault::RestartFault;
 use crate::markers::all_markers;
 use crate::noted::NotedMarkers;
 use crate::table::Table;
@@ -120,10 +121,12 @@ impl<S: Store> Coordinator<S> {
     ///
     /// # Errors
     ///
-    /// As [`open`](Coordinator::open). After [`OpenFault::Device`] and [`OpenFault::Damaged`] the
-    /// coordinator is closed, and as before, or, where only the coordinator epoch wasn't appended,
-    /// as its log was read again. After the other faults it is as before.
-    pub fn restart(&mut self, now: u64) -> Result<Vec<Message>, OpenFault>
+    /// [`RestartFault::Unopened`] with a fault of [`open`](Coordinator::open): after
+    /// [`OpenFault::Device`], where the log couldn't be read, and [`OpenFault::Damaged`] the
+    /// coordinator is closed, and else as before; after the others it is as before.
+    /// [`RestartFault::Unwritten`] where the device failed in the append of the coordinator epoch:
+    /// the coordinator is then as its log was read again, and closed.
+    pub fn restart(&mut self, now: u64) -> Result<Vec<Message>, RestartFault>
         ensures { MatchResult result
             (λ handed. IsOpen self.old.log.store now self.new handed.items)
             (RestartRefuses self.old self.new now) }
@@ -134,13 +137,13 @@ impl<S: Store> Coordinator<S> {
         let appended = match self.log.install_with(content, entry) {
             Ok(()) => true,
             Err(StoreFault::Device) => false,
-            Err(StoreFault::Memory) => return Err(OpenFault::Memory),
+            Err(StoreFault::Memory) => return Err(OpenFault::Memory.into()),
         };
         self.table.replace(opening.table);
         self.clock = now;
         self.answered.forget_all();
         if !appended {
-            return Err(OpenFault::Device);
+            return Err(RestartFault::Unwritten);
         }
         self.table.epoch = opening.epoch;
         Ok(opening.handed)
