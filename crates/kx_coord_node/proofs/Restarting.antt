@@ -75,7 +75,7 @@ cut_to co old new notes runs opened rest =
             ∙ read_same co old new.log.store notes runs opened;
         right = subst IsRight (sym (ap (λ (r : ReadNotes). r.fault) held)) tt;
       };
-      open = runs.open;
+      behind = runs.behind;
     }
 
 ------ it is open again
@@ -124,7 +124,7 @@ takes_open old new now handed t o is =
           (log ++ []) refl (more ∙ sym (append-nil log))
           (stored_whole o.read new.log o.note
           (holds_read old.log.store o.read.store o.read.notes opened_so) o.log);
-      open = λ e. refl;
+      behind = λ e. refl;
     } in
     record {
       store = Works;
@@ -205,7 +205,7 @@ takes_unwritten old new now t b is =
           (reread co.disk ++ behind) refl (ap (λ (ns : List Note). ns ++ behind) same)
           (stored_left b.read new.log b.note
           (holds_read old.log.store b.read.store b.read.notes opened_so) b.log);
-      open = λ e. let no : true ≡ false = e in absurd cc;
+      behind = λ e. let no : true ≡ false = e in absurd cc;
     } in
     record {
       store = Fails whole;
@@ -243,7 +243,7 @@ takes_unread old new now t failed rest is =
             (sym (ap (λ (c : CoordinatorState). c.answered) rest)) runs.answered;
         stored = read_as old.log.store.bytes new.log.store.bytes (reread co.disk) (reread co.disk)
             (ap (λ (s : StoreState). s.bytes) failed.rest) refl runs.stored;
-        open = λ e. let no : true ≡ false = e in absurd cc;
+        behind = λ e. let no : true ≡ false = e in absurd cc;
       };
       answer = is;
     })
@@ -285,10 +285,10 @@ takes_used_up old new now t out rest is =
     let s = readable old.log.store.appends old.log.store.loads out.opened.may in
     let last : reopen (reread co.disk) ≡ None =
     ap reopen (sym (read_same co old new.log.store out.notes runs out.opened)) ∙ out.last in
-    let step = runs_out_step co now s.0 last s.1.1 in
+    let step = runs_out_step co now s.0 last s.2 in
     record {
       store = s.0;
-      allowed = s.1.0;
+      allowed = s.1;
       stands = subst (λ (x : NodeStep Coordinator). RunsAs x.state new) (sym step)
           (cut_to co old new out.notes runs out.opened rest);
       answer = is

@@ -74,7 +74,7 @@ answers_change co mid new xs runs same rest = record {
   answered = same;
   stored = subst (λ (l : LogState). ReadAs l.store.bytes (reread co.disk))
       (sym (ap (λ (c : CoordinatorState). c.log) rest)) runs.stored;
-  open = runs.open;
+  behind = runs.behind;
 }
 
 completed_by : (co : Coordinator) (old mid new : CoordinatorState) (row : Row) (written : Bool)

@@ -205,7 +205,7 @@ runs_on co old new note runs holds done rest =
           ((co.disk.kept ++ note ∷ []) ++ []) refl
           (more ∙ sym (append-nil (co.disk.kept ++ note ∷ [])))
           (stored_whole old.log new.log note (holds done.not_closed) done);
-      open = λ e. refl;
+      behind = λ e. refl;
     }
 
 breaks_off : (co : Coordinator) (old new : CoordinatorState) (note : Note) → RunsAs co old
@@ -222,7 +222,7 @@ breaks_off co old new note runs holds breaks rest =
       stored = read_as new.log.store.bytes new.log.store.bytes (old.log.notes ++ behind)
           (co.disk.kept ++ behind) refl (ap (λ (ns : List Note). ns ++ behind) runs.notes)
           (stored_left old.log new.log note (holds breaks.not_closed) breaks);
-      open = λ e. let no : true ≡ false = e in absurd cc;
+      behind = λ e. let no : true ≡ false = e in absurd cc;
     }
 
 -- what goes out with an entry that was appended
@@ -261,15 +261,15 @@ pub appends : (co : Coordinator) (old new : CoordinatorState) (note : Note)
 appends co old new note done failed handed runs holds has written rest out =
     let s = wrote old.log.store.appends old.log.store.loads written.store.may in
     let step = written_at co s.0 note done failed false has
-    ∙ writes_all co s.0 note done failed (sym runs.closed ∙ written.not_closed) s.1.1 in
+    ∙ writes_all co s.0 note done failed (sym runs.closed ∙ written.not_closed) s.2 in
     let does : Does (λ store. writes co store note done failed) old new handed = record {
       store = s.0;
-      allowed = s.1.0;
+      allowed = s.1;
       stands = subst (λ (x : Coordinated). RunsAs x.0 new) (sym step)
           (runs_on co old new note runs holds written rest);
       handed_is = out ∙ sym (ap (λ (x : Coordinated). x.1) step);
     } in
-    (does, appended_all co s.0 note has (sym runs.closed ∙ written.not_closed) s.1.1)
+    (does, appended_all co s.0 note has (sym runs.closed ∙ written.not_closed) s.2)
 
 breaks : (co : Coordinator) (old new : CoordinatorState) (note : Note)
     (done failed handed : List Message) → RunsAs co old → IsHeld old → has_no_id note ≡ false
@@ -376,7 +376,7 @@ expires_so co old new now handed runs holds e =
       clock = ap (λ c. max c now) runs.clock;
       answered = runs.answered;
       stored = runs.stored;
-      open = runs.open;
+      behind = runs.behind;
     } in
     let done = expires_by (record co { clock = max co.clock now }) later new handed
     (expire (notes_of co) now) on holds

@@ -52,6 +52,22 @@ answer_of old new handed = record {
   found = false;
 }
 
+-- what is answered where the log was closed before, or wasn't
+pub answered_so : (old new : CoordinatorState) (handed : List Message) (was : Bool) (t : Taken)
+    → t ≡ record {
+      messages = handed;
+      note = note.Done;
+      failed = not was && new.log.closed;
+      found = false;
+    } → was ≡ old.log.closed → t ≡ answer_of old new handed
+answered_so old new handed was t is same =
+    is ∙ ap (λ (b : Bool). record {
+      messages = handed;
+      note = note.Done;
+      failed = not b && new.log.closed;
+      found = false;
+    }) same
+
 -- a step that is the definitions'
 taken : (co : Coordinator) (old new : CoordinatorState) (input : Input)
     (step : Store → Coordinated) (handed : List Message) (t : Taken) → RunsAs co old

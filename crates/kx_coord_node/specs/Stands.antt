@@ -27,7 +27,7 @@ pub record RunsAs (co : Coordinator) (running : CoordinatorState) : Type 0 where
   -- what a restart reads
   pub stored : ReadAs running.log.store.bytes (reread co.disk)
   -- only a log that is closed has an entry behind it
-  pub open : co.disk.closed ≡ false → co.disk.hidden ≡ None
+  pub behind : co.disk.closed ≡ false → co.disk.hidden ≡ None
 
 abbrev pub Stands : NodeState → CoordinatorState → Type 0
 Stands (AtCoordinator co) running = RunsAs co running

@@ -1,5 +1,5 @@
 //! The coordinator, and what it does with each input.
-ghost use Rattle.std.specs.Prelude.{◌≡◌, ◌&&◌, not, length, false, [], MatchResult};
+ghost use Rattle.std.specs.Prelude.{◌≡◌, ◌&&◌, ◌-◌, not, length, false, [], IfOk, MatchResult};
 ghost use Rattle.kx_coord.specs.Calls.{OpenRefuses};
 ghost use Rattle.kx_coord_node.specs.Stands.{Keeps, MayDo, Stands, Takes};
 ghost use Rattle.kx_machine.specs.Meaning.{made_as};
@@ -7,6 +7,7 @@ ghost use Rattle.kx_machine.specs.declared.machine.Making.TheVariants as making;
 ghost use Rattle.kx_machine.specs.declared.taken.Note.TheVariants as note;
 ghost use Rattle.kx_message.specs.declared.message.Message.TheVariants as msg;
 ghost use Rattle.kx_model.specs.Step.{Comes, Expires, Reminds, Restarts};
+ghost use Rattle.kx_txnlog.specs.Opening.{Holds};
 
 use kx_coord::{Coordinator, RestartFault};
 use kx_log::{FaultStore, OpenFault, Steady, Store};
@@ -61,6 +62,17 @@ impl<S: Store> CoordinatorMachine<S> {
         self.coordinator.failures()
     }
 
+    // Whether its log is closed. Where it isn't, the store holds its entries, and nothing more.
+    fn is_closed(&self) -> bool
+        ensures value { result ≡ self.now.log.closed }
+        ensures holds { self.now.log.closed ≡ false
+            → Holds self.now.log.store.bytes self.now.log.notes }
+    {
+        // its clause says what the store holds
+        let _rows = self.coordinator.rows();
+        self.coordinator.is_closed()
+    }
+
     // What it answers with these messages, where its log was closed before, or wasn't.
     fn answer(&self, was_closed: bool, messages: Vec<Message>) -> Taken
         ensures { result ≡ record {
@@ -101,9 +113,7 @@ impl<S: Store> CoordinatorMachine<S> {
             (Takes (Comes (msg.InitProducerId request)) self.old self.new)
             (λ refused. self.new ≡ self.old) }
     {
-        // its clause says what the store holds
-        let _rows = self.coordinator.rows();
-        let was_closed = self.coordinator.is_closed();
+        let was_closed = self.is_closed();
         let messages = self.coordinator.init(request)?;
         Ok(self.answer(was_closed, messages))
     }
@@ -114,9 +124,7 @@ impl<S: Store> CoordinatorMachine<S> {
             (Takes (Comes (msg.AddPartition request)) self.old self.new)
             (λ refused. self.new ≡ self.old) }
     {
-        // its clause says what the store holds
-        let _rows = self.coordinator.rows();
-        let was_closed = self.coordinator.is_closed();
+        let was_closed = self.is_closed();
         let messages = self.coordinator.add_partition(request)?;
         Ok(self.answer(was_closed, messages))
     }
@@ -127,9 +135,7 @@ impl<S: Store> CoordinatorMachine<S> {
             (Takes (Comes (msg.EndTxn request)) self.old self.new)
             (λ refused. self.new ≡ self.old) }
     {
-        // its clause says what the store holds
-        let _rows = self.coordinator.rows();
-        let was_closed = self.coordinator.is_closed();
+        let was_closed = self.is_closed();
         let messages = self.coordinator.end_txn(request)?;
         Ok(self.answer(was_closed, messages))
     }
@@ -140,9 +146,7 @@ impl<S: Store> CoordinatorMachine<S> {
             (Takes (Comes (msg.MarkerReply reply)) self.old self.new)
             (λ refused. self.new ≡ self.old) }
     {
-        // its clause says what the store holds
-        let _rows = self.coordinator.rows();
-        let was_closed = self.coordinator.is_closed();
+        let was_closed = self.is_closed();
         let messages = self.coordinator.marker_reply(reply)?;
         Ok(self.answer(was_closed, messages))
     }
@@ -181,9 +185,7 @@ impl<S: Store> CoordinatorMachine<S> {
         ensures { MatchResult result (Takes (Expires now) self.old self.new)
             (λ refused. self.new ≡ self.old) }
     {
-        // its clause says what the store holds
-        let _rows = self.coordinator.rows();
-        let was_closed = self.coordinator.is_closed();
+        let was_closed = self.is_closed();
         let messages = self.coordinator.expire(now)?;
         Ok(self.answer(was_closed, messages))
     }
@@ -192,7 +194,7 @@ impl<S: Store> CoordinatorMachine<S> {
     fn remind(&self) -> Result<Taken, AllocError>
         ensures { IfOk result (Takes Reminds self.now self.now) }
     {
-        let was_closed = self.coordinator.is_closed();
+        let was_closed = self.is_closed();
         let messages = self.coordinator.remind()?;
         Ok(self.answer(was_closed, messages))
     }

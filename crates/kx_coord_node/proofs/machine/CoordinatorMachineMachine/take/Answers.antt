@@ -1,0 +1,5 @@
+
+use Rattle.kx_coord_node.proofs.machine.CoordinatorMachineMachine.take.Goals as goal
+
+pub returns-in-Command : goal.returns-in-Command
+returns-in-Command g c = ?
