@@ -1,7 +1,7 @@
 -- A restart: what is read again, and what the machine answers.
 use Rattle.std.proofs.Common.{◌≡◌, ◌∙◌, ◌⊎◌, ◌-◌, ◌<◌, ℕ, Bool, true, false, not, List, [], ◌∷◌}
 use Rattle.std.proofs.Common.{◌++◌, length, length-append, take, refl, sym, ap, subst, inl, inr}
-use Rattle.std.proofs.Common.{Option, Some, None, arith, nat_lt, is_some}
+use Rattle.std.proofs.Common.{Option, Some, None, arith, nat_lt, is_some, pos}
 use Rattle.std.specs.Prelude.{◌==◌, ◌&&◌, if◌then◌else◌, is_none, option_to_list}
 use Rattle.std.proofs.lemmas.Bool.Decides.{nat_tests}
 use Rattle.std.proofs.lemmas.List.{append-nil}
@@ -10,12 +10,12 @@ use Rattle.kx_log.specs.Store.{MayAppend, MayLeave, StoreState}
 use Rattle.kx_machine.specs.Meaning.{AtClient, AtCoordinator, AtPartition, IsTaken, of_kind}
 use Rattle.kx_machine.specs.Meaning.{taken_of}
 use Rattle.kx_machine.specs.declared.taken.Closing.TheVariants.{Read, Write}
+use Rattle.kx_machine.specs.declared.taken.Note as answer
 use Rattle.kx_machine.specs.declared.taken.Note.TheVariants as note
 use Rattle.kx_machine.specs.declared.taken.Taken.{Taken}
 use Rattle.kx_message.specs.declared.message.Message.{Message}
-use Rattle.kx_model.specs.Coordinator.{Note}
-use Rattle.kx_model.specs.CoordinatorNode.{Coordinated, Coordinator, coordinator_restarts, opened}
-use Rattle.kx_model.specs.CoordinatorNode.{opens}
+use Rattle.kx_model.specs.Coordinator.{Note, CoordinatorEpoch, coordinator_epoch}
+use Rattle.kx_model.specs.CoordinatorNode.{Coordinator, new_coordinator, opened, opens}
 use Rattle.kx_model.specs.Disk.{Store, Works, Fails, CannotLoad, CannotRead, CannotWrite, Reopening}
 use Rattle.kx_model.specs.Disk.{Reopens, reopening, reread, shut}
 use Rattle.kx_model.specs.Markers.{Answered, all_markers, reopen}
@@ -23,8 +23,8 @@ use Rattle.kx_model.specs.Step.{NodeStep, Restarts, RunsOut, StepNote, Done, Unr
 use Rattle.kx_model.specs.Step.{coordinates, coordinator_step}
 use Rattle.kx_txnlog.specs.Layout.{entry_text}
 use Rattle.kx_txnlog.specs.LogState.{AppendBreaks, IsAppendedTo, LogState}
-use Rattle.kx_txnlog.specs.Opening.{Holds, IsDamaged, IsOpened, IsRight, IsWrong}
-use Rattle.kx_txnlog.specs.Reading.{ReadNotes, notes_in}
+use Rattle.kx_txnlog.specs.Opening.{AreIn, Holds, IsDamaged, IsOpened, IsRight, IsWrong}
+use Rattle.kx_txnlog.specs.Reading.{ReadNotes, notes_from, notes_in}
 use Rattle.kx_txnlog.specs.declared.fault.EntryFault.{EntryFault}
 use Rattle.kx_txnlog.specs.declared.fault.EntryFault.TheVariants.{Short, Length, Kind, Field}
 use Rattle.kx_txnlog.specs.declared.fault.EntryFault.TheVariants.{Memory}
@@ -86,6 +86,46 @@ found_one : (kept : List Note) (hidden : Option Note) (note : Note)
 found_one kept None note = grind (arith, nat_tests, length-append)
 found_one kept (Some x) note = grind (arith, nat_tests, length-append)
 
+-- it has what was read, and the entry of its opening
+runs_open : (store : StoreState) (log : List Note) (now : ℕ) (new : CoordinatorState)
+    (handed : List Message) → (o : IsOpen store now new handed) → o.read.notes ≡ log
+    → RunsAs (opened log now o.note Reopens).0 new
+runs_open store log now new handed o same =
+    let more : o.read.notes ++ o.note ∷ [] ≡ log ++ o.note ∷ [] =
+    ap (λ (ns : List Note). ns ++ o.note ∷ []) same in
+    record {
+      notes = ap (λ (l : LogState). l.notes) o.log.rest ∙ more;
+      closed = ap (λ (l : LogState). l.closed) o.log.rest ∙ o.reads.not_closed;
+      clock = o.clock;
+      answered = none_answered new.answered o.answered;
+      stored = read_as new.log.store.bytes new.log.store.bytes (o.read.notes ++ o.note ∷ [])
+          ((log ++ o.note ∷ []) ++ []) refl (more ∙ sym (append-nil (log ++ o.note ∷ [])))
+          (stored_whole o.read new.log o.note
+          (holds_read store o.read.store o.read.notes o.reads.opened) o.log);
+      behind = λ e. refl;
+    }
+
+-- an empty store is read as an empty log, whose opening has the first epoch
+no_notes : (bytes : List ℕ) (len : ℕ) (notes : List Note) → AreIn bytes len notes → bytes ≡ []
+    → notes ≡ []
+unfolding notes_from
+no_notes bytes len notes are none = are.notes_are ∙ ap (λ b. (notes_in b).notes) none
+
+first_epoch : (note : Note) → reopen [] ≡ Some note → note ≡ CoordinatorEpoch (pos 1)
+unfolding coordinator_epoch
+first_epoch note e =
+    let first : Some (CoordinatorEpoch (pos 1)) ≡ Some note = e in
+    sym (some_is (CoordinatorEpoch (pos 1)) note first)
+
+pub made_open : (store : StoreState) (new : CoordinatorState) (handed : List Message)
+    → IsOpen store 0 new handed → store.bytes ≡ [] → RunsAs new_coordinator new
+made_open store new handed o none =
+    let opened_so = o.reads.opened in
+    let empty = no_notes store.bytes opened_so.len o.read.notes opened_so.notes_are none in
+    let first = first_epoch o.note (ap reopen (sym empty) ∙ o.reads.next) in
+    subst (λ (note : Note). RunsAs (opened [] 0 note Reopens).0 new) first
+    (runs_open store [] 0 new handed o empty)
+
 reopens_step : (co : Coordinator) (now : ℕ) (note : Note) → reopen (reread co.disk) ≡ Some note
     → coordinator_step co Works (Restarts now)
     ≡ coordinates (opened (reread co.disk) now note Reopens) Done
@@ -95,6 +135,19 @@ reopens_step co now note e =
 
 abbrev answer_at : Coordinator → ℕ → NodeStep Coordinator → Taken
 answer_at co now s = taken_of (AtCoordinator co) (Restarts now) (of_kind AtCoordinator s)
+
+-- what is answered to a restart
+abbrev restarted : List Message → answer.Note → Bool → Bool → Taken
+restarted messages note failed found = record {
+  messages = messages;
+  note = note;
+  failed = failed;
+  found = found;
+}
+
+never_open : (b : Bool) → (not b && false) ≡ false
+never_open true = refl
+never_open false = refl
 
 pub takes_open : (old new : CoordinatorState) (now : ℕ) (handed : List Message) (t : Taken)
     → IsOpen old.log.store now new handed
@@ -108,24 +161,10 @@ takes_open old new now handed t o is =
     at_coordinator (Restarts now) old new t (λ co runs.
     let opened_so = o.reads.opened in
     let same = read_same co old o.read.store o.read.notes runs opened_so in
-    let next : reopen (reread co.disk) ≡ Some o.note =
-    ap reopen (sym same) ∙ o.reads.next in
-    let step = reopens_step co now o.note next in
+    let step = reopens_step co now o.note (ap reopen (sym same) ∙ o.reads.next) in
+    let runs_now = runs_open old.log.store (reread co.disk) now new handed o same in
     let log : List Note = reread co.disk ++ o.note ∷ [] in
-    let more : o.read.notes ++ o.note ∷ [] ≡ log =
-    ap (λ (ns : List Note). ns ++ o.note ∷ []) same in
-    let notes : new.log.notes ≡ log = ap (λ (l : LogState). l.notes) o.log.rest ∙ more in
-    let runs_now : RunsAs (opened (reread co.disk) now o.note Reopens).0 new = record {
-      notes = notes;
-      closed = ap (λ (l : LogState). l.closed) o.log.rest ∙ o.reads.not_closed;
-      clock = o.clock;
-      answered = none_answered new.answered o.answered;
-      stored = read_as new.log.store.bytes new.log.store.bytes (o.read.notes ++ o.note ∷ [])
-          (log ++ []) refl (more ∙ sym (append-nil log))
-          (stored_whole o.read new.log o.note
-          (holds_read old.log.store o.read.store o.read.notes opened_so) o.log);
-      behind = λ e. refl;
-    } in
+    let notes : new.log.notes ≡ log = runs_now.notes in
     record {
       store = Works;
       allowed = reopened old.log.store.appends old.log.store.loads
@@ -133,32 +172,16 @@ takes_open old new now handed t o is =
           opened_so.may;
       stands = subst (λ (s : NodeStep Coordinator). RunsAs s.state new) (sym step) runs_now;
       answer = is
-          ∙ ap (λ (ms : List Message). record {
-            messages = ms;
-            note = note.Done;
-            failed = false;
-            found = nat_lt 1 (length new.log.notes - length old.log.notes);
-          }) (o.handed ∙ ap all_markers notes)
-          ∙ ap (λ (b : Bool). record {
-            messages = all_markers log;
-            note = note.Done;
-            failed = false;
-            found = b;
-          }) (ap (λ (ns : List Note). nat_lt 1 (length ns - length old.log.notes)) notes
+          ∙ ap (λ (ms : List Message). restarted ms note.Done false
+          (nat_lt 1 (length new.log.notes - length old.log.notes))) (o.handed ∙ ap all_markers notes)
+          ∙ ap (λ (found : Bool). restarted (all_markers log) note.Done false found)
+          (ap (λ (ns : List Note). nat_lt 1 (length ns - length old.log.notes)) notes
           ∙ ap (λ (ns : List Note). nat_lt 1 (length log - length ns)) runs.notes
           ∙ found_one co.disk.kept co.disk.hidden o.note)
-          ∙ ap (λ (b : Bool). record {
-            messages = all_markers log;
-            note = note.Done;
-            failed = b;
-            found = is_some co.disk.hidden;
-          }) (sym (never_open co.disk.closed))
+          ∙ ap (λ (failed : Bool). restarted (all_markers log) note.Done failed
+          (is_some co.disk.hidden)) (sym (never_open co.disk.closed))
           ∙ sym (ap (answer_at co now) step);
     })
-  where
-    never_open : (b : Bool) → (not b && false) ≡ false
-    never_open true = refl
-    never_open false = refl
 
 ------ its epoch couldn't be written
 
@@ -214,16 +237,18 @@ takes_unwritten old new now t b is =
           opened_so.store b.log.store.may) size.0 size.1;
       stands = subst (λ (s : NodeStep Coordinator). RunsAs s.state new) (sym step) runs_now;
       answer = is
-          ∙ ap (λ (f : Bool). record {
-            messages = [];
-            note = note.Closed Write;
-            failed = true;
-            found = f;
-          }) (ap (λ (ns : List Note). nat_lt 0 (length ns - length old.log.notes)) notes
+          ∙ ap (λ (found : Bool). restarted [] (note.Closed Write) true found) (ap (λ (ns : List Note). nat_lt 0 (length ns - length old.log.notes)) notes
           ∙ ap (λ (ns : List Note). nat_lt 0 (length (reread co.disk) - length ns)) runs.notes
           ∙ found_behind co.disk.kept co.disk.hidden)
           ∙ sym (ap (answer_at co now) step);
     })
+
+-- how many entries more there are
+pub grown_so : (old new : CoordinatorState) (least before more : ℕ)
+    → before ≡ length old.log.notes → more ≡ length new.log.notes - before
+    → nat_lt least more ≡ nat_lt least (length new.log.notes - length old.log.notes)
+grown_so old new least before more was is =
+    ap (nat_lt least) (is ∙ ap (λ n. length new.log.notes - n) was)
 
 ------ it couldn't be read
 
@@ -292,12 +317,7 @@ takes_used_up old new now t out rest is =
       stands = subst (λ (x : NodeStep Coordinator). RunsAs x.state new) (sym step)
           (cut_to co old new out.notes runs out.opened rest);
       answer = is
-          ∙ ap (λ (b : Bool). record {
-            messages = [];
-            note = note.UsedUp;
-            failed = b;
-            found = false;
-          }) (sym (never_both co.disk.closed))
+          ∙ ap (λ (failed : Bool). restarted [] note.UsedUp failed false) (sym (never_both co.disk.closed))
           ∙ sym (ap (answer_at co now) step);
     })
 

@@ -205,3 +205,21 @@ takes_nothing input old t steps none is =
       failed = b;
       found = false;
     }) (sym (never_both old.log.closed))))
+
+-- a message that is for another node
+pub takes_other : (m : Message) (old : CoordinatorState) (t : Taken)
+    → ((it : InitProducerId) → m ≡ msg.InitProducerId it → ⊥)
+    → ((it : AddPartition) → m ≡ msg.AddPartition it → ⊥)
+    → ((it : EndTxn) → m ≡ msg.EndTxn it → ⊥)
+    → ((it : MarkerReply) → m ≡ msg.MarkerReply it → ⊥)
+    → t ≡ record { messages = []; note = note.Done; failed = false; found = false }
+    → Takes (Comes m) old old t
+takes_other (msg.InitProducerId it) old t no_init no_add no_end no_reply is =
+    absurd (no_init it refl)
+takes_other (msg.AddPartition it) old t no_init no_add no_end no_reply is =
+    absurd (no_add it refl)
+takes_other (msg.EndTxn it) old t no_init no_add no_end no_reply is = absurd (no_end it refl)
+takes_other (msg.MarkerReply it) old t no_init no_add no_end no_reply is =
+    absurd (no_reply it refl)
+takes_other m old t no_init no_add no_end no_reply is =
+    takes_nothing (Comes m) old t (λ co store. refl) (λ co. refl) is

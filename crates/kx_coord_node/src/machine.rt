@@ -161,22 +161,8 @@ impl<S: Store> CoordinatorMachine<S> {
             Message::AddPartition(request) => self.add_partition(*request),
             Message::EndTxn(request) => self.end_txn(*request),
             Message::MarkerReply(reply) => self.marker_reply(*reply),
-            Message::InitReply(_)
-            | Message::EndReply(_)
-            | Message::Produce(_)
-            | Message::ProduceReply(_)
-            | Message::AddReply(_)
-            | Message::WriteMarker(_)
-            | Message::Fetch(_)
-            | Message::FetchReply(_)
-            | Message::Join(_)
-            | Message::JoinReply(_)
-            | Message::Leave(_)
-            | Message::LeaveReply(_)
-            | Message::TxnOffsetCommit(_)
-            | Message::OffsetsReply(_)
-            | Message::OffsetFetch(_)
-            | Message::OffsetFetchReply(_) => Ok(self.rest()),
+            // the others are for other nodes
+            _ => Ok(self.rest()),
         }
     }
 

@@ -1,5 +1,4 @@
-
 use Rattle.kx_coord_node.proofs.machine.CoordinatorMachine.message.Goals as goal
 
-pub returns-in-InitReply : goal.returns-in-InitReply
-returns-in-InitReply g c = ?
+pub returns-in_default : goal.returns-in_default
+returns-in_default g c = ?

@@ -1,3 +1,6 @@
+use Rattle.std.proofs.Common.{◌∙◌, ap}
+use Rattle.kx_coord.specs.CoordinatorState.{CoordinatorState}
+use Rattle.kx_model.specs.Markers.{remind}
 use Rattle.kx_coord_node.proofs.Taking.{answered_so, takes_reminder}
 use Rattle.kx_coord_node.proofs.machine.CoordinatorMachine.remind.Goals as goal
 
@@ -5,6 +8,8 @@ pub returns : goal.returns
 returns g c =
     let old = c.args.self.now in
     let handed = c.in_ok-messages.messages.items in
-    takes_reminder old handed c.answer.result c.in_ok-messages.ensures.ok
+    let handed_is = c.in_ok-messages.ensures.ok
+    ∙ ap (λ (s : CoordinatorState). remind s.log.notes s.answered) c.self.view_is in
+    takes_reminder old handed c.answer.result handed_is
     (answered_so old old handed c.is_closed-was_closed.result c.answer.result c.answer.ensures
     c.is_closed-was_closed.ensures.value)
