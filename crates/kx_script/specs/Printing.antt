@@ -1,5 +1,6 @@
 -- What is printed of a step, and of what is read of nodes.
 use Rattle.std.specs.Prelude.{ℕ, ℤ, ◌+◌, List, [], ◌∷◌, ◌++◌, codes, decimal, flat_map}
+use Rattle.std.specs.Prelude.{Option, None, Some}
 use Rattle.std.specs.Fmt.{signed_decimal}
 use Rattle.kx_client.specs.declared.fault.ClientFault.{ClientFault}
 use Rattle.kx_client.specs.declared.fault.ClientFault.TheVariants as fault
@@ -27,6 +28,11 @@ abbrev pub message_line : ℕ → Node → Message → List ℕ
 message_line number from m =
     codes "#" ++ decimal number ++ codes " " ++ node_text from ++ codes ">"
     ++ node_text (receiver_of m) ++ codes " " ++ message_text m ++ newline
+
+-- the same, where there is such a message
+abbrev pub optional_line : ℕ → Node → Option Message → List ℕ
+optional_line number from None = []
+optional_line number from (Some m) = message_line number from m
 
 -- messages that a node hands out, of which the first has this number
 abbrev pub message_lines : ℕ → Node → List Message → List ℕ

@@ -1,5 +1,5 @@
 //! Which order a line spells.
-ghost use Rattle.std.specs.Prelude.{◌≡◌, MatchOption, None, Some, option_copied};
+ghost use Rattle.std.specs.Prelude.{◌≡◌, ◌<◌, ◌^◌, IfSome, MatchOption, None, Some, option_copied};
 ghost use Rattle.kx_script.specs.Command as spells;
 
 use crate::count::PartitionCount;
@@ -72,8 +72,10 @@ fn partition_of(word: &[u8]) -> Option<PartitionId>
     PartitionId::try_from(number as u16).ok()
 }
 
+// An offset, or the number of a message.
 fn offset_of(word: &[u8]) -> Option<u64>
-    ensures { result ≡ spells.offset_of word.now }
+    ensures value { result ≡ spells.offset_of word.now }
+    ensures bound { IfSome result (λ offset. offset < 2 ^ 63) }
 {
     number_below(word, 1 << 63)
 }

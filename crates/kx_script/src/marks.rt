@@ -7,7 +7,7 @@ ghost use Rattle.kx_script.specs.Session.{mark_at, no_marks, with_mark};
 
 use crate::order::Left;
 use kx_machine::StoreMode;
-use kx_message::{Node, PartitionId};
+use kx_message::Node;
 
 /// Of each node what its next append leaves in its store, where it is to fail. What a restart
 /// appends doesn't count.
@@ -34,24 +34,24 @@ impl Marks {
     }
 
     /// What the next append of a node is to leave, where it is to fail.
-    pub fn at(&self, node: Node) -> Option<Left>
-        ensures { result ≡ mark_at self.now node }
+    pub fn at(&self, node: &Node) -> Option<Left>
+        ensures { result ≡ mark_at self.now node.now }
     {
         match node {
             Node::Coordinator => self.coordinator,
-            Node::Partition(PartitionId::OFFSETS) => self.offsets,
+            Node::Partition(partition) if !partition.is_data() => self.offsets,
             Node::Partition(partition) => self.partitions[partition.get() as usize],
             Node::Client(_) => None,
         }
     }
 
     /// Lets the next append of a node fail, or takes that back.
-    pub fn set(&mut self, node: Node, mark: Option<Left>)
-        ensures { self.new ≡ with_mark self.old node mark }
+    pub fn set(&mut self, node: &Node, mark: Option<Left>)
+        ensures { self.new ≡ with_mark self.old node.now mark }
     {
         match node {
             Node::Coordinator => self.coordinator = mark,
-            Node::Partition(PartitionId::OFFSETS) => self.offsets = mark,
+            Node::Partition(partition) if !partition.is_data() => self.offsets = mark,
             Node::Partition(partition) => self.partitions[partition.get() as usize] = mark,
             Node::Client(_) => {}
         }

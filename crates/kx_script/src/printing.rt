@@ -24,11 +24,11 @@ pub fn write_dash<W: Write>(writer: &mut W) -> io::Result<()>
 pub fn write_message<W: Write>(
     writer: &mut W,
     number: usize,
-    from: Node,
+    from: &Node,
     message: &Message,
 ) -> io::Result<()>
     ensures { OnOk result (Appends (W.contents writer.old) (W.contents writer.new)
-        (message_line number from message.now)) }
+        (message_line number from.now message.now)) }
 {
     let to = message.receiver();
     writeln!(writer, "#{number} {from}>{to} {message}")

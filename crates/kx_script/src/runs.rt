@@ -81,7 +81,7 @@ pub trait Runs: Drop {
     /// Only for want of memory; then nothing happens.
     fn hand(&mut self, to: Node, input: Input, store: StoreMode) -> Result<Happened, AllocError>
         ensures { (w : World) → stands w self.old → MatchResult result
-            (Happens w (Hands to input.entry store) (λ v. stands v self.new))
+            (Happens w (Hands to input store) (λ v. stands v self.new))
             (λ refused. stands w self.new) };
 
     /// How many data partitions there are.

@@ -59,7 +59,7 @@ fn perform_in<N: Runs, W: Write>(
     match order {
         Order::World(_) => Ok(false),
         Order::Happen(what) => happen(alloc, running, what, writer),
-        Order::Fail(place, left) => fail(running, place, left, writer),
+        Order::Fail(place, left) => fail(running, &place, left, writer),
         Order::Fetch(partition, from, mode, max) => {
             fetch(alloc, running, partition, from, mode, max, writer)
         }

@@ -1,12 +1,13 @@
 //! A world under a script: what a line lets happen in it, and which appends of its nodes fail.
 ghost use Rattle.std.specs.Prelude.{◌≡◌, None, Some, IsSome, MatchOption, MatchResult, OnOk};
-ghost use Rattle.std.specs.Prelude.{drop};
+ghost use Rattle.std.specs.Prelude.{drop, slice_get};
 ghost use Rattle.std.specs.Io.KnownBytes.{Appends};
 ghost use Rattle.kx_machine.specs.Meaning.{input_of};
 ghost use Rattle.kx_model.specs.Step.{Commands, Puts};
 ghost use Rattle.kx_model.specs.World.{World, Hand, Deliver};
 ghost use Rattle.kx_script.specs.Order as meant;
-ghost use Rattle.kx_script.specs.Printing.{message_lines, messages_text, step_text};
+ghost use Rattle.kx_script.specs.Printing.{message_lines, messages_text, optional_line};
+ghost use Rattle.kx_script.specs.Printing.{step_text};
 ghost use Rattle.kx_script.specs.Running.{Carried, Marked, Occurs, StandsFor, StandsIn};
 ghost use Rattle.kx_script.specs.Script.{Performed};
 ghost use Rattle.kx_script.specs.Session.{Session, event_of, has_named, has_node, has_partition};
@@ -49,13 +50,13 @@ fn has_partition<N: Runs>(world: &N, partition: PartitionId) -> bool
 }
 
 // Whether a node is there that has a log.
-fn has_node<N: Runs>(world: &N, node: Node) -> bool
-    ensures { (w : World) → N.stands w world.now → result ≡ has_node w node }
+fn has_node<N: Runs>(world: &N, node: &Node) -> bool
+    ensures { (w : World) → N.stands w world.now → result ≡ has_node w node.now }
 {
     match node {
         Node::Coordinator => true,
-        Node::Partition(PartitionId::OFFSETS) => true,
-        Node::Partition(partition) => has_partition(world, partition),
+        Node::Partition(partition) if !partition.is_data() => true,
+        Node::Partition(partition) => has_partition(world, *partition),
         Node::Client(_) => false,
     }
 }
@@ -76,16 +77,30 @@ fn has_named<N: Runs>(world: &N, task: &Task<'_>) -> bool
 // A node is handed an input, while its next append is to fail or not.
 fn hand<N: Runs>(
     world: &mut N,
-    to: Node,
+    to: &Node,
     input: Input,
     mark: Option<Left>,
 ) -> Result<Happened, AllocError>
     ensures { (w : World) → N.stands w world.old → MatchResult result
-        (Occurs w (Hand to (input_of input.entry) (meant.store_of mark))
+        (Occurs w (Hand to.now (input_of input) (meant.store_of mark))
         (λ v. N.stands v world.new))
         (λ refused. N.stands w world.new) }
 {
-    world.hand(to, input, mode_of(mark))
+    world.hand(*to, input, mode_of(mark))
+}
+
+// A message comes to a node, while its next append is to fail or not.
+fn bring<N: Runs>(
+    world: &mut N,
+    number: usize,
+    to: &Node,
+    mark: Option<Left>,
+) -> Result<Happened, AllocError>
+    ensures { (w : World) → N.stands w world.old → MatchResult result
+        (Occurs w (Deliver number to.now (meant.store_of mark)) (λ v. N.stands v world.new))
+        (λ refused. N.stands w world.new) }
+{
+    world.deliver(number, *to, mode_of(mark))
 }
 
 // A client is made, if its number is above those of all others.
@@ -124,7 +139,7 @@ fn tell<N: Runs>(
     }
     let command = command_of(alloc, task)?;
     let to = Node::Client(number);
-    let happened = hand(world, to, Input::Command(command), None)?;
+    let happened = hand(world, &to, Input::Command(command), None)?;
     Ok(Some((to, happened)))
 }
 
@@ -144,7 +159,7 @@ fn put<N: Runs>(
     }
     let values = values_of(alloc, batch)?;
     let to = Node::Partition(partition);
-    let happened = hand(world, to, Input::Put(values), marks.at(to))?;
+    let happened = hand(world, &to, Input::Put(values), marks.at(&to))?;
     Ok(Some((to, happened)))
 }
 
@@ -161,7 +176,7 @@ fn deliver<N: Runs>(
         return Ok(None);
     };
     let to = message.receiver();
-    let happened = world.deliver(number, to, mode_of(marks.at(to)))?;
+    let happened = bring(world, number, &to, marks.at(&to))?;
     Ok(Some((to, happened)))
 }
 
@@ -173,11 +188,11 @@ fn restart<N: Runs>(
     ensures { (s : Session) → N.stands s.world world.old
         → Carried s (happening.Restart to) (λ v. N.stands v world.new) result }
 {
-    if !has_node(world, to) {
+    if !has_node(world, &to) {
         return Ok(None);
     }
     let now = world.clock();
-    let happened = hand(world, to, Input::Restart(now), None)?;
+    let happened = hand(world, &to, Input::Restart(now), None)?;
     Ok(Some((to, happened)))
 }
 
@@ -189,9 +204,9 @@ fn hand_marked<N: Runs>(
     input: Input,
 ) -> Result<Option<(Node, Happened)>, AllocError>
     ensures { (s : Session) → N.stands s.world world.old → marks.now ≡ s.marks
-        → Marked s to (input_of input.entry) (λ v. N.stands v world.new) result }
+        → Marked s to (input_of input) (λ v. N.stands v world.new) result }
 {
-    let happened = hand(world, to, input, marks.at(to))?;
+    let happened = hand(world, &to, input, marks.at(&to))?;
     Ok(Some((to, happened)))
 }
 
@@ -224,11 +239,28 @@ fn carry_out<N: Runs>(
 }
 
 // Takes the mark of a node back, where its append has failed.
-fn settle(marks: &mut Marks, place: Node, failed: bool)
-    ensures { marks.new ≡ marks_after marks.old place failed }
+fn settle(marks: &mut Marks, place: &Node, failed: bool)
+    ensures { marks.new ≡ marks_after marks.old place.now failed }
 {
     if failed {
         marks.set(place, None);
+    }
+}
+
+// Writes the message of a number, where there is one.
+fn write_one<N: Runs, W: Write>(
+    world: &N,
+    number: usize,
+    from: &Node,
+    writer: &mut W,
+) -> io::Result<()>
+    ensures { (w : World) → N.stands w world.now
+        → OnOk result (Appends (W.contents writer.old) (W.contents writer.new)
+        (optional_line number from.now (slice_get w.sent number))) }
+{
+    match world.message(number) {
+        Some(message) => write_message(writer, number, from, message),
+        None => Ok(()),
     }
 }
 
@@ -236,17 +268,15 @@ fn settle(marks: &mut Marks, place: Node, failed: bool)
 fn write_lines<N: Runs, W: Write>(
     world: &N,
     first: usize,
-    from: Node,
+    from: &Node,
     writer: &mut W,
 ) -> io::Result<()>
     ensures { (w : World) → N.stands w world.now
         → OnOk result (Appends (W.contents writer.old) (W.contents writer.new)
-        (message_lines first from (drop first w.sent))) }
+        (message_lines first from.now (drop first w.sent))) }
 {
     for number in first..world.sent() {
-        if let Some(message) = world.message(number) {
-            write_message(writer, number, from, message)?;
-        }
+        write_one(world, number, from, writer)?;
     }
     Ok(())
 }
@@ -255,12 +285,12 @@ fn write_lines<N: Runs, W: Write>(
 fn write_messages<N: Runs, W: Write>(
     world: &N,
     first: usize,
-    from: Node,
+    from: &Node,
     writer: &mut W,
 ) -> io::Result<()>
     ensures { (w : World) → N.stands w world.now
         → OnOk result (Appends (W.contents writer.old) (W.contents writer.new)
-        (messages_text first from (drop first w.sent))) }
+        (messages_text first from.now (drop first w.sent))) }
 {
     if world.sent() <= first {
         return write_dash(writer);
@@ -272,13 +302,13 @@ fn write_messages<N: Runs, W: Write>(
 fn write_step<N: Runs, W: Write>(
     world: &N,
     first: usize,
-    from: Node,
+    from: &Node,
     note: Note,
     writer: &mut W,
 ) -> io::Result<()>
     ensures { (w : World) → N.stands w world.now
         → OnOk result (Appends (W.contents writer.old) (W.contents writer.new)
-        (step_text note (messages_text first from (drop first w.sent)))) }
+        (step_text note (messages_text first from.now (drop first w.sent)))) }
 {
     match note {
         Note::Refused(fault) => write_declined(writer, fault),
@@ -314,8 +344,8 @@ pub fn happen<N: Runs, W: Write>(
     let Some((place, happened)) = done else {
         return Ok(false);
     };
-    settle(&mut running.marks, place, happened.failed);
-    written(write_step(&running.world, first, place, happened.note, writer))?;
+    settle(&mut running.marks, &place, happened.failed);
+    written(write_step(&running.world, first, &place, happened.note, writer))?;
     Ok(true)
 }
 
@@ -326,12 +356,12 @@ pub fn happen<N: Runs, W: Write>(
 /// [`ScriptFault::Write`] where the writer failed.
 pub fn fail<N: Runs, W: Write>(
     running: &mut Running<N>,
-    place: Node,
+    place: &Node,
     left: Left,
     writer: &mut W,
 ) -> Result<bool, ScriptFault>
     ensures { (s : Session) → StandsFor N.stands running.old s
-        → Performed (StandsIn N.stands (Some running.new)) (Some s) (order.Fail place left)
+        → Performed (StandsIn N.stands (Some running.new)) (Some s) (order.Fail place.now left)
         (W.contents writer.old) (W.contents writer.new) result }
 {
     if !has_node(&running.world, place) {
