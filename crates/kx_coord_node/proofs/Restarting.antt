@@ -115,7 +115,7 @@ first_epoch : (note : Note) → reopen [] ≡ Some note → note ≡ Coordinator
 unfolding coordinator_epoch
 first_epoch note e =
     let first : Some (CoordinatorEpoch (pos 1)) ≡ Some note = e in
-    sym (some_is (CoordinatorEpoch (pos 1)) note first)
+    let same : note ≡ CoordinatorEpoch (pos 1) = cc in same
 
 pub made_open : (store : StoreState) (new : CoordinatorState) (handed : List Message)
     → IsOpen store 0 new handed → store.bytes ≡ [] → RunsAs new_coordinator new

@@ -98,10 +98,16 @@ writes_closed : (co : Coordinator) (store : Store) (note : Note) (done failed : 
 writes_closed co store note done failed true e = refl
 writes_closed co store note done failed false e =
     let kept = closed_disk co.disk store note e in
-    ap (λ (d : Disk Note). (record co { disk = d }, if is_written co.disk store
-    then done ++ markers_after (coordinator_epoch (notes_of co)) note else failed)) kept
-    ∙ ap (λ (closed : Bool). (co, if not closed && works store
-    then done ++ markers_after (coordinator_epoch (notes_of co)) note else failed)) e
+    ap (λ (d : Disk Note). (
+      record co { disk = d },
+      if is_written co.disk store
+          then done ++ markers_after (coordinator_epoch (notes_of co)) note else failed,
+    )) kept
+    ∙ ap (λ (closed : Bool). (
+      co,
+      if not closed && works store
+          then done ++ markers_after (coordinator_epoch (notes_of co)) note else failed,
+    )) e
 
 abbrev with_entry : Coordinator → Note → Coordinator
 with_entry co note = record co { disk = disk.made (co.disk.kept ++ note ∷ []) }
@@ -119,13 +125,22 @@ writes_all : (co : Coordinator) (store : Store) (note : Note) (done failed : Lis
     → written_by co store note done failed false
     ≡ (with_entry co note, done ++ markers_after (coordinator_epoch (notes_of co)) note)
 writes_all co store note done failed e w =
-    ap (λ (d : Disk Note). (record co { disk = d }, if is_written co.disk store
-    then done ++ markers_after (coordinator_epoch (notes_of co)) note else failed))
+    ap (λ (d : Disk Note). (
+      record co { disk = d },
+      if is_written co.disk store
+          then done ++ markers_after (coordinator_epoch (notes_of co)) note else failed,
+    ))
     (works_by co.disk store note co.disk.closed e w)
-    ∙ ap (λ (b : Bool). (with_entry co note, if not b && works store
-    then done ++ markers_after (coordinator_epoch (notes_of co)) note else failed)) e
-    ∙ ap (λ (b : Bool). (with_entry co note, if b
-    then done ++ markers_after (coordinator_epoch (notes_of co)) note else failed)) w
+    ∙ ap (λ (b : Bool). (
+      with_entry co note,
+      if not b && works store
+          then done ++ markers_after (coordinator_epoch (notes_of co)) note else failed,
+    )) e
+    ∙ ap (λ (b : Bool). (
+      with_entry co note,
+      if b
+          then done ++ markers_after (coordinator_epoch (notes_of co)) note else failed,
+    )) w
 
 abbrev left_at : Disk Note → Bool → Note → Disk Note
 left_at d whole note = record {
@@ -146,11 +161,17 @@ writes_none : (co : Coordinator) (whole : Bool) (note : Note) (done failed : Lis
     → co.disk.closed ≡ false
     → written_by co (Fails whole) note done failed false ≡ (with_behind co whole note, failed)
 writes_none co whole note done failed e =
-    ap (λ (d : Disk Note). (record co { disk = d }, if is_written co.disk (Fails whole)
-    then done ++ markers_after (coordinator_epoch (notes_of co)) note else failed))
+    ap (λ (d : Disk Note). (
+      record co { disk = d },
+      if is_written co.disk (Fails whole)
+          then done ++ markers_after (coordinator_epoch (notes_of co)) note else failed,
+    ))
     (fails_by co.disk whole note co.disk.closed e)
-    ∙ ap (λ (b : Bool). (with_behind co whole note, if not b && false
-    then done ++ markers_after (coordinator_epoch (notes_of co)) note else failed)) e
+    ∙ ap (λ (b : Bool). (
+      with_behind co whole note,
+      if not b && false
+          then done ++ markers_after (coordinator_epoch (notes_of co)) note else failed,
+    )) e
 
 ------ what the running one writes
 

@@ -189,15 +189,17 @@ takes_reminder old handed t handed_is is =
 
 ------ what isn't for it
 
-pub takes_nothing : (input : Input) (old : CoordinatorState) (t : Taken)
-    → ((co : Coordinator) (store : Store) → coordinator_step co store input
+abbrev pub IsIdle : Input → Type 0
+IsIdle input = ((co : Coordinator) (store : Store) → coordinator_step co store input
     ≡ coordinates (co, []) Done)
-    → ((co : Coordinator) → finds (AtCoordinator co) input Done ≡ false)
+    × ((co : Coordinator) → finds (AtCoordinator co) input Done ≡ false)
+
+pub takes_nothing : (input : Input) (old : CoordinatorState) (t : Taken) → IsIdle input
     → t ≡ record { messages = []; note = note.Done; failed = false; found = false }
     → Takes input old old t
-takes_nothing input old t steps none is =
+takes_nothing input old t idle is =
     at_coordinator input old old t (λ co runs.
-    taken co old old input (λ store. (co, [])) [] t runs (steps co) (none co)
+    taken co old old input (λ store. (co, [])) [] t runs (idle.0 co) (idle.1 co)
     (rests co old old [] [] (λ store. (co, [])) runs refl refl (λ store. refl))
     (is ∙ ap (λ (b : Bool). record {
       messages = [];
@@ -222,4 +224,4 @@ takes_other (msg.EndTxn it) old t no_init no_add no_end no_reply is = absurd (no
 takes_other (msg.MarkerReply it) old t no_init no_add no_end no_reply is =
     absurd (no_reply it refl)
 takes_other m old t no_init no_add no_end no_reply is =
-    takes_nothing (Comes m) old t (λ co store. refl) (λ co. refl) is
+    takes_nothing (Comes m) old t (λ co store. refl, λ co. refl) is
