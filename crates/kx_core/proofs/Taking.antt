@@ -2,15 +2,12 @@
 use Rattle.std.proofs.Common.{◌≡◌, ℕ, List, Option, Some, get_or, refl, sym, ap, ◌∙◌, subst}
 use Rattle.std.specs.Prelude.{slice_get, slice_set}
 use Rattle.std.proofs.lemmas.Option.{get_or_from_slice_get}
-use Rattle.kx_core.specs.Clients.{AreRising, TakesAt, TakesBy, any_store, client_in, told_by}
-use Rattle.kx_core.specs.Clients.{with_one}
-use Rattle.kx_core.proofs.Numbers.{number_kept, told_number}
+use Rattle.kx_core.specs.Clients.{AreRising, TakesAt, TakesBy, any_store, client_in}
+use Rattle.kx_core.proofs.Numbers.{number_kept}
 use Rattle.kx_core.proofs.Rising.{found, replaced}
 use Rattle.kx_machine.specs.Meaning.{AtClient, IsTaken, NodeState}
 use Rattle.kx_machine.specs.declared.taken.Taken.{Taken}
-use Rattle.kx_message.specs.declared.message.Message.{Message}
 use Rattle.kx_model.specs.Client.{Client}
-use Rattle.kx_model.specs.Replies.{take_reply}
 use Rattle.kx_model.specs.Step.{Input, client_step}
 
 same_client : (c d : Client) → AtClient c ≡ AtClient d → c ≡ d
@@ -42,12 +39,4 @@ module _ (cs : List Client) (place number : ℕ) (c x : Client) (rising : AreRis
         put.1,
         subst (λ (o : Option Client). TakesBy cs (slice_set cs place after) input o (Some taken))
             (sym looked_up) (record { after = after; takes = t; new_is = sym put.0 }),
-      )
-
-  pub told_at : (m : Message) → AreRising (slice_set cs place (take_reply c m))
-      × (slice_set cs place (take_reply c m) ≡ told_by cs m (client_in cs number))
-  told_at m =
-      let put = replaced cs place c (take_reply c m) rising here (told_number c m) in (
-        put.1,
-        sym put.0 ∙ ap (told_by cs m) (sym looked_up),
       )

@@ -5,10 +5,8 @@ use Rattle.kx_client.specs.declared.fault.ClientFault.{ClientFault}
 use Rattle.kx_client.specs.declared.fault.ClientFault.TheVariants.{Memory}
 use Rattle.kx_machine.specs.Meaning.{AtClient, IsTaken, fault_of}
 use Rattle.kx_machine.specs.declared.taken.Taken.{Taken}
-use Rattle.kx_message.specs.declared.message.Message.{Message}
 use Rattle.kx_model.specs.Client.{Client, Commanded, Declines, Fault}
 use Rattle.kx_model.specs.Disk.{Store}
-use Rattle.kx_model.specs.Replies.{take_reply}
 use Rattle.kx_model.specs.Step.{Input}
 
 -- the fault is the one that the rules have; want of memory may come in its place
@@ -52,8 +50,3 @@ TakesBy old new input (Some c) (Some taken) = TakesOne old new c input taken
 
 abbrev pub TakesAt : List Client → List Client → ℕ → Input → Option Taken → Type 0
 TakesAt old new number input taken = TakesBy old new input (client_in old number) taken
-
--- the same of a message
-abbrev pub told_by : List Client → Message → Option Client → List Client
-told_by clients message None = clients
-told_by clients message (Some c) = with_one clients (take_reply c message)

@@ -1,14 +1,15 @@
 //! The clients of a world.
 ghost use Rattle.std.specs.Prelude.{◌≡◌, ◌++◌, ◌==◌, [], ◌∷◌, find, None, Some, slice_get};
 ghost use Rattle.std.specs.Prelude.{MatchOption, MatchResult, nat_lt, true};
-ghost use Rattle.kx_core.specs.Clients.{TakesAt, client_in, told_by};
-ghost use Rattle.kx_machine.specs.Meaning.{input_of};
+ghost use Rattle.kx_core.specs.Clients.{TakesAt, client_in};
+ghost use Rattle.kx_core.specs.World.{given};
 ghost use Rattle.kx_model.specs.Client.{Client};
 ghost use Rattle.kx_model.specs.World.{is_new};
 
 use crate::client::ClientMachine;
-use kx_machine::{Input, Taken};
-use kx_message::{ClientId, Message};
+use crate::hand::{self, Given};
+use kx_machine::Taken;
+use kx_message::ClientId;
 use std::alloc::{AllocError, Global};
 use std::marker::Model;
 
@@ -94,7 +95,7 @@ impl Clients {
         Some(&self.clients[place])
     }
 
-    /// The client of this number takes an input; nothing happens where there is none.
+    /// The client of this number takes what it is handed; nothing happens where there is none.
     ///
     /// # Errors
     ///
@@ -102,24 +103,15 @@ impl Clients {
     pub(crate) fn take(
         &mut self,
         number: ClientId,
-        input: &Input,
+        handed: Given<'_>,
     ) -> Result<Option<Taken>, AllocError>
-        ensures { MatchResult result (TakesAt self.old self.new number (input_of input.now))
+        ensures { MatchResult result (TakesAt self.old self.new number (given handed.entry))
             (λ refused. self.new ≡ self.old) }
     {
         let Some(place) = self.place_of(number) else {
             return Ok(None);
         };
-        let taken = self.clients[place].take(input)?;
+        let taken = hand::take(&mut self.clients[place], handed)?;
         Ok(Some(taken))
-    }
-
-    /// A message comes to the client of this number; nothing happens where there is none.
-    pub(crate) fn deliver(&mut self, number: ClientId, message: &Message)
-        ensures { self.new ≡ told_by self.old message.now (client_in self.old number) }
-    {
-        if let Some(place) = self.place_of(number) {
-            self.clients[place].deliver(message);
-        }
     }
 }

@@ -1,49 +1,52 @@
-//! A node takes one input, while its store does what it is told.
+//! A node takes what it is handed, while its store does what it is told.
 ghost use Rattle.std.specs.Prelude.{MatchResult};
-ghost use Rattle.kx_machine.specs.Meaning.{IsTaken, NodeState, input_of};
+ghost use Rattle.kx_core.specs.World.{given};
+ghost use Rattle.kx_machine.specs.Meaning.{IsTaken, NodeState};
 ghost use Rattle.kx_machine.specs.Stores.{IsMode};
-ghost use Rattle.kx_model.specs.Step.{Comes};
 
-use kx_machine::{Failing, Input, StoreMode, Taken};
+use kx_machine::{Failing, Input, Machine, StoreMode, Taken};
 use kx_message::Message;
 use std::alloc::AllocError;
 
-/// A node is handed an input.
+/// What a node is handed, lent: a message that was handed out before, or another input.
+#[derive(Clone, Copy)]
+pub(crate) enum Given<'a> {
+    Message(&'a Message),
+    Input(&'a Input),
+}
+
+/// A node takes what it is handed.
 ///
 /// # Errors
 ///
 /// Only for want of memory; then it stands for what it stood for.
-pub(crate) fn hand<M: Failing>(
-    machine: &mut M,
-    input: &Input,
-    mode: StoreMode,
-) -> Result<Taken, AllocError>
+pub(crate) fn take<M: Machine>(machine: &mut M, handed: Given<'_>) -> Result<Taken, AllocError>
     ensures { (state : NodeState) → M.stands state machine.old → MatchResult result
-        (IsTaken state (input_of input.now) (IsMode mode) (λ s. M.stands s machine.new))
+        (IsTaken state (given handed.entry) (M.allows machine.old) (λ s. M.stands s machine.new))
         (λ refused. M.stands state machine.new) }
 {
-    machine.prepare(mode);
-    let taken = machine.take(input);
-    machine.prepare(StoreMode::Works);
-    taken
+    match handed {
+        Given::Message(message) => machine.deliver(message),
+        Given::Input(input) => machine.take(input),
+    }
 }
 
-/// A message comes to a node.
+/// A node takes what it is handed, while its store does this.
 ///
 /// # Errors
 ///
-/// As [`hand`].
-pub(crate) fn deliver<M: Failing>(
+/// As [`take`].
+pub(crate) fn hand<M: Failing>(
     machine: &mut M,
-    message: &Message,
+    handed: Given<'_>,
     mode: StoreMode,
 ) -> Result<Taken, AllocError>
     ensures { (state : NodeState) → M.stands state machine.old → MatchResult result
-        (IsTaken state (Comes message.now) (IsMode mode) (λ s. M.stands s machine.new))
+        (IsTaken state (given handed.entry) (IsMode mode) (λ s. M.stands s machine.new))
         (λ refused. M.stands state machine.new) }
 {
     machine.prepare(mode);
-    let taken = machine.deliver(message);
+    let taken = take(machine, handed);
     machine.prepare(StoreMode::Works);
     taken
 }

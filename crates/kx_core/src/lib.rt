@@ -7,11 +7,15 @@
 mod client;
 mod clients;
 mod event;
+mod fits;
 mod hand;
+mod nodes;
 mod promises;
 mod sent;
+mod world;
 
 pub use client::ClientMachine;
 pub use event::Event;
 pub use promises::schedules_keep_promises;
 pub use sent::Sent;
+pub use world::World;

@@ -25,9 +25,7 @@ pub enum StoreMode {
     /// All works.
     Works,
     /// An append fails, and leaves this many of its bytes in the store, all where it has fewer.
-    Fails {
-        keep: u64,
-    },
+    Fails { keep: u64 },
     /// The log can't be read.
     CannotLoad,
 }

@@ -1,8 +1,9 @@
-use Rattle.std.proofs.Common.{◌≡◌, List, Some, subst, sym}
+use Rattle.std.proofs.Common.{◌≡◌, List, Some, refl, subst, sym}
 use Rattle.std.specs.Prelude.{slice_get, slice_set}
 use Rattle.kx_core.specs.Clients.{TakesAt}
 use Rattle.kx_core.proofs.Taking.{taken_at}
-use Rattle.kx_machine.specs.Meaning.{input_of}
+use Rattle.kx_core.specs.World.{given}
+use Rattle.kx_machine.specs.Meaning.{AtClient}
 use Rattle.kx_model.specs.Client.{Client}
 use Rattle.kx_core.proofs.clients.Clients.take.Goals as goal
 
@@ -13,8 +14,8 @@ invariant_of-self-2 c =
     let there = subst (λ (xs : List Client). slice_get xs place ≡ Some found.0) (sym c.self.view_is)
     found.1 in
     (taken_at c.self.inside.clients.items place c.args.number c.index_mut.result.now found.0
-    c.self.invariant there found.2 c.index_mut.ensures.value c.take.new.self
-    (input_of c.args.input.now) c.in_ok-taken.taken c.in_ok-taken.ensures).0
+    c.self.invariant there found.2 c.index_mut.ensures.value c.take.new.machine
+    (given c.args.handed) c.in_ok-taken.taken (c.in_ok-taken.ensures (AtClient c.index_mut.result.now) refl)).0
 
 pub returns : goal.returns
 returns c =
@@ -23,8 +24,8 @@ returns c =
     let there = subst (λ (xs : List Client). slice_get xs place ≡ Some found.0) (sym c.self.view_is)
     found.1 in
     let taken = (taken_at c.self.inside.clients.items place c.args.number c.index_mut.result.now
-    found.0 c.self.invariant there found.2 c.index_mut.ensures.value c.take.new.self
-    (input_of c.args.input.now) c.in_ok-taken.taken c.in_ok-taken.ensures).1 in
+    found.0 c.self.invariant there found.2 c.index_mut.ensures.value c.take.new.machine
+    (given c.args.handed) c.in_ok-taken.taken (c.in_ok-taken.ensures (AtClient c.index_mut.result.now) refl)).1 in
     subst (λ (xs : List Client). TakesAt xs
-    (slice_set c.self.inside.clients.items place c.take.new.self) c.args.number
-    (input_of c.args.input.now) (Some c.in_ok-taken.taken)) c.self.view_is taken
+    (slice_set c.self.inside.clients.items place c.take.new.machine) c.args.number
+    (given c.args.handed) (Some c.in_ok-taken.taken)) c.self.view_is taken

@@ -1,0 +1,65 @@
+-- A world to which a schedule led goes on by one more event.
+use Rattle.std.proofs.Common.{◌≡◌, ◌++◌, ℕ, List, [], ◌∷◌, refl, sym, ap, ◌∙◌, subst, append-nil, zero}
+use Rattle.std.proofs.Common.{suc, arith}
+use Rattle.std.specs.Prelude.{All}
+use Rattle.std.proofs.lemmas.List.{append_assoc}
+use Rattle.std.proofs.lemmas.List.Elements.{All-append}
+use Rattle.kx_core.specs.Promises.{KeepsPromises}
+use Rattle.kx_core.specs.Sent.{joined}
+use Rattle.kx_core.specs.World as running
+use Rattle.kx_core.specs.World.{Happens, IsRun, Nodes, Running, StandFor, Steps}
+use Rattle.kx_core.specs.declared.event.Event as happening
+use Rattle.kx_core.proofs.Happening.{run_more}
+use Rattle.kx_machine.specs.Meaning.{NodeState}
+use Rattle.kx_machine.specs.declared.taken.Taken.{Taken}
+use Rattle.kx_message.specs.declared.message.Message.{Message}
+use Rattle.kx_model.specs.World as model
+use Rattle.kx_model.specs.World.{IsSchedule, World, run, start, step}
+
+pub joined_push : (steps : List (List Message)) (ms : List Message)
+    → joined (steps ++ ms ∷ []) ≡ joined steps ++ ms
+joined_push [] ms = append-nil ms
+joined_push (s ∷ steps) ms =
+    ap (λ rest. s ++ rest) (joined_push steps ms) ∙ sym (append_assoc s (joined steps) ms)
+
+-- a schedule with one more event
+one_more : (events : List model.Event) (e : model.Event) → IsSchedule events → model.IsEvent e
+    → IsSchedule (events ++ e ∷ [])
+one_more events e all fits = All-append model.IsEvent events (e ∷ []) all one
+  where
+    one : All model.IsEvent (e ∷ [])
+    one zero d lt = fits
+    one (suc k) d lt = absurd (omega arith)
+
+module _ {C P O : Type 0} (Coordinates : NodeState → C → Type 0) (Serves : NodeState → P → Type 0)
+    (Groups : NodeState → O → Type 0) where
+  abbrev Run : Running C P O → World → Type 0
+  Run = IsRun Coordinates Serves Groups
+
+  pub goes_on : (before : Running C P O) (after : Nodes C P O) (w : World)
+      (given : happening.Event) (taken : Taken) → Run before w
+      → ((e : model.Event) → running.IsEvent given e → model.IsEvent e)
+      → Happens w given (StandFor Coordinates Serves Groups after) taken
+      → Steps w given
+      (Run (record { nodes = after; steps = before.steps ++ taken.messages ∷ [] })) taken.note
+  goes_on before after w given taken r fits h = record {
+    happened = h.happened;
+    is = h.is;
+    stands = record {
+      count = r.count;
+      events = r.events ++ h.happened ∷ [];
+      is_schedule = one_more r.events h.happened r.is_schedule (fits h.happened h.is);
+      is_run = ap (λ (v : World). (step v h.happened).0) r.is_run
+          ∙ sym (run_more r.events h.happened (start r.count));
+      nodes = h.stand;
+      sent = joined_push before.steps taken.messages ∙ ap (λ ms. ms ++ taken.messages) r.sent
+          ∙ sym h.sent;
+    };
+    note_is = h.note_is;
+  }
+
+  pub promised : ((count : ℕ) (events : List model.Event) → IsSchedule events
+      → KeepsPromises (run events (start count))) → (r : Running C P O) (w : World)
+      → Run r w → KeepsPromises w
+  promised keep r w is =
+      subst KeepsPromises (sym is.is_run) (keep is.count is.events is.is_schedule)

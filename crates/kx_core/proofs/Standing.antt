@@ -1,0 +1,320 @@
+-- Nodes that take what they are handed stand for a world of the definitions after it.
+use Rattle.std.proofs.Common.{◌≡◌, ◌≢◌, ◌<◌, ◌≤◌, ◌++◌, ◌==◌, ℕ, Bool, true, false, cond, List, [], ◌∷◌}
+use Rattle.std.proofs.Common.{refl, sym, ap, ◌∙◌, subst, length, Option, Some, None, arith, inl, inr}
+use Rattle.std.proofs.Common.{nat_le, zero, suc, append-nil}
+use Rattle.std.specs.Prelude.{slice_get, slice_set, ◌^◌}
+use Rattle.std.proofs.lemmas.Bool.{cases_lt}
+use Rattle.std.proofs.lemmas.Bool.Decides.{Decides-eqb, nat_tests}
+use Rattle.std.proofs.lemmas.Option.{slice_get_past, slice_get_within}
+use Rattle.kx_batch.specs.Batch.{batch_limit}
+use Rattle.kx_core.specs.Clients.{TakesAt, TakesBy, TakesOne, client_in, with_one}
+use Rattle.kx_core.specs.World.{IsHanded, Nodes, StandFor}
+use Rattle.kx_machine.specs.Meaning.{AtClient, AtCoordinator, AtPartition, IsTaken, NodeState, node_step}
+use Rattle.kx_machine.specs.Meaning.{note_of}
+use Rattle.kx_machine.specs.Stores.{FailsWith, IsMode}
+use Rattle.kx_machine.specs.declared.machine.StoreMode.{StoreMode}
+use Rattle.kx_machine.specs.declared.machine.StoreMode.TheVariants as mode
+use Rattle.kx_machine.specs.declared.taken.Note.TheVariants as noted
+use Rattle.kx_machine.specs.declared.taken.Taken.{Taken}
+use Rattle.kx_message.specs.Ranges.{offsets_partition}
+use Rattle.kx_message.specs.declared.message.Node.{Node}
+use Rattle.kx_message.specs.declared.message.Node.TheVariants as node
+use Rattle.kx_model.specs.Client.{Client}
+use Rattle.kx_model.specs.Disk.{Store, Works, Fails, CannotLoad}
+use Rattle.kx_model.specs.PartitionNode.{Partition}
+use Rattle.kx_model.specs.Step.{Done, Input, NodeStep, StepNote, client_step, partition_step}
+use Rattle.kx_model.specs.World.{Stepped, World, at_client, at_partition, clock_after, handed}
+use Rattle.kx_model.specs.World.{partition_at}
+
+------ stores
+
+not_zero : (n : ℕ) → batch_limit ≤ n → n ≡ 0 → ⊥
+not_zero n le none = omega (arith, le, none)
+
+at_most : (a b : ℕ) → nat_le a b ≡ true → a ≤ b
+at_most a b e = grind (arith, nat_tests)
+
+not_at_most : (a b : ℕ) → nat_le a b ≡ false → a ≤ b → ⊥
+not_at_most a b e le = grind (arith, nat_tests)
+
+whole_if : (keep : ℕ) (b : Bool) → nat_le batch_limit keep ≡ b → FailsWith keep (Fails b)
+whole_if keep true e =
+    (λ none. absurd (not_zero keep (at_most _ _ e) none), λ le. refl)
+whole_if keep false e = (λ none. refl, λ le. absurd (not_at_most _ _ e le))
+
+-- there is a store of each mode
+pub a_store : (m : StoreMode) → (store : Store) × IsMode m store
+a_store mode.Works = (Works, refl)
+a_store (mode.Fails keep) =
+    (Fails (nat_le batch_limit keep), whole_if keep (nat_le batch_limit keep) refl)
+a_store mode.CannotLoad = (CannotLoad, refl)
+
+------ lists
+
+get_set : {A : Type 0} (xs : List A) (i : ℕ) (y z : A) → slice_get (slice_set xs i y) i ≡ Some z
+    → z ≡ y
+get_set [] i y z is = absurd cc
+get_set (x ∷ xs) zero y z is = cc
+get_set (x ∷ xs) (suc i) y z is = get_set xs i y z is
+
+get_other : {A : Type 0} (xs : List A) (i j : ℕ) (y : A) → (j ≡ i → ⊥)
+    → slice_get (slice_set xs i y) j ≡ slice_get xs j
+get_other [] i j y apart = refl
+get_other (x ∷ xs) zero zero y apart = absurd (apart refl)
+get_other (x ∷ xs) zero (suc j) y apart = refl
+get_other (x ∷ xs) (suc i) zero y apart = refl
+get_other (x ∷ xs) (suc i) (suc j) y apart =
+    get_other xs i j y (λ e. apart (ap (λ (n : ℕ). suc n) e))
+
+length_set : {A : Type 0} (xs : List A) (i : ℕ) (y : A) → length (slice_set xs i y) ≡ length xs
+length_set [] i y = refl
+length_set (x ∷ xs) zero y = refl
+length_set (x ∷ xs) (suc i) y = omega (arith, length_set xs i y)
+
+past_none : {A : Type 0} (xs : List A) (i : ℕ) → slice_get xs i ≡ None → length xs ≤ i
+past_none [] i e = omega arith
+past_none (x ∷ xs) zero e = absurd cc
+past_none (x ∷ xs) (suc i) e = omega (arith, past_none xs i e)
+
+there_too : {A : Type 0} {B : Type 0} (xs : List A) (ys : List B) (i : ℕ) (y : B)
+    → length xs ≡ length ys → slice_get ys i ≡ Some y → (x : A) × (slice_get xs i ≡ Some x)
+there_too [] [] i y same is = absurd cc
+there_too [] (z ∷ ys) i y same is = absurd (omega (arith, same))
+there_too (x ∷ xs) [] i y same is = absurd (omega (arith, same))
+there_too (x ∷ xs) (z ∷ ys) zero y same is = (x, refl)
+there_too (x ∷ xs) (z ∷ ys) (suc i) y same is = there_too xs ys i y (omega (arith, same)) is
+
+------ what the definitions do
+
+other_number : (n m : ℕ) (b : Bool) → (n == m) ≡ b → n ≢ m → b ≡ false
+other_number n m true e apart = absurd (apart ((Decides-eqb n m).0 e))
+other_number n m false e apart = refl
+
+not_offsets : (n : ℕ) → n ≢ offsets_partition → (n == offsets_partition) ≡ false
+not_offsets n apart = other_number n offsets_partition (n == offsets_partition) refl apart
+
+abbrev after_partition : World → ℕ → NodeStep Partition → Stepped
+after_partition w number s = (
+  record w {
+    partitions = slice_set w.partitions number s.state;
+    sent = w.sent ++ s.messages;
+  },
+  s.note,
+)
+
+handed_data : (w : World) (n : ℕ) (store : Store) (input : Input) (p : Partition)
+    → n ≢ offsets_partition → slice_get w.partitions n ≡ Some p
+    → handed w (node.Partition n) store input
+    ≡ after_partition w n (partition_step n p store input)
+handed_data w n store input p apart is =
+    let s = partition_step n p store input in
+    ap (at_partition w n store input)
+    (ap (λ b. cond b (Some w.offsets) (slice_get w.partitions n)) (not_offsets n apart) ∙ is)
+    ∙ ap (λ b. (record w {
+      offsets = cond b s.state w.offsets;
+      partitions = cond b w.partitions (slice_set w.partitions n s.state);
+      sent = w.sent ++ s.messages;
+    }, s.note)) (not_offsets n apart)
+
+handed_to_none : (w : World) (n : ℕ) (store : Store) (input : Input) → n ≢ offsets_partition
+    → slice_get w.partitions n ≡ None → handed w (node.Partition n) store input ≡ (w, Done)
+handed_to_none w n store input apart is =
+    ap (at_partition w n store input)
+    (ap (λ b. cond b (Some w.offsets) (slice_get w.partitions n)) (not_offsets n apart) ∙ is)
+
+------ nodes
+
+module _ {C P O : Type 0} (Coordinates : NodeState → C → Type 0) (Serves : NodeState → P → Type 0)
+    (Groups : NodeState → O → Type 0) where
+  abbrev Stand : Nodes C P O → World → Type 0
+  Stand = StandFor Coordinates Serves Groups
+
+  -- nothing changes, and nothing is handed out
+  pub rests : (nodes : Nodes C P O) (w : World) (to : Node) (m : StoreMode) (input : Input)
+      (taken : Taken) → Stand nodes w
+      → ((store : Store) → handed w to store input ≡ (w, Done))
+      → taken.messages ≡ [] → taken.note ≡ noted.Done
+      → IsHanded w to m input (Stand nodes) taken
+  rests nodes w to m input taken h same none done =
+      let store = a_store m in record {
+        store = store.0;
+        allowed = store.1;
+        stand = subst (λ (x : Stepped). Stand nodes x.0) (sym (same store.0)) h;
+        sent = ap (λ (x : Stepped). x.0.sent) (same store.0)
+            ∙ sym (ap (λ ms. w.sent ++ ms) none ∙ append-nil w.sent);
+        note_is = done ∙ ap (λ (x : Stepped). note_of x.1) (sym (same store.0));
+      }
+
+  pub by_coordinator : (nodes : Nodes C P O) (w : World) (m : StoreMode) (input : Input)
+      (after : C) (clock : ℕ) (taken : Taken) → Stand nodes w
+      → IsTaken (AtCoordinator w.coordinator) input (IsMode m) (λ s. Coordinates s after) taken
+      → clock ≡ clock_after nodes.clock input
+      → IsHanded w node.Coordinator m input
+      (Stand (record nodes { coordinator = after; clock = clock })) taken
+  by_coordinator nodes w m input after clock taken h t now = record {
+    store = t.store;
+    allowed = t.allowed;
+    stand = record {
+      coordinator = t.stands;
+      count = h.count;
+      few = h.few;
+      partitions = h.partitions;
+      offsets = h.offsets;
+      clients = h.clients;
+      clock = now ∙ ap (λ (n : ℕ). clock_after n input) h.clock;
+    };
+    sent = ap (λ ms. w.sent ++ ms) (sym (ap (λ (x : Taken). x.messages) t.answer));
+    note_is = ap (λ (x : Taken). x.note) t.answer;
+  }
+
+  pub by_offsets : (nodes : Nodes C P O) (w : World) (m : StoreMode) (input : Input) (after : O)
+      (taken : Taken) → Stand nodes w
+      → IsTaken (AtPartition offsets_partition w.offsets) input (IsMode m) (λ s. Groups s after)
+      taken
+      → IsHanded w (node.Partition offsets_partition) m input
+      (Stand (record nodes { offsets = after })) taken
+  by_offsets nodes w m input after taken h t = record {
+    store = t.store;
+    allowed = t.allowed;
+    stand = record {
+      coordinator = h.coordinator;
+      count = h.count;
+      few = h.few;
+      partitions = h.partitions;
+      offsets = t.stands;
+      clients = h.clients;
+      clock = h.clock;
+    };
+    sent = ap (λ ms. w.sent ++ ms) (sym (ap (λ (x : Taken). x.messages) t.answer));
+    note_is = ap (λ (x : Taken). x.note) t.answer;
+  }
+
+  served : (nodes : Nodes C P O) (w : World) (number : ℕ) (p : Partition) (after : P)
+      → Stand nodes w → Serves (AtPartition number p) after → (other : ℕ) (q : Partition)
+      (server : P) → slice_get (slice_set w.partitions number p) other ≡ Some q
+      → slice_get (slice_set nodes.partitions number after) other ≡ Some server
+      → Serves (AtPartition other q) server
+  served nodes w number p after h serves other q server is runs =
+      by_number (other == number) refl
+    where
+      by_number : (b : Bool) → (other == number) ≡ b → Serves (AtPartition other q) server
+      by_number true e =
+          let same : other ≡ number = (Decides-eqb other number).0 e in
+          let one : slice_get (slice_set w.partitions number p) number ≡ Some q =
+          subst (λ (k : ℕ). slice_get (slice_set w.partitions number p) k ≡ Some q) same is in
+          let two : slice_get (slice_set nodes.partitions number after) number ≡ Some server =
+          subst (λ (k : ℕ). slice_get (slice_set nodes.partitions number after) k ≡ Some server)
+          same runs in
+          subst (λ (k : ℕ). Serves (AtPartition k q) server) (sym same)
+          (subst (λ (x : Partition). Serves (AtPartition number x) server)
+          (sym (get_set w.partitions number p q one))
+          (subst (Serves (AtPartition number p))
+          (sym (get_set nodes.partitions number after server two)) serves))
+      by_number false e =
+          let apart : other ≡ number → ⊥ = λ same. absurd (cc (e, (Decides-eqb other number).1 same))
+          in
+          h.partitions other q server (sym (get_other w.partitions number other p apart) ∙ is)
+          (sym (get_other nodes.partitions number other after apart) ∙ runs)
+
+  pub by_partition : (nodes : Nodes C P O) (w : World) (number : ℕ) (m : StoreMode)
+      (input : Input) (p : Partition) (after : P) (taken : Taken) → Stand nodes w
+      → number ≢ offsets_partition → slice_get w.partitions number ≡ Some p
+      → IsTaken (AtPartition number p) input (IsMode m) (λ s. Serves s after) taken
+      → IsHanded w (node.Partition number) m input
+      (Stand (record nodes { partitions = slice_set nodes.partitions number after })) taken
+  by_partition nodes w number m input p after taken h apart is t =
+      let s = partition_step number p t.store input in
+      let done = handed_data w number t.store input p apart is in record {
+        store = t.store;
+        allowed = t.allowed;
+        stand = subst (λ (x : Stepped). Stand
+        (record nodes { partitions = slice_set nodes.partitions number after }) x.0) (sym done)
+        (record {
+          coordinator = h.coordinator;
+          count = length_set w.partitions number s.state ∙ h.count
+              ∙ sym (length_set nodes.partitions number after);
+          few = subst (λ (n : ℕ). n < offsets_partition)
+          (sym (length_set w.partitions number s.state)) h.few;
+          partitions = served nodes w number s.state after h t.stands;
+          offsets = h.offsets;
+          clients = h.clients;
+          clock = h.clock;
+        });
+        sent = ap (λ (x : Stepped). x.0.sent) done
+            ∙ ap (λ ms. w.sent ++ ms) (sym (ap (λ (x : Taken). x.messages) t.answer));
+        note_is = ap (λ (x : Taken). x.note) t.answer
+            ∙ sym (ap (λ (x : Stepped). note_of x.1) done);
+      }
+
+  pub by_no_partition : (nodes : Nodes C P O) (w : World) (number : ℕ) (m : StoreMode)
+      (input : Input) (taken : Taken) → Stand nodes w → number ≢ offsets_partition
+      → slice_get nodes.partitions number ≡ None → taken.messages ≡ []
+      → taken.note ≡ noted.Done → IsHanded w (node.Partition number) m input (Stand nodes) taken
+  by_no_partition nodes w number m input taken h apart is none done =
+      let past = past_none nodes.partitions number is in
+      rests nodes w (node.Partition number) m input taken h
+      (λ store. handed_to_none w number store input apart
+      (slice_get_past w.partitions number (omega (arith, past, h.count)))) none done
+
+  ------ clients
+
+  by_found : (nodes : Nodes C P O) (w : World) (number : ℕ) (m : StoreMode) (input : Input)
+      (new : List Client) (taken : Taken) (found : Option Client) → Stand nodes w
+      → client_in w.clients number ≡ found
+      → TakesBy nodes.clients new input found (Some taken)
+      → IsHanded w (node.Client number) m input (Stand (record nodes { clients = new })) taken
+  by_found nodes w number m input new taken None h is takes = absurd takes
+  by_found nodes w number m input new taken (Some c) h is takes =
+      let s = client_step c input in
+      let t = takes.takes in
+      let same : s.state ≡ takes.after = cc (t.stands) in
+      let done : handed w (node.Client number) (a_store m).0 input
+      ≡ at_client w input (Some c) = ap (at_client w input) is in record {
+        store = (a_store m).0;
+        allowed = (a_store m).1;
+        stand = subst (λ (x : Stepped). Stand (record nodes { clients = new }) x.0) (sym done)
+        (record {
+          coordinator = h.coordinator;
+          count = h.count;
+          few = h.few;
+          partitions = h.partitions;
+          offsets = h.offsets;
+          clients = takes.new_is ∙ ap (λ (d : Client). with_one nodes.clients d) (sym same)
+              ∙ ap (λ (ds : List Client). with_one ds s.state) h.clients;
+          clock = h.clock;
+        });
+        sent = ap (λ (x : Stepped). x.0.sent) done
+            ∙ ap (λ ms. w.sent ++ ms) (sym (ap (λ (x : Taken). x.messages) t.answer));
+        note_is = ap (λ (x : Taken). x.note) t.answer
+            ∙ sym (ap (λ (x : Stepped). note_of x.1) done);
+      }
+
+  pub by_client : (nodes : Nodes C P O) (w : World) (number : ℕ) (m : StoreMode) (input : Input)
+      (new : List Client) (taken : Taken) → Stand nodes w
+      → TakesAt nodes.clients new number input (Some taken)
+      → IsHanded w (node.Client number) m input (Stand (record nodes { clients = new })) taken
+  by_client nodes w number m input new taken h takes =
+      by_found nodes w number m input new taken (client_in nodes.clients number) h
+      (sym (ap (λ (cs : List Client). client_in cs number) h.clients)) takes
+
+  no_client : (nodes : Nodes C P O) (number : ℕ) (input : Input) (new : List Client)
+      (found : Option Client) → client_in nodes.clients number ≡ found
+      → TakesBy nodes.clients new input found None
+      → (client_in nodes.clients number ≡ None) × (new ≡ nodes.clients)
+  no_client nodes number input new None is takes = (is, takes)
+  no_client nodes number input new (Some c) is takes = absurd takes
+
+  pub by_no_client : (nodes : Nodes C P O) (w : World) (number : ℕ) (m : StoreMode)
+      (input : Input) (new : List Client) (taken : Taken) → Stand nodes w
+      → TakesAt nodes.clients new number input None → taken.messages ≡ []
+      → taken.note ≡ noted.Done
+      → IsHanded w (node.Client number) m input (Stand (record nodes { clients = new })) taken
+  by_no_client nodes w number m input new taken h takes none done =
+      let is = no_client nodes number input new (client_in nodes.clients number) refl takes in
+      let absent : client_in w.clients number ≡ None =
+      sym (ap (λ (cs : List Client). client_in cs number) h.clients) ∙ is.0 in
+      subst (λ (cs : List Client).
+      IsHanded w (node.Client number) m input (Stand (record nodes { clients = cs })) taken)
+      (sym is.1)
+      (rests nodes w (node.Client number) m input taken h
+      (λ store. ap (at_client w input) absent) none done)

@@ -1,0 +1,196 @@
+//! The nodes of a world.
+ghost use Rattle.std.specs.Prelude.{◌≡◌, ◌≢◌, [], MatchResult, false};
+ghost use Rattle.kx_core.specs.Sent.{joined};
+ghost use Rattle.kx_core.specs.World.{Hands, Happens, StandFor, given};
+ghost use Rattle.kx_machine.specs.declared.machine.StoreMode.{StoreMode};
+ghost use Rattle.kx_machine.specs.declared.taken.Note.TheVariants as note;
+ghost use Rattle.kx_message.specs.Ranges.{offsets_partition};
+ghost use Rattle.kx_message.specs.declared.message.Node.TheVariants as node;
+ghost use Rattle.kx_model.specs.World.{Make, World, step};
+
+use crate::client::ClientMachine;
+use crate::clients::Clients;
+use crate::event::Event;
+use crate::hand::{Given, hand};
+use crate::sent::Sent;
+use kx_machine::{Failing, Input, Messages, Note, StoreMode, Taken};
+use kx_message::{ClientId, Node, PartitionId, Timeout, TxnId};
+use std::alloc::{AllocError, Global};
+use std::marker::Model;
+
+// What comes of an event for which there is nothing to do.
+fn nothing(alloc: Global) -> Taken
+    ensures { result ≡ record {
+      messages = [];
+      note = note.Done;
+      failed = false;
+      found = false;
+    } }
+{
+    Taken {
+        messages: Messages::none(alloc),
+        note: Note::Done,
+        failed: false,
+        found: false,
+    }
+}
+
+/// The nodes of a world: the coordinator, the partitions, and the clients in the order of their
+/// numbers.
+#[derive(Drop)]
+pub(crate) struct Nodes<C: Failing, P: Failing, O: Failing> {
+    pub(crate) alloc: Global,
+    pub(crate) coordinator: C,
+    pub(crate) partitions: Vec<P>,
+    pub(crate) offsets: O,
+    pub(crate) clients: Clients,
+    // the greatest moment of an expiry
+    pub(crate) clock: u64,
+}
+
+impl<C: Failing, P: Failing, O: Failing> Model for Nodes<C, P, O> {
+    ghost use Rattle.kx_core.specs.World.{Nodes};
+
+    ghost Value = { Nodes C P O };
+
+    ghost view = { λ n. record {
+      coordinator = n.coordinator;
+      partitions = n.partitions.items;
+      offsets = n.offsets;
+      clients = n.clients;
+      clock = n.clock;
+    } };
+}
+
+impl<C: Failing, P: Failing, O: Failing> Nodes<C, P, O> {
+    // The coordinator takes what it is handed; the world's clock is the greatest moment of all
+    // expiries.
+    fn hand_coordinator(
+        &mut self,
+        handed: Given<'_>,
+        mode: StoreMode,
+    ) -> Result<Taken, AllocError>
+        ensures { Hands (StandFor C.stands P.stands O.stands self.old)
+            (StandFor C.stands P.stands O.stands self.new) node.Coordinator mode (given handed.entry)
+            result }
+    {
+        let taken = hand(&mut self.coordinator, handed, mode)?;
+        if let Given::Input(Input::Expire(now)) = handed {
+            self.clock = self.clock.max(*now);
+        }
+        Ok(taken)
+    }
+
+    // A data partition takes what it is handed, if there is one of this number.
+    fn hand_partition(
+        &mut self,
+        number: PartitionId,
+        handed: Given<'_>,
+        mode: StoreMode,
+    ) -> Result<Taken, AllocError>
+        requires { number ≢ offsets_partition }
+        ensures { Hands (StandFor C.stands P.stands O.stands self.old)
+            (StandFor C.stands P.stands O.stands self.new) (node.Partition number) mode
+            (given handed.entry) result }
+    {
+        let alloc = self.alloc;
+        let Some(server) = self.partitions.get_mut(usize::from(number.get())) else {
+            return Ok(nothing(alloc));
+        };
+        hand(server, handed, mode)
+    }
+
+    // A client takes what it is handed, if there is one of this number; it has no store.
+    fn hand_client(
+        &mut self,
+        number: ClientId,
+        handed: Given<'_>,
+    ) -> Result<Taken, AllocError>
+        ensures { (mode : StoreMode) → Hands (StandFor C.stands P.stands O.stands self.old)
+            (StandFor C.stands P.stands O.stands self.new) (node.Client number) mode
+            (given handed.entry) result }
+    {
+        match self.clients.take(number, handed)? {
+            Some(taken) => Ok(taken),
+            None => Ok(nothing(self.alloc)),
+        }
+    }
+
+    /// A node takes what it is handed, while its store does this; where there is no such node,
+    /// nothing happens.
+    ///
+    /// # Errors
+    ///
+    /// Only for want of memory; then all stand for what they stood for.
+    pub(crate) fn hand(
+        &mut self,
+        to: Node,
+        handed: Given<'_>,
+        mode: StoreMode,
+    ) -> Result<Taken, AllocError>
+        ensures { Hands (StandFor C.stands P.stands O.stands self.old)
+            (StandFor C.stands P.stands O.stands self.new) to mode (given handed.entry) result }
+    {
+        match to {
+            Node::Coordinator => self.hand_coordinator(handed, mode),
+            Node::Partition(number) if number == PartitionId::OFFSETS => {
+                hand(&mut self.offsets, handed, mode)
+            }
+            Node::Partition(number) => self.hand_partition(number, handed, mode),
+            Node::Client(number) => self.hand_client(number, handed),
+        }
+    }
+
+    // A client is made, if its number is above those of all others.
+    fn make(
+        &mut self,
+        number: ClientId,
+        txn: Option<TxnId>,
+        timeout: Timeout,
+    ) -> Result<(), AllocError>
+        ensures { (w : World) → StandFor C.stands P.stands O.stands self.old w
+            → MatchResult result
+            (λ done. StandFor C.stands P.stands O.stands self.new
+            (step w (Make number txn timeout)).0)
+            (λ refused. StandFor C.stands P.stands O.stands self.new w) }
+    {
+        if !self.clients.is_new(number) {
+            return Ok(());
+        }
+        self.clients
+            .add(ClientMachine::new(self.alloc, number, txn, timeout))
+    }
+
+    /// An event happens, where these messages were handed out before it.
+    ///
+    /// # Errors
+    ///
+    /// Only for want of memory; then all stand for what they stood for.
+    pub(crate) fn step(&mut self, sent: &Sent, event: &Event) -> Result<Taken, AllocError>
+        ensures { (w : World) → StandFor C.stands P.stands O.stands self.old w
+            → joined sent.now.steps ≡ w.sent → MatchResult result
+            (Happens w event.now (StandFor C.stands P.stands O.stands self.new))
+            (λ refused. StandFor C.stands P.stands O.stands self.new w) }
+    {
+        match event {
+            Event::Make {
+                client,
+                txn,
+                timeout,
+            } => {
+                self.make(*client, *txn, *timeout)?;
+                Ok(nothing(self.alloc))
+            }
+            Event::Deliver { number, to, store } => match sent.get(*number) {
+                Some(message) => self.hand(*to, Given::Message(message), *store),
+                None => Ok(nothing(self.alloc)),
+            },
+            // a message comes by its number alone
+            Event::Hand {
+                input: Input::Deliver(_),
+                ..
+            } => Ok(nothing(self.alloc)),
+            Event::Hand { to, input, store } => self.hand(*to, Given::Input(input), *store),
+        }
+    }
+}
