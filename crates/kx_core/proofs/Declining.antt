@@ -1,5 +1,5 @@
 -- A client's faults are those of the rules, or want of memory.
-use Rattle.std.proofs.Common.{◌≡◌, refl, inl, inr}
+use Rattle.std.proofs.Common.{refl, inl, inr}
 use Rattle.kx_client.specs.Calls.{IsRefused}
 use Rattle.kx_client.specs.declared.fault.ClientFault.{ClientFault}
 use Rattle.kx_client.specs.declared.fault.ClientFault.TheVariants as fault

@@ -1,14 +1,14 @@
 -- An event that happens to running nodes is a step of the definitions, and a schedule goes on by it.
-use Rattle.std.proofs.Common.{◌≡◌, ◌≢◌, ◌++◌, ℕ, Bool, true, false, cond, List, [], ◌∷◌, refl, sym, ap}
+use Rattle.std.proofs.Common.{◌≡◌, ◌++◌, ℕ, Bool, true, false, cond, List, [], ◌∷◌, refl, sym, ap}
 use Rattle.std.proofs.Common.{◌∙◌, subst, Option, Some, None, append-nil}
 use Rattle.std.specs.Prelude.{slice_get}
+use Rattle.kx_core.specs.Internal.{is_message}
 use Rattle.kx_core.specs.World as running
 use Rattle.kx_core.specs.World.{Happens, IsHanded, Nodes, StandFor}
 use Rattle.kx_core.specs.declared.event.Event as happening
 use Rattle.kx_core.specs.declared.event.Event.TheVariants as event
 use Rattle.kx_core.proofs.Standing.{a_store}
 use Rattle.kx_machine.specs.Meaning.{NodeState, input_of, note_of}
-use Rattle.kx_machine.specs.Stores.{IsMode}
 use Rattle.kx_machine.specs.declared.input.Input as given
 use Rattle.kx_machine.specs.declared.input.Input.TheVariants as input
 use Rattle.kx_machine.specs.declared.machine.StoreMode.{StoreMode}
@@ -38,13 +38,9 @@ step_hand : (w : World) (to : Node) (input : Input) (store : _)
 unfolding step
 step_hand w to input store = refl
 
-abbrev pub IsNoMessage : given.Input → Type 0
-IsNoMessage (input.Deliver message) = ⊥
-IsNoMessage other = Unit {0}
-
-no_message : (w : World) (to : Node) (store : _) (i : given.Input) → IsNoMessage i
+no_message : (w : World) (to : Node) (store : _) (i : given.Input) → is_message i ≡ false
     → handed_no_message w to store (input_of i) ≡ handed w to store (input_of i)
-no_message w to store (input.Deliver message) h = absurd h
+no_message w to store (input.Deliver message) h = absurd cc
 no_message w to store (input.Command command) h = refl
 no_message w to store (input.Expire now) h = refl
 no_message w to store input.Remind h = refl
@@ -81,13 +77,19 @@ module _ (Stand : World → Type 0) where
           h nothing_sent done
 
       -- a message comes by its number alone
-      pub not_handed : (to : Node) (message : Message) (m : StoreMode)
-          → Happens w (event.Hand to (input.Deliver message) m) Stand taken
-      not_handed to message m =
+      pub not_handed : (to : Node) (i : given.Input) (m : StoreMode) → is_message i ≡ true
+          → Happens w (event.Hand to i m) Stand taken
+      not_handed to (input.Deliver message) m comes =
           let store = a_store m in
           by_step (event.Hand to (input.Deliver message) m) (Hand to (Comes message) store.0)
           (w, Done) (store.0, store.1, refl) (step_hand w to (Comes message) store.0)
           h nothing_sent done
+      not_handed to (input.Command command) m comes = absurd cc
+      not_handed to (input.Expire now) m comes = absurd cc
+      not_handed to input.Remind m comes = absurd cc
+      not_handed to (input.Drop group member) m comes = absurd cc
+      not_handed to (input.Put values) m comes = absurd cc
+      not_handed to (input.Restart now) m comes = absurd cc
 
     pub is_delivered : (number : ℕ) (to : Node) (m : StoreMode) (message : Message)
         → slice_get w.sent number ≡ Some message
@@ -99,7 +101,7 @@ module _ (Stand : World → Type 0) where
         (step_deliver w number to t.store ∙ ap (delivered w to t.store) there)
         t.stand t.sent t.note_is
 
-    pub is_handed : (to : Node) (i : given.Input) (m : StoreMode) → IsNoMessage i
+    pub is_handed : (to : Node) (i : given.Input) (m : StoreMode) → is_message i ≡ false
         → IsHanded w to m (input_of i) Stand taken
         → Happens w (event.Hand to i m) Stand taken
     is_handed to i m other t =
@@ -136,7 +138,7 @@ client_made Coordinates Serves Groups nodes w client txn timeout after b h new i
   partitions = h.partitions;
   offsets = h.offsets;
   clients = is ∙ ap (λ (cs : List Client).
-  cond b (cs ++ new_client client txn timeout ∷ []) cs) h.clients
+      cond b (cs ++ new_client client txn timeout ∷ []) cs) h.clients
       ∙ ap (λ x. cond x (w.clients ++ new_client client txn timeout ∷ []) w.clients)
       (sym (sym (ap (λ (cs : List Client). is_new client cs) h.clients) ∙ new));
   clock = h.clock;

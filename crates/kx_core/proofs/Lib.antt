@@ -1,4 +1,5 @@
 pub mod Declining
+pub mod Fitting
 pub mod Happening
 pub mod Rising
 pub mod Running

@@ -1,8 +1,7 @@
 -- A client keeps its number, whatever it takes.
-use Rattle.std.proofs.Common.{◌≡◌, ℕ, Bool, true, false, cond, List, [], ◌∷◌, refl, Option, Some, None}
+use Rattle.std.proofs.Common.{◌≡◌, ℕ, Bool, List, [], ◌∷◌, refl, Option, Some, None}
 use Rattle.std.specs.List.{list_any}
 use Rattle.std.proofs.lemmas.Bool.{cond_both}
-use Rattle.kx_message.specs.declared.code.ErrorCode.{ErrorCode}
 use Rattle.kx_message.specs.declared.message.Held.{Held}
 use Rattle.kx_message.specs.declared.message.Message.{Message}
 use Rattle.kx_message.specs.declared.message.Message.TheVariants as msg
@@ -10,10 +9,9 @@ use Rattle.kx_message.specs.declared.outcome.Outcome.{Outcome}
 use Rattle.kx_message.specs.declared.outcome.Outcome.TheVariants.{Abort, Commit}
 use Rattle.kx_message.specs.declared.payload.PartitionOffset.{PartitionOffset}
 use Rattle.kx_batch.specs.Record.{Record}
-use Rattle.kx_model.specs.Client as model
 use Rattle.kx_model.specs.Client.{Client, Command, Commanded, Does, Declines, Fault, Place, Init}
 use Rattle.kx_model.specs.Client.{Begin, Send, JoinGroup, LeaveGroup, SendOffsets, End, Resend}
-use Rattle.kx_model.specs.Client.{asks, command, does, is_init, leaves, refusals, sends}
+use Rattle.kx_model.specs.Client.{command, does, is_init, leaves, refusals, sends}
 use Rattle.kx_model.specs.Client.{sends_end, sends_offsets, unless, value_records}
 use Rattle.kx_model.specs.Replies as reply
 use Rattle.kx_model.specs.Replies.{Meaning, holding, is_awaited, learns, take_reply, told}

@@ -58,6 +58,32 @@ module _ {C P O : Type 0} (Coordinates : NodeState → C → Type 0) (Serves : N
     note_is = h.note_is;
   }
 
+  -- the same, where what was handed out is named otherwise
+  pub stepped : (before : Running C P O) (after : Nodes C P O) (steps : List (List Message))
+      (w : World) (given : happening.Event) (taken : Taken) → Run before w
+      → ((e : model.Event) → running.IsEvent given e → model.IsEvent e)
+      → Happens w given (StandFor Coordinates Serves Groups after) taken
+      → steps ≡ before.steps ++ taken.messages ∷ []
+      → Steps w given (Run (record { nodes = after; steps = steps })) taken.note
+  stepped before after steps w given taken r fits h same =
+      subst (λ (xs : List (List Message)).
+      Steps w given (Run (record { nodes = after; steps = xs })) taken.note) (sym same)
+      (goes_on before after w given taken r fits h)
+
+  -- a world in which nothing has happened
+  pub begins : (nodes : Nodes C P O) (steps : List (List Message)) (count : ℕ)
+      → StandFor Coordinates Serves Groups nodes (start count) → steps ≡ []
+      → Run (record { nodes = nodes; steps = steps }) (start count)
+  unfolding run
+  begins nodes steps count h none = record {
+    count = count;
+    events = [];
+    is_schedule = λ k d lt. absurd (omega arith);
+    is_run = refl;
+    nodes = h;
+    sent = ap joined none;
+  }
+
   pub promised : ((count : ℕ) (events : List model.Event) → IsSchedule events
       → KeepsPromises (run events (start count))) → (r : Running C P O) (w : World)
       → Run r w → KeepsPromises w

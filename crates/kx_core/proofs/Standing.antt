@@ -2,14 +2,14 @@
 use Rattle.std.proofs.Common.{◌≡◌, ◌≢◌, ◌<◌, ◌≤◌, ◌++◌, ◌==◌, ℕ, Bool, true, false, cond, List, [], ◌∷◌}
 use Rattle.std.proofs.Common.{refl, sym, ap, ◌∙◌, subst, length, Option, Some, None, arith, inl, inr}
 use Rattle.std.proofs.Common.{nat_le, zero, suc, append-nil}
-use Rattle.std.specs.Prelude.{slice_get, slice_set, ◌^◌}
+use Rattle.std.specs.Prelude.{slice_get, slice_set, MatchResult, Result, Ok, Err}
 use Rattle.std.proofs.lemmas.Bool.{cases_lt}
 use Rattle.std.proofs.lemmas.Bool.Decides.{Decides-eqb, nat_tests}
-use Rattle.std.proofs.lemmas.Option.{slice_get_past, slice_get_within}
+use Rattle.std.proofs.lemmas.Option.{slice_get_past}
 use Rattle.kx_batch.specs.Batch.{batch_limit}
-use Rattle.kx_core.specs.Clients.{TakesAt, TakesBy, TakesOne, client_in, with_one}
+use Rattle.kx_core.specs.Clients.{TakesAt, TakesBy, client_in, with_one}
 use Rattle.kx_core.specs.World.{IsHanded, Nodes, StandFor}
-use Rattle.kx_machine.specs.Meaning.{AtClient, AtCoordinator, AtPartition, IsTaken, NodeState, node_step}
+use Rattle.kx_machine.specs.Meaning.{AtCoordinator, AtPartition, IsTaken, NodeState}
 use Rattle.kx_machine.specs.Meaning.{note_of}
 use Rattle.kx_machine.specs.Stores.{FailsWith, IsMode}
 use Rattle.kx_machine.specs.declared.machine.StoreMode.{StoreMode}
@@ -22,9 +22,8 @@ use Rattle.kx_message.specs.declared.message.Node.TheVariants as node
 use Rattle.kx_model.specs.Client.{Client}
 use Rattle.kx_model.specs.Disk.{Store, Works, Fails, CannotLoad}
 use Rattle.kx_model.specs.PartitionNode.{Partition}
-use Rattle.kx_model.specs.Step.{Done, Input, NodeStep, StepNote, client_step, partition_step}
+use Rattle.kx_model.specs.Step.{Done, Input, NodeStep, client_step, partition_step}
 use Rattle.kx_model.specs.World.{Stepped, World, at_client, at_partition, clock_after, handed}
-use Rattle.kx_model.specs.World.{partition_at}
 
 ------ stores
 
@@ -51,6 +50,9 @@ a_store mode.CannotLoad = (CannotLoad, refl)
 
 ------ lists
 
+pub false_true : false ≡ true → ⊥
+false_true e = absurd cc
+
 get_set : {A : Type 0} (xs : List A) (i : ℕ) (y z : A) → slice_get (slice_set xs i y) i ≡ Some z
     → z ≡ y
 get_set [] i y z is = absurd cc
@@ -71,18 +73,37 @@ length_set [] i y = refl
 length_set (x ∷ xs) zero y = refl
 length_set (x ∷ xs) (suc i) y = omega (arith, length_set xs i y)
 
-past_none : {A : Type 0} (xs : List A) (i : ℕ) → slice_get xs i ≡ None → length xs ≤ i
+pub past_none : {A : Type 0} (xs : List A) (i : ℕ) → slice_get xs i ≡ None → length xs ≤ i
 past_none [] i e = omega arith
 past_none (x ∷ xs) zero e = absurd cc
 past_none (x ∷ xs) (suc i) e = omega (arith, past_none xs i e)
 
-there_too : {A : Type 0} {B : Type 0} (xs : List A) (ys : List B) (i : ℕ) (y : B)
+pub there_too : {A : Type 0} {B : Type 0} (xs : List A) (ys : List B) (i : ℕ) (y : B)
     → length xs ≡ length ys → slice_get ys i ≡ Some y → (x : A) × (slice_get xs i ≡ Some x)
 there_too [] [] i y same is = absurd cc
 there_too [] (z ∷ ys) i y same is = absurd (omega (arith, same))
 there_too (x ∷ xs) [] i y same is = absurd (omega (arith, same))
 there_too (x ∷ xs) (z ∷ ys) zero y same is = (x, refl)
 there_too (x ∷ xs) (z ∷ ys) (suc i) y same is = there_too xs ys i y (omega (arith, same)) is
+
+pub past_if : {A : Type 0} (xs : List A) (i number : ℕ) → (i < length xs → ⊥) → i ≡ number
+    → slice_get xs number ≡ None
+past_if xs i number apart same = slice_get_past xs number (elim (cases_lt number (length xs)) [
+  | inl lt ↦ absurd (apart (omega (arith, same, lt)))
+  | inr le ↦ le
+])
+
+set_same : {A : Type 0} (xs : List A) (i : ℕ) (x : A) → slice_get xs i ≡ Some x
+    → slice_set xs i x ≡ xs
+set_same [] i x is = refl
+set_same (y ∷ xs) zero x is = let same : y ≡ x = cc in ap (λ z. z ∷ xs) (sym same)
+set_same (y ∷ xs) (suc i) x is = ap (λ zs. y ∷ zs) (set_same xs i x is)
+
+-- what is told of a result is told of it in other words
+pub matched : {A B : Type 0} {P Q : A → Type 0} {R S : B → Type 0} (r : Result A B)
+    → MatchResult r P R → ((a : A) → P a → Q a) → ((b : B) → R b → S b) → MatchResult r Q S
+matched (Ok a) h f g = f a h
+matched (Err b) h f g = g b h
 
 ------ what the definitions do
 
@@ -110,11 +131,14 @@ handed_data w n store input p apart is =
     let s = partition_step n p store input in
     ap (at_partition w n store input)
     (ap (λ b. cond b (Some w.offsets) (slice_get w.partitions n)) (not_offsets n apart) ∙ is)
-    ∙ ap (λ b. (record w {
-      offsets = cond b s.state w.offsets;
-      partitions = cond b w.partitions (slice_set w.partitions n s.state);
-      sent = w.sent ++ s.messages;
-    }, s.note)) (not_offsets n apart)
+    ∙ ap (λ b. (
+      record w {
+        offsets = cond b s.state w.offsets;
+        partitions = cond b w.partitions (slice_set w.partitions n s.state);
+        sent = w.sent ++ s.messages;
+      },
+      s.note,
+    )) (not_offsets n apart)
 
 handed_to_none : (w : World) (n : ℕ) (store : Store) (input : Input) → n ≢ offsets_partition
     → slice_get w.partitions n ≡ None → handed w (node.Partition n) store input ≡ (w, Done)
@@ -228,23 +252,54 @@ module _ {C P O : Type 0} (Coordinates : NodeState → C → Type 0) (Serves : N
         store = t.store;
         allowed = t.allowed;
         stand = subst (λ (x : Stepped). Stand
-        (record nodes { partitions = slice_set nodes.partitions number after }) x.0) (sym done)
-        (record {
-          coordinator = h.coordinator;
-          count = length_set w.partitions number s.state ∙ h.count
-              ∙ sym (length_set nodes.partitions number after);
-          few = subst (λ (n : ℕ). n < offsets_partition)
-          (sym (length_set w.partitions number s.state)) h.few;
-          partitions = served nodes w number s.state after h t.stands;
-          offsets = h.offsets;
-          clients = h.clients;
-          clock = h.clock;
-        });
+            (record nodes { partitions = slice_set nodes.partitions number after }) x.0) (sym done)
+            (record {
+              coordinator = h.coordinator;
+              count = length_set w.partitions number s.state ∙ h.count
+                  ∙ sym (length_set nodes.partitions number after);
+              few = subst (λ (n : ℕ). n < offsets_partition)
+                  (sym (length_set w.partitions number s.state)) h.few;
+              partitions = served nodes w number s.state after h t.stands;
+              offsets = h.offsets;
+              clients = h.clients;
+              clock = h.clock;
+            });
         sent = ap (λ (x : Stepped). x.0.sent) done
             ∙ ap (λ ms. w.sent ++ ms) (sym (ap (λ (x : Taken). x.messages) t.answer));
         note_is = ap (λ (x : Taken). x.note) t.answer
             ∙ sym (ap (λ (x : Stepped). note_of x.1) done);
       }
+
+  -- the same, where the place among the servers is named otherwise
+  pub by_server : (nodes : Nodes C P O) (w : World) (number place : ℕ) (m : StoreMode)
+      (input : Input) (p : Partition) (after : P) (taken : Taken) → Stand nodes w
+      → number ≢ offsets_partition → place ≡ number → slice_get w.partitions number ≡ Some p
+      → IsTaken (AtPartition number p) input (IsMode m) (λ s. Serves s after) taken
+      → IsHanded w (node.Partition number) m input
+      (Stand (record nodes { partitions = slice_set nodes.partitions place after })) taken
+  by_server nodes w number place m input p after taken h apart same is t =
+      subst (λ (k : ℕ). IsHanded w (node.Partition number) m input
+      (Stand (record nodes { partitions = slice_set nodes.partitions k after })) taken) (sym same)
+      (by_partition nodes w number m input p after taken h apart is t)
+
+  -- a server still stands for the partition for which it stood
+  pub serves_still : (nodes : Nodes C P O) (w : World) (number place : ℕ) (p : Partition)
+      (after : P) → Stand nodes w → place ≡ number → slice_get w.partitions number ≡ Some p
+      → Serves (AtPartition number p) after
+      → Stand (record nodes { partitions = slice_set nodes.partitions place after }) w
+  serves_still nodes w number place p after h same is serves =
+      subst (λ (k : ℕ). Stand (record nodes { partitions = slice_set nodes.partitions k after }) w)
+      (sym same) (record {
+        coordinator = h.coordinator;
+        count = h.count ∙ sym (length_set nodes.partitions number after);
+        few = h.few;
+        partitions = λ other q server there runs. served nodes w number p after h serves other q
+            server (ap (λ (xs : List Partition). slice_get xs other) (set_same w.partitions number p is)
+            ∙ there) runs;
+        offsets = h.offsets;
+        clients = h.clients;
+        clock = h.clock;
+      })
 
   pub by_no_partition : (nodes : Nodes C P O) (w : World) (number : ℕ) (m : StoreMode)
       (input : Input) (taken : Taken) → Stand nodes w → number ≢ offsets_partition
@@ -273,16 +328,16 @@ module _ {C P O : Type 0} (Coordinates : NodeState → C → Type 0) (Serves : N
         store = (a_store m).0;
         allowed = (a_store m).1;
         stand = subst (λ (x : Stepped). Stand (record nodes { clients = new }) x.0) (sym done)
-        (record {
-          coordinator = h.coordinator;
-          count = h.count;
-          few = h.few;
-          partitions = h.partitions;
-          offsets = h.offsets;
-          clients = takes.new_is ∙ ap (λ (d : Client). with_one nodes.clients d) (sym same)
-              ∙ ap (λ (ds : List Client). with_one ds s.state) h.clients;
-          clock = h.clock;
-        });
+            (record {
+              coordinator = h.coordinator;
+              count = h.count;
+              few = h.few;
+              partitions = h.partitions;
+              offsets = h.offsets;
+              clients = takes.new_is ∙ ap (λ (d : Client). with_one nodes.clients d) (sym same)
+                  ∙ ap (λ (ds : List Client). with_one ds s.state) h.clients;
+              clock = h.clock;
+            });
         sent = ap (λ (x : Stepped). x.0.sent) done
             ∙ ap (λ ms. w.sent ++ ms) (sym (ap (λ (x : Taken). x.messages) t.answer));
         note_is = ap (λ (x : Taken). x.note) t.answer

@@ -1,11 +1,11 @@
 -- What one client of a list takes.
-use Rattle.std.proofs.Common.{◌≡◌, ℕ, List, Option, Some, get_or, refl, sym, ap, ◌∙◌, subst}
+use Rattle.std.proofs.Common.{◌≡◌, ℕ, List, Option, Some, get_or, sym, ap, ◌∙◌, subst}
 use Rattle.std.specs.Prelude.{slice_get, slice_set}
 use Rattle.std.proofs.lemmas.Option.{get_or_from_slice_get}
 use Rattle.kx_core.specs.Clients.{AreRising, TakesAt, TakesBy, any_store, client_in}
 use Rattle.kx_core.proofs.Numbers.{number_kept}
 use Rattle.kx_core.proofs.Rising.{found, replaced}
-use Rattle.kx_machine.specs.Meaning.{AtClient, IsTaken, NodeState}
+use Rattle.kx_machine.specs.Meaning.{AtClient, IsTaken}
 use Rattle.kx_machine.specs.declared.taken.Taken.{Taken}
 use Rattle.kx_model.specs.Client.{Client}
 use Rattle.kx_model.specs.Step.{Input, client_step}

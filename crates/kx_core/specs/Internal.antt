@@ -1,9 +1,17 @@
 -- What the world's parts say to one another.
-use Rattle.std.specs.Prelude.{◌≡◌, ◌+◌, ℕ, List, [], ◌∷◌, length}
+use Rattle.std.specs.Prelude.{◌≡◌, ◌+◌, ℕ, Bool, true, false, List, [], ◌∷◌}
+use Rattle.std.specs.Prelude.{length}
 use Rattle.kx_core.specs.declared.sent.Handed.{Handed}
+use Rattle.kx_machine.specs.declared.input.Input.{Input}
+use Rattle.kx_machine.specs.declared.input.Input.TheVariants as input
 
 -- each step has the number of its first message, from this one on, and this comes next
 abbrev pub AreNumbered : ℕ → List Handed → ℕ → Type 0
 AreNumbered low [] next = low ≡ next
 AreNumbered low (step ∷ steps) next =
     (step.first ≡ low) × AreNumbered (low + length step.messages) steps next
+
+-- a message comes
+abbrev pub is_message : Input → Bool
+is_message (input.Deliver message) = true
+is_message other = false

@@ -1,6 +1,6 @@
 -- What a world keeps, whatever happened: the exactly-once semantics that KIP-98 and KIP-447
 -- promise, of one world.
-use Rattle.std.specs.Prelude.{◌≡◌, ◌≤◌, ℕ, ℤ, pos, Bool, true, List, filter, Contains, Ok, Some}
+use Rattle.std.specs.Prelude.{◌≡◌, ◌≤◌, ℕ, ℤ, true, List, filter, Contains, Ok, Some}
 use Rattle.std.specs.Prelude.{◌&&◌, int_le, int_lt}
 use Rattle.kx_batch.specs.Batch.{batch_of}
 use Rattle.kx_message.specs.declared.message.Held.{Held}

@@ -1,9 +1,11 @@
 //! Events hold numbers, names and bytes within their ranges, as their types see to. What stands
 //! here changes nothing when it runs.
 ghost use Rattle.std.specs.Prelude.{All, ◌∷◌, ◌<◌, ◌^◌};
+ghost use Rattle.std.specs.Int.{w64};
+ghost use Rattle.std.specs.Int.RustNames.{FitsSigned};
 ghost use Rattle.kx_core.specs.World.{IsEvent};
 ghost use Rattle.kx_machine.specs.Meaning.{command_of, input_of};
-ghost use Rattle.kx_message.specs.Message.{IsU32};
+ghost use Rattle.kx_message.specs.Message.{IsOffset, IsU32};
 ghost use Rattle.kx_model.specs.World as model;
 ghost use Rattle.kx_varint.specs.Text.{IsBytes};
 
@@ -38,6 +40,25 @@ fn list_fits(values: &[Bytes])
     }
 }
 
+fn offset_fits(offset: i64)
+    ensures { FitsSigned w64 offset }
+{}
+
+fn committed_fits(committed: PartitionOffset)
+    ensures { IsOffset committed }
+{
+    let _partition = committed.partition.get();
+    offset_fits(committed.offset);
+}
+
+fn offsets_fit(offsets: &[PartitionOffset])
+    ensures { All IsOffset offsets.now }
+{
+    for committed in offsets {
+        committed_fits(*committed);
+    }
+}
+
 fn values_fit(values: &Values)
     ensures { All IsBytes (values.now.first ∷ values.now.more) }
 {
@@ -56,14 +77,8 @@ fn command_fits(command: &Command)
         Command::Join(group) => {
             let _group = group.as_bytes();
         }
-        Command::Offsets(offsets) => {
-            let _offsets = offsets.as_slice();
-        }
-        Command::Init
-        | Command::Begin
-        | Command::Leave
-        | Command::End(_)
-        | Command::Resend => {}
+        Command::Offsets(offsets) => offsets_fit(offsets.as_slice()),
+        Command::Init | Command::Begin | Command::Leave | Command::End(_) | Command::Resend => {}
     }
 }
 

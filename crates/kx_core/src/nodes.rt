@@ -1,5 +1,6 @@
 //! The nodes of a world.
 ghost use Rattle.std.specs.Prelude.{◌≡◌, ◌≢◌, [], MatchResult, false};
+ghost use Rattle.kx_core.specs.Internal.{is_message};
 ghost use Rattle.kx_core.specs.Sent.{joined};
 ghost use Rattle.kx_core.specs.World.{Hands, Happens, StandFor, given};
 ghost use Rattle.kx_machine.specs.declared.machine.StoreMode.{StoreMode};
@@ -35,6 +36,13 @@ fn nothing(alloc: Global) -> Taken
     }
 }
 
+// Whether it is a message that comes.
+fn is_message(input: &Input) -> bool
+    ensures { result ≡ is_message input.now }
+{
+    matches!(input, Input::Deliver(_))
+}
+
 /// The nodes of a world: the coordinator, the partitions, and the clients in the order of their
 /// numbers.
 #[derive(Drop)]
@@ -65,11 +73,7 @@ impl<C: Failing, P: Failing, O: Failing> Model for Nodes<C, P, O> {
 impl<C: Failing, P: Failing, O: Failing> Nodes<C, P, O> {
     // The coordinator takes what it is handed; the world's clock is the greatest moment of all
     // expiries.
-    fn hand_coordinator(
-        &mut self,
-        handed: Given<'_>,
-        mode: StoreMode,
-    ) -> Result<Taken, AllocError>
+    fn hand_coordinator(&mut self, handed: Given<'_>, mode: StoreMode) -> Result<Taken, AllocError>
         ensures { Hands (StandFor C.stands P.stands O.stands self.old)
             (StandFor C.stands P.stands O.stands self.new) node.Coordinator mode (given handed.entry)
             result }
@@ -101,19 +105,15 @@ impl<C: Failing, P: Failing, O: Failing> Nodes<C, P, O> {
     }
 
     // A client takes what it is handed, if there is one of this number; it has no store.
-    fn hand_client(
-        &mut self,
-        number: ClientId,
-        handed: Given<'_>,
-    ) -> Result<Taken, AllocError>
+    fn hand_client(&mut self, number: ClientId, handed: Given<'_>) -> Result<Taken, AllocError>
         ensures { (mode : StoreMode) → Hands (StandFor C.stands P.stands O.stands self.old)
             (StandFor C.stands P.stands O.stands self.new) (node.Client number) mode
             (given handed.entry) result }
     {
-        match self.clients.take(number, handed)? {
-            Some(taken) => Ok(taken),
-            None => Ok(nothing(self.alloc)),
-        }
+        let Some(taken) = self.clients.take(number, handed)? else {
+            return Ok(nothing(self.alloc));
+        };
+        Ok(taken)
     }
 
     /// A node takes what it is handed, while its store does this; where there is no such node,
@@ -124,20 +124,21 @@ impl<C: Failing, P: Failing, O: Failing> Nodes<C, P, O> {
     /// Only for want of memory; then all stand for what they stood for.
     pub(crate) fn hand(
         &mut self,
-        to: Node,
+        to: &Node,
         handed: Given<'_>,
         mode: StoreMode,
     ) -> Result<Taken, AllocError>
         ensures { Hands (StandFor C.stands P.stands O.stands self.old)
-            (StandFor C.stands P.stands O.stands self.new) to mode (given handed.entry) result }
+            (StandFor C.stands P.stands O.stands self.new) to.now mode (given handed.entry)
+            result }
     {
         match to {
             Node::Coordinator => self.hand_coordinator(handed, mode),
-            Node::Partition(number) if number == PartitionId::OFFSETS => {
+            Node::Partition(number) if *number == PartitionId::OFFSETS => {
                 hand(&mut self.offsets, handed, mode)
             }
-            Node::Partition(number) => self.hand_partition(number, handed, mode),
-            Node::Client(number) => self.hand_client(number, handed),
+            Node::Partition(number) => self.hand_partition(*number, handed, mode),
+            Node::Client(number) => self.hand_client(*number, handed),
         }
     }
 
@@ -182,15 +183,16 @@ impl<C: Failing, P: Failing, O: Failing> Nodes<C, P, O> {
                 Ok(nothing(self.alloc))
             }
             Event::Deliver { number, to, store } => match sent.get(*number) {
-                Some(message) => self.hand(*to, Given::Message(message), *store),
+                Some(message) => self.hand(to, Given::Message(message), *store),
                 None => Ok(nothing(self.alloc)),
             },
-            // a message comes by its number alone
-            Event::Hand {
-                input: Input::Deliver(_),
-                ..
-            } => Ok(nothing(self.alloc)),
-            Event::Hand { to, input, store } => self.hand(*to, Given::Input(input), *store),
+            Event::Hand { to, input, store } => {
+                // a message comes by its number alone
+                if is_message(input) {
+                    return Ok(nothing(self.alloc));
+                }
+                self.hand(to, Given::Input(input), *store)
+            }
         }
     }
 }

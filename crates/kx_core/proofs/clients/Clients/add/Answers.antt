@@ -1,4 +1,4 @@
-use Rattle.std.proofs.Common.{◌≡◌, ◌++◌, ◌∷◌, [], List, true, subst, sym, ap, ◌∙◌}
+use Rattle.std.proofs.Common.{◌≡◌, List, true, subst, sym, ap, ◌∙◌}
 use Rattle.kx_core.proofs.Rising.{rising_push}
 use Rattle.kx_core.specs.Clients.{AreRising}
 use Rattle.kx_model.specs.Client.{Client}

@@ -1,4 +1,4 @@
-use Rattle.std.proofs.Common.{◌≡◌, ◌<◌, List, Some, None, nat_lt, length, get_or, false, true, rules}
+use Rattle.std.proofs.Common.{◌≡◌, List, Some, None, nat_lt, length, false, rules}
 use Rattle.std.proofs.Common.{of_calls, arith, subst, sym, ap, ◌∙◌, refl}
 use Rattle.std.specs.Prelude.{slice_get}
 use Rattle.std.proofs.lemmas.Bool.Decides.{Decides-ltb, Decides-eqb}
