@@ -1,6 +1,6 @@
 -- Offsets that fit are a command that does.
-use Rattle.std.proofs.Common.{◌≡◌, ◌∙◌, ◌+◌, ◌<◌, ℕ, List, [], ◌∷◌, All, ap, subst, sym, take, length}
-use Rattle.std.proofs.Common.{arith, get_or, zero, suc}
+use Rattle.std.proofs.Common.{◌≡◌, ◌∙◌, ◌+◌, ◌<◌, ℕ, List, [], ◌∷◌, All, ap, subst, sym, take}
+use Rattle.std.proofs.Common.{arith, get_or, length, zero, suc}
 use Rattle.std.proofs.Math.Seq.{take-suc}
 use Rattle.std.proofs.lemmas.List.Elements.{All-append}
 use Rattle.kx_machine.specs.Meaning.{command_of_offsets}

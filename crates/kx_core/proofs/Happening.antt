@@ -1,4 +1,5 @@
--- An event that happens to running nodes is a step of the definitions, and a schedule goes on by it.
+-- An event that happens to running nodes is a step of the definitions, and a schedule goes on by
+-- it.
 use Rattle.std.proofs.Common.{◌≡◌, ◌++◌, ℕ, Bool, true, false, cond, List, [], ◌∷◌, refl, sym, ap}
 use Rattle.std.proofs.Common.{◌∙◌, subst, Option, Some, None, append-nil}
 use Rattle.std.specs.Prelude.{slice_get}

@@ -1,7 +1,7 @@
 -- Nodes that take what they are handed stand for a world of the definitions after it.
-use Rattle.std.proofs.Common.{◌≡◌, ◌≢◌, ◌<◌, ◌≤◌, ◌++◌, ◌==◌, ℕ, Bool, true, false, cond, List, [], ◌∷◌}
-use Rattle.std.proofs.Common.{refl, sym, ap, ◌∙◌, subst, length, Option, Some, None, arith, inl, inr}
-use Rattle.std.proofs.Common.{nat_le, zero, suc, append-nil}
+use Rattle.std.proofs.Common.{◌≡◌, ◌≢◌, ◌<◌, ◌≤◌, ◌++◌, ◌==◌, ℕ, Bool, true, false, cond, List, []}
+use Rattle.std.proofs.Common.{◌∷◌, refl, sym, ap, ◌∙◌, subst, length, Option, Some, None, arith, inl}
+use Rattle.std.proofs.Common.{inr, nat_le, zero, suc, append-nil}
 use Rattle.std.specs.Prelude.{slice_get, slice_set, MatchResult, Result, Ok, Err}
 use Rattle.std.proofs.lemmas.Bool.{cases_lt}
 use Rattle.std.proofs.lemmas.Bool.Decides.{Decides-eqb, nat_tests}
@@ -235,7 +235,8 @@ module _ {C P O : Type 0} (Coordinates : NodeState → C → Type 0) (Serves : N
           (subst (Serves (AtPartition number p))
           (sym (get_set nodes.partitions number after server two)) serves))
       by_number false e =
-          let apart : other ≡ number → ⊥ = λ same. absurd (cc (e, (Decides-eqb other number).1 same))
+          let apart : other ≡ number → ⊥ = λ same.
+          absurd (cc (e, (Decides-eqb other number).1 same))
           in
           h.partitions other q server (sym (get_other w.partitions number other p apart) ∙ is)
           (sym (get_other nodes.partitions number other after apart) ∙ runs)
@@ -294,7 +295,8 @@ module _ {C P O : Type 0} (Coordinates : NodeState → C → Type 0) (Serves : N
         count = h.count ∙ sym (length_set nodes.partitions number after);
         few = h.few;
         partitions = λ other q server there runs. served nodes w number p after h serves other q
-            server (ap (λ (xs : List Partition). slice_get xs other) (set_same w.partitions number p is)
+            server (ap (λ (xs : List Partition). slice_get xs other)
+            (set_same w.partitions number p is)
             ∙ there) runs;
         offsets = h.offsets;
         clients = h.clients;

@@ -14,7 +14,8 @@ same_client : (c d : Client) → AtClient c ≡ AtClient d → c ≡ d
 same_client c d e = cc
 
 module _ (cs : List Client) (place number : ℕ) (c x : Client) (rising : AreRising cs)
-    (there : slice_get cs place ≡ Some x) (is : x.number ≡ number) (at : c ≡ get_or cs place c) where
+    (there : slice_get cs place ≡ Some x) (is : x.number ≡ number)
+    (at : c ≡ get_or cs place c) where
   same : c ≡ x
   same = at ∙ get_or_from_slice_get cs place x c there
 

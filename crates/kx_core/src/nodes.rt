@@ -75,8 +75,8 @@ impl<C: Failing, P: Failing, O: Failing> Nodes<C, P, O> {
     // expiries.
     fn hand_coordinator(&mut self, handed: Given<'_>, mode: StoreMode) -> Result<Taken, AllocError>
         ensures { Hands (StandFor C.stands P.stands O.stands self.old)
-            (StandFor C.stands P.stands O.stands self.new) node.Coordinator mode (given handed.entry)
-            result }
+            (StandFor C.stands P.stands O.stands self.new) node.Coordinator mode
+            (given handed.entry) result }
     {
         let taken = hand(&mut self.coordinator, handed, mode)?;
         if let Given::Input(Input::Expire(now)) = handed {

@@ -15,7 +15,8 @@ invariant_of-self-2 c =
     found.1 in
     (taken_at c.self.inside.clients.items place c.args.number c.index_mut.result.now found.0
     c.self.invariant there found.2 c.index_mut.ensures.value c.take.new.machine
-    (given c.args.handed) c.in_ok-taken.taken (c.in_ok-taken.ensures (AtClient c.index_mut.result.now) refl)).0
+    (given c.args.handed) c.in_ok-taken.taken
+    (c.in_ok-taken.ensures (AtClient c.index_mut.result.now) refl)).0
 
 pub returns : goal.returns
 returns c =
@@ -25,7 +26,8 @@ returns c =
     found.1 in
     let taken = (taken_at c.self.inside.clients.items place c.args.number c.index_mut.result.now
     found.0 c.self.invariant there found.2 c.index_mut.ensures.value c.take.new.machine
-    (given c.args.handed) c.in_ok-taken.taken (c.in_ok-taken.ensures (AtClient c.index_mut.result.now) refl)).1 in
+    (given c.args.handed) c.in_ok-taken.taken
+    (c.in_ok-taken.ensures (AtClient c.index_mut.result.now) refl)).1 in
     subst (λ (xs : List Client). TakesAt xs
     (slice_set c.self.inside.clients.items place c.take.new.machine) c.args.number
     (given c.args.handed) (Some c.in_ok-taken.taken)) c.self.view_is taken
