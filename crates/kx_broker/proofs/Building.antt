@@ -1,10 +1,10 @@
 -- Value after value, a builder comes to the plain batch of all.
 use Rattle.std.proofs.Common.{◌≡◌, ◌<◌, ◌≤◌, ◌+◌, ℕ, pos, negsuc, List, [], ◌∷◌, ◌++◌, Option, None}
 use Rattle.std.proofs.Common.{Some, Bool, true, false, cond, ltb, length, map, refl, sym, ap, ◌∙◌}
-use Rattle.std.proofs.Common.{append_assoc, append-nil, arith, subst}
+use Rattle.std.proofs.Common.{append_assoc, append-nil, arith, drop}
 use Rattle.std.specs.List.{enumerate_from}
 use Rattle.std.proofs.lemmas.Bool.{ltb-true, lt-ltb}
-use Rattle.std.proofs.lemmas.List.{length-append}
+use Rattle.std.proofs.lemmas.List.{length-append, length-drop}
 use Rattle.std.proofs.lemmas.List.Concat.{flat_map-append}
 use Rattle.kx_batch.proofs.Making.{length-fields_text, length-whole_text}
 use Rattle.kx_batch.specs.Batch.{batch_limit}
@@ -114,6 +114,20 @@ length_plain values =
       length-append (fields_text v (length records)) (records_text records),
       length-fields_text v (length records),
     )
+
+no_length : (items : List (List ℕ)) → length items ≤ 0 → items ≡ []
+no_length [] le = refl
+no_length (value ∷ items) le = absurd (omega (arith, le))
+
+drop_past : (items : List (List ℕ)) (i : ℕ) → length items ≤ i → drop i items ≡ []
+drop_past items i le = no_length (drop i items) (omega (arith, length-drop i items, le))
+
+-- once no value is left
+pub all_pushed : (values items : List (List ℕ)) (i : ℕ) (d : Draft) → length items ≤ i
+    → d ≡ plain d.records → pushes d.records (drop i items) ≡ pushes (Some []) values
+    → d ≡ limited_to values
+all_pushed values items i d le is same =
+    is ∙ ap plain (sym (ap (pushes d.records) (drop_past items i le)) ∙ same ∙ pushes-all values)
 
 no_values : (value : List ℕ) (values : List (List ℕ))
     → [] ≡ value_records (value ∷ values) → ⊥

@@ -1,19 +1,24 @@
 -- Opening the partition again finds the log of the definitions.
 use Rattle.std.proofs.Common.{◌≡◌, ◌⊎◌, inl, inr, ◌≤◌, ◌<◌, ◌+◌, ℕ, Bool, true, false, List, [], ◌∷◌}
-use Rattle.std.proofs.Common.{◌++◌, Option, Some, None, refl, sym, ap, ◌∙◌, subst, arith}
+use Rattle.std.proofs.Common.{ℤ, pos, ◌++◌, Option, Some, None, refl, sym, ap, ◌∙◌, subst, arith}
 use Rattle.std.proofs.Common.{append-nil}
+use Rattle.std.specs.Int.{w64}
 use Rattle.std.specs.Prelude.{◌&&◌, is_some, nat_lt, not, option_to_list}
 use Rattle.std.proofs.lemmas.Bool.Decides.{nat_tests}
 use Rattle.std.proofs.lemmas.List.Elements.{All-nil}
-use Rattle.kx_broker.specs.Serving.{IsDisk, IsServedBy, Restarts, Serving, Waits, closes}
+use lib.Signed.{lt_z}
+use mir.Val.{of_z, to_z}
+use Rattle.kx_broker.specs.Serving.{GoesTo, IsDisk, IsServed, IsServedBy, Restarts, Serving, Waits}
+use Rattle.kx_broker.specs.Serving.{closes}
 use Rattle.kx_broker.specs.declared.restart.Restarted.TheVariants as restarted
 use Rattle.kx_broker.proofs.Disks.{plain_disk}
 use Rattle.kx_broker.proofs.Served.{serving}
 use Rattle.kx_broker.proofs.Stores.{CanLoad, loaded, unloaded}
-use Rattle.kx_laws.specs.Grown.{IsGrown}
+use Rattle.kx_laws.specs.Grown.{IsGrown, Unwritten}
 use Rattle.kx_laws.proofs.GrownLogs.{each_stands}
+use Rattle.kx_log.proofs.Contents.{same_number}
 use Rattle.kx_log.proofs.Reading.{read_again}
-use Rattle.kx_log.specs.Log.{IsLog, NoTail, ReadLog, Tail, Wrong, log_in, texts}
+use Rattle.kx_log.specs.Log.{IsLog, IsStored, NoTail, ReadLog, Tail, Wrong, log_in, texts}
 use Rattle.kx_log.specs.LogState.{LogState}
 use Rattle.kx_log.specs.Opening.{IsOpened, IsRight}
 use Rattle.kx_log.specs.Store.{StoreState}
@@ -21,13 +26,14 @@ use Rattle.kx_log.specs.declared.fault.OpenFault.{OpenFault}
 use Rattle.kx_log.specs.declared.fault.OpenFault.TheVariants as fault
 use Rattle.kx_model.specs.Disk.{Disk, Store, Works, Fails, CannotLoad, made, reopening, reread}
 use Rattle.kx_model.specs.Log.{Stored, end, entries, entry_of, width}
-use Rattle.kx_model.specs.PartitionNode.{Partition, partition_restarts, reopened}
+use Rattle.kx_model.specs.PartitionNode.{Partition, empty_partition}
+use Rattle.kx_model.specs.PartitionNode.{partition_restarts, reopened}
 use Rattle.kx_model.specs.Step.{Done, partition_note}
 use Rattle.kx_model.proofs.Growth.{end-push}
 use Rattle.kx_model.proofs.Logs.{entries-push, width-entry_in}
-use Rattle.kx_model.specs.Verification.{Request}
+use Rattle.kx_model.specs.Verification.{Parked, Request, parked_for}
 use Rattle.kx_partition.proofs.Rebuilding.{none_untaken}
-use Rattle.kx_partition.specs.Opening.{ReloadsGrown, RereadFaults}
+use Rattle.kx_partition.specs.Opening.{Rebuilds, ReloadsGrown, RereadFaults}
 
 -- the same bytes hold the same
 same_disk : (Fits : List Stored → Type 0) (disk : Disk Stored) (old new : LogState)
@@ -153,9 +159,9 @@ module _ (Fits : List Stored → Type 0) (grows : (log : List Stored) → Fits l
             });
         answers = (
           can.1,
-          (is_found ∙ (λ i. nat_lt (end (entries (is.disk.kept i))) (end (entries (same i))))
+          is_found ∙ (λ i. nat_lt (end (entries (is.disk.kept i))) (end (entries (same i))))
               ∙ found_is p.disk.kept p.disk.hidden (grows (reread p.disk) is.disk.fits),
-          kept_up ∙ sym (ap (λ (q : Partition). closes p q) can.0 ∙ never_closed p.disk.closed)),
+          kept_up ∙ sym (ap (λ (q : Partition). closes p q) can.0 ∙ never_closed p.disk.closed),
         );
       }
 
@@ -189,6 +195,11 @@ module _ (Fits : List Stored → Type 0) (grows : (log : List Stored) → Fits l
         answers = (refl, grind (arith, nat_tests, failed.rose));
       }
 
+  -- a load says of no epochs that they are used up
+  pub never_used_up : (new : LogState) → RereadFaults old.log new fault.UsedUp → ⊥
+  never_used_up new (inl h) = h.0
+  never_used_up new (inr h) = h.faults
+
   -- for want of memory it is as before
   pub unloaded_still : (new : LogState) → RereadFaults old.log new fault.Memory
       → Stands p (serving old.number new old.parked)
@@ -207,3 +218,33 @@ module _ (Fits : List Stored → Type 0) (grows : (log : List Stored) → Fits l
           cut_disk Fits p.disk old.log is.disk h.content h.store h.opened new
           (ap (λ (l : LogState). l.batches) h.rest) (ap (λ (l : LogState). l.closed) h.rest)
           (ap (λ (l : LogState). l.store) h.rest)
+
+-- on an empty store it stands for the node as it was made
+pub made_server : (number : ℕ) (store : StoreState) (log : LogState) (parked : List Parked)
+    → Rebuilds store log → store.bytes ≡ [] → parked ≡ []
+    → IsServed number empty_partition (serving number log parked)
+made_server number store log parked h empty none =
+    let placed : IsLog [] =
+    record { stored = All-nil IsStored; stand = tt; room = omega arith } in
+    let read : log_in store.bytes ≡ record { batches = []; tail = NoTail } =
+    ap log_in empty ∙ read_again [] placed.stored placed.stand in
+    let batches : log.batches ≡ [] =
+    h.opens.opened.log_is ∙ ap (λ (r : ReadLog). r.batches) read in
+    let bytes : log.store.bytes ≡ texts [] =
+    ap (λ (s : StoreState). s.bytes) h.opens.opened.store ∙ ap texts batches in
+    record {
+      number_is = refl;
+      disk = plain_disk IsGrown [] log batches h.opens.not_closed bytes placed Unwritten;
+      parked = λ held. ap (λ (l : List Parked). parked_for l held) none;
+      waits = All-nil (λ q. Waits (GoesTo number) [] q.held q);
+    }
+
+-- whether the log became longer, as code compares ends
+pub found_by : (before after : ℤ) (old new : List Stored) → IsLog old → IsLog new
+    → before ≡ pos (end (entries old)) → after ≡ pos (end (entries new))
+    → lt_z (to_z w64 (of_z w64 before)) (to_z w64 (of_z w64 after))
+    ≡ nat_lt (end (entries old)) (end (entries new))
+found_by before after old new placed other is_before is_after =
+    let first = same_number before (end (entries old)) is_before placed.room in
+    let second = same_number after (end (entries new)) is_after other.room in
+    λ i. lt_z (first i) (second i)

@@ -437,7 +437,7 @@ resumes_as Fits Here number held requests p old new answers (NoneLeft same) is a
     }
 resumes_as Fits Here number held requests p old new answers
     (OneMore q rest o b n a others one more) is all placed grown holds =
-    by_answer one
+    by_answer a one
     (λ same. resumes_as Fits Here number held rest p b n others more
     (subst (IsDisk Fits p.disk) (sym same) is)
     (subst (λ (l : LogState). All (Waits Here (entries l.batches) held) rest) (sym same)
@@ -472,11 +472,11 @@ resumes_as Fits Here number held requests p old new answers
         (text_next next) (grown q waits (here_next next)))
 
     -- behind one that changed the log
-    changed : verdict_again old q ≡ Next
+    changed : (a : Produced) → verdict_again old q ≡ Next
         → FollowsVerdict (verdict_again old q) q.request.text old b a
         → IsOver held (expected log held.id held.epoch) b
         → Resumed Fits number p old n (q ∷ rest) (a ∷ others)
-    changed next follows over =
+    changed a next follows over =
         let c = change_step Fits Here number log held p old is q b a (grows next) holds follows in
         let t = taken p c.store q.request.text (judge_request (entries_of p) true q.request) in
         let behind = none_next Fits Here number log held rest t.partition b n others more c.disk others_wait
@@ -502,17 +502,17 @@ resumes_as Fits Here number held requests p old new answers
               ≤ expected (entries s.0.disk.kept) id epoch) (sym whole) (c.later id epoch);
         }
 
-    by_answer : FollowsVerdict (verdict_again old q) q.request.text old b a
+    by_answer : (a : Produced) → FollowsVerdict (verdict_again old q) q.request.text old b a
         → (b ≡ old → Resumed Fits number p b n rest others)
         → Resumed Fits number p old n (q ∷ rest) (a ∷ others)
-    by_answer (IsAppended offset next h) more_of =
-        changed next (IsAppended offset next h)
+    by_answer a (IsAppended offset next h) more_of =
+        changed a next (IsAppended offset next h)
         (inr (subst (λ (l : List Stored). expected log held.id held.epoch
         < expected (entries l) held.id held.epoch) (sym (ap (λ (l : LogState). l.batches) h.rest))
         (over_after log held q.request.text waits.begins old.batches refl (text_next next))))
-    by_answer (Breaks next h) more_of =
-        changed next (Breaks next h) (inl (ap (λ (l : LogState). l.closed) h.rest))
-    by_answer (IsAnswered given says same) more_of =
+    by_answer a (Breaks next h) more_of =
+        changed a next (Breaks next h) (inl (ap (λ (l : LogState). l.closed) h.rest))
+    by_answer a (IsAnswered given says same) more_of =
         let behind = more_of same in
         let first = quiet_step Fits Here number log held p old is q a says behind.store in
         let whole : resumes number p behind.store (q ∷ rest)

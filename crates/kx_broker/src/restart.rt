@@ -40,7 +40,9 @@ impl<S: Store> PartitionMachine<S> {
                 Ok(Restarted::Read { found })
             }
             Err(OpenFault::Memory) => Err(AllocError),
-            Err(_) => Ok(Restarted::Unread),
+            Err(OpenFault::Device | OpenFault::Damaged(_) | OpenFault::UsedUp) => {
+                Ok(Restarted::Unread)
+            }
         }
     }
 }
