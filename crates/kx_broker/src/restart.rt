@@ -1,5 +1,5 @@
 //! Opening again.
-ghost use Rattle.std.specs.Prelude.{◌≡◌, ℕ, MatchResult};
+ghost use Rattle.std.specs.Prelude.{◌≡◌, ◌≢◌, ℕ, MatchResult};
 ghost use Rattle.kx_broker.specs.Serving.{IsServed, Restarts};
 ghost use Rattle.kx_model.specs.PartitionNode.{Partition};
 
@@ -17,6 +17,18 @@ pub(crate) enum Restarted {
     },
     /// The log couldn't be read, and is closed.
     Unread,
+}
+
+// What a restart comes to whose log isn't read, or that memory is wanted.
+fn unread_after(fault: OpenFault) -> Result<Restarted, AllocError>
+    ensures { MatchResult result
+        (λ restarted. (restarted ≡ Restarted.Unread) × (fault ≢ OpenFault.Memory))
+        (λ refused. fault ≡ OpenFault.Memory) }
+{
+    match fault {
+        OpenFault::Memory => Err(AllocError),
+        OpenFault::Device | OpenFault::Damaged(_) | OpenFault::UsedUp => Ok(Restarted::Unread),
+    }
 }
 
 impl<S: Store> PartitionMachine<S> {
@@ -39,10 +51,7 @@ impl<S: Store> PartitionMachine<S> {
                 self.guard = Guard::new(self.alloc);
                 Ok(Restarted::Read { found })
             }
-            Err(OpenFault::Memory) => Err(AllocError),
-            Err(OpenFault::Device | OpenFault::Damaged(_) | OpenFault::UsedUp) => {
-                Ok(Restarted::Unread)
-            }
+            Err(fault) => unread_after(fault),
         }
     }
 }

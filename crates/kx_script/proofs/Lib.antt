@@ -1,2 +1,5 @@
 pub mod Underway
 pub mod Occurring
+pub mod Words
+pub mod Performing
+pub mod Lines

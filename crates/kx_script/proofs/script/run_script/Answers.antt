@@ -1,4 +1,4 @@
-use Rattle.std.proofs.Common.{Result, Ok, Err, Bool, sym, ap, ◌∙◌, subst}
+use Rattle.std.proofs.Common.{None, Result, Ok, Err, Bool, sym, ap, ◌∙◌, subst}
 use Rattle.std.specs.Prelude.{IfSome}
 use Rattle.std.proofs.lemmas.Result.{err_from_is_err_and}
 use Rattle.kx_text.specs.Words.{before}
@@ -13,7 +13,7 @@ use Rattle.kx_script.proofs.script.run_script.Goals as goal
 
 pub loop-number-init : goal.loop-number-init
 loop-number-init g c =
-    starts (StandsIn g.N.Runs.stands c.running.value) tt (g.R.Read.remaining c.args.reader.now)
+    starts (StandsIn g.N.Runs.stands None) tt (g.R.Read.remaining c.args.reader.now)
     (g.W.Write.contents c.args.writer.now)
 
 pub returns-in_err-next_line : goal.returns-in_err-next_line
