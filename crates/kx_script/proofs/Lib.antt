@@ -1,5 +1,0 @@
-pub mod Underway
-pub mod Occurring
-pub mod Words
-pub mod Performing
-pub mod Lines
