@@ -1,13 +1,13 @@
 -- A restart: what is read again, and what the machine answers.
-use Rattle.std.proofs.Common.{◌≡◌, ◌∙◌, ◌⊎◌, ◌-◌, ◌<◌, ℕ, Bool, true, false, not, List, [], ◌∷◌}
-use Rattle.std.proofs.Common.{◌++◌, length, length-append, take, refl, sym, ap, subst, inl, inr}
+use Rattle.std.proofs.Common.{◌≡◌, ◌∙◌, ◌⊎◌, ◌-◌, ℕ, Bool, true, false, not, List, [], ◌∷◌}
+use Rattle.std.proofs.Common.{◌++◌, length, length-append, refl, sym, ap, subst, inl, inr}
 use Rattle.std.proofs.Common.{Option, Some, None, arith, nat_lt, is_some, pos}
 use Rattle.std.specs.Prelude.{◌==◌, ◌&&◌, if◌then◌else◌, is_none, option_to_list}
 use Rattle.std.proofs.lemmas.Bool.Decides.{nat_tests}
 use Rattle.std.proofs.lemmas.List.{append-nil}
 use Rattle.kx_log.specs.Opening.{OpenFailed}
 use Rattle.kx_log.specs.Store.{MayAppend, MayLeave, StoreState}
-use Rattle.kx_machine.specs.Meaning.{AtClient, AtCoordinator, AtPartition, IsTaken, of_kind}
+use Rattle.kx_machine.specs.Meaning.{AtClient, AtCoordinator, AtPartition, of_kind}
 use Rattle.kx_machine.specs.Meaning.{taken_of}
 use Rattle.kx_machine.specs.declared.taken.Closing.TheVariants.{Read, Write}
 use Rattle.kx_machine.specs.declared.taken.Note as answer
@@ -16,13 +16,13 @@ use Rattle.kx_machine.specs.declared.taken.Taken.{Taken}
 use Rattle.kx_message.specs.declared.message.Message.{Message}
 use Rattle.kx_model.specs.Coordinator.{Note, CoordinatorEpoch, coordinator_epoch}
 use Rattle.kx_model.specs.CoordinatorNode.{Coordinator, new_coordinator, opened, opens}
-use Rattle.kx_model.specs.Disk.{Store, Works, Fails, CannotLoad, CannotRead, CannotWrite, Reopening}
-use Rattle.kx_model.specs.Disk.{Reopens, reopening, reread, shut}
+use Rattle.kx_model.specs.Disk.{Store, Works, Fails, CannotLoad, CannotWrite}
+use Rattle.kx_model.specs.Disk.{Reopens, reread}
 use Rattle.kx_model.specs.Markers.{Answered, all_markers, reopen}
-use Rattle.kx_model.specs.Step.{NodeStep, Restarts, RunsOut, StepNote, Done, Unread, Unwritten}
+use Rattle.kx_model.specs.Step.{NodeStep, Restarts, RunsOut, Done, Unwritten}
 use Rattle.kx_model.specs.Step.{coordinates, coordinator_step}
 use Rattle.kx_txnlog.specs.Layout.{entry_text}
-use Rattle.kx_txnlog.specs.LogState.{AppendBreaks, IsAppendedTo, LogState}
+use Rattle.kx_txnlog.specs.LogState.{LogState}
 use Rattle.kx_txnlog.specs.Opening.{AreIn, Holds, IsDamaged, IsOpened, IsRight, IsWrong}
 use Rattle.kx_txnlog.specs.Reading.{ReadNotes, notes_from, notes_in}
 use Rattle.kx_txnlog.specs.declared.fault.EntryFault.{EntryFault}
@@ -32,7 +32,7 @@ use Rattle.kx_coord.specs.Calls.{IsCutTo, IsOpen, Reads, RestartBreaks, closed_o
 use Rattle.kx_coord.specs.Calls as calls
 use Rattle.kx_coord.specs.CoordinatorState.{CoordinatorState}
 use Rattle.kx_coord.specs.Noted.{SameAnswered}
-use Rattle.kx_coord_node.specs.Stands.{Keeps, MayDo, ReadAs, RunsAs, Stands, Takes}
+use Rattle.kx_coord_node.specs.Stands.{Keeps, RunsAs, Stands, Takes}
 use Rattle.kx_coord_node.proofs.Logs.{read_as}
 use Rattle.kx_coord_node.proofs.Steps.{stored_left, stored_whole}
 use Rattle.kx_coord_node.proofs.Stores.{entry_size, left, readable, reopened, unread}

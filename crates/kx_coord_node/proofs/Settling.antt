@@ -1,16 +1,15 @@
 -- A reply to a marker, as the definitions have it.
-use Rattle.std.proofs.Common.{◌≡◌, ◌∙◌, ℤ, Bool, true, false, not, List, [], ◌∷◌, ◌++◌, refl, sym, ap}
+use Rattle.std.proofs.Common.{◌≡◌, ◌∙◌, ℤ, Bool, true, false, not, List, [], refl, sym, ap}
 use Rattle.std.proofs.Common.{subst, Option, Some, None}
 use Rattle.std.specs.Prelude.{◌==◌, ◌&&◌, if◌then◌else◌}
 use Rattle.std.specs.List.{list_all}
 use Rattle.kx_message.specs.declared.code.ErrorCode.{ErrorCode}
 use Rattle.kx_message.specs.declared.code.ErrorCode.TheVariants as code
-use Rattle.kx_message.specs.declared.message.Message.{Message}
 use Rattle.kx_model.specs.Coordinator.{Note, Row, State, Empty, Ongoing, Prepare, Complete, Written}
 use Rattle.kx_model.specs.Coordinator.{coordinator_epoch, lists, row_of}
-use Rattle.kx_model.specs.CoordinatorNode.{Coordinated, Coordinator, completes, notes_of}
+use Rattle.kx_model.specs.CoordinatorNode.{Coordinator, completes, notes_of}
 use Rattle.kx_model.specs.CoordinatorNode.{on_marker_reply, on_settled, writes}
-use Rattle.kx_model.specs.Disk.{Store, reread}
+use Rattle.kx_model.specs.Disk.{reread}
 use Rattle.kx_model.specs.Markers.{Answered, Settled, Completes, Ignored, Noted, is_answered}
 use Rattle.kx_model.specs.Markers.{markers_of, noting, settle, settle_at, settle_in}
 use Rattle.kx_model.specs.Markers.{without_row}

@@ -1,5 +1,5 @@
 -- A step that appends an entry first, as the definitions have it.
-use Rattle.std.proofs.Common.{◌≡◌, ◌∙◌, ◌⊎◌, ℕ, Bool, true, false, not, List, [], ◌∷◌, ◌++◌, take}
+use Rattle.std.proofs.Common.{◌≡◌, ◌∙◌, ℕ, Bool, true, false, not, List, [], ◌∷◌, ◌++◌, take}
 use Rattle.std.proofs.Common.{length, refl, sym, ap, subst, inl, inr, max, Option, Some, None}
 use Rattle.std.specs.Prelude.{◌==◌, ◌&&◌, ◌||◌, if◌then◌else◌, option_to_list}
 use Rattle.std.proofs.lemmas.List.{append-nil}

@@ -1,14 +1,14 @@
 -- Which stores of the definitions are allowed, by what the running one did.
-use Rattle.std.proofs.Common.{◌≡◌, ◌⊎◌, ◌<◌, ◌≤◌, ◌+◌, ℕ, Bool, true, false, List}
-use Rattle.std.proofs.Common.{length, length-append, refl, sym, arith, nat_lt, inl, inr, min}
-use Rattle.std.specs.Prelude.{◌==◌, Option, None}
+use Rattle.std.proofs.Common.{◌≡◌, ◌⊎◌, ◌<◌, ◌≤◌, ◌+◌, ℕ, Bool, true, false}
+use Rattle.std.proofs.Common.{length, length-append, refl, arith, nat_lt, inl, inr, min}
+use Rattle.std.specs.Prelude.{◌==◌}
 use Rattle.std.proofs.lemmas.Bool.Decides.{nat_tests}
 use Rattle.kx_batch.specs.Batch.{batch_limit}
 use Rattle.kx_log.specs.Store.{AppendPlan, AppendsWork, FailsBehind, AnyMayFail, LoadPlan}
 use Rattle.kx_log.specs.Store.{LoadsWork, NextLoadFails, AnyLoadMayFail, MayAppend, MayFailToCut}
 use Rattle.kx_log.specs.Store.{MayFailToLoad, MayLeave, MayLoad}
 use Rattle.kx_machine.specs.Stores.{Allows, FailsFirst, FailsWith}
-use Rattle.kx_model.specs.Disk.{Store, Works, Fails, CannotLoad, left_behind, works}
+use Rattle.kx_model.specs.Disk.{Store, Works, Fails, CannotLoad, works}
 use Rattle.kx_message.proofs.Sizes.{of_unsigned}
 use Rattle.kx_model.specs.Coordinator.{Note, CoordinatorEpoch, Allot, Written}
 use Rattle.kx_txnlog.specs.Layout.{entry_text, fields_of}

@@ -8,7 +8,7 @@ use Rattle.kx_message.specs.declared.requests.AddPartition.{AddPartition}
 use Rattle.kx_message.specs.declared.requests.EndTxn.{EndTxn}
 use Rattle.kx_message.specs.declared.requests.InitProducerId.{InitProducerId}
 use Rattle.kx_message.specs.declared.replies.MarkerReply.{MarkerReply}
-use Rattle.kx_machine.specs.Meaning.{NodeState, AtCoordinator, AtPartition, AtClient, IsTaken}
+use Rattle.kx_machine.specs.Meaning.{AtCoordinator, AtPartition, AtClient, IsTaken}
 use Rattle.kx_machine.specs.Meaning.{finds, of_kind, taken_of}
 use Rattle.kx_machine.specs.declared.taken.Note.TheVariants as note
 use Rattle.kx_machine.specs.declared.taken.Taken.{Taken}
@@ -17,8 +17,7 @@ use Rattle.kx_model.specs.CoordinatorNode.{Coordinated, Coordinator, coordinator
 use Rattle.kx_model.specs.CoordinatorNode.{notes_of, reminds}
 use Rattle.kx_model.specs.Disk.{Store}
 use Rattle.kx_model.specs.Markers.{remind}
-use Rattle.kx_model.specs.Requests.{Answer, add, end_txn, init}
-use Rattle.kx_model.specs.Step as model
+use Rattle.kx_model.specs.Requests.{add, end_txn, init}
 use Rattle.kx_model.specs.Step.{Input, Comes, Expires, Reminds, NodeStep, Done, coordinates}
 use Rattle.kx_model.specs.Step.{coordinator_step}
 use Rattle.kx_coord.specs.Calls.{Responds, Settles}
