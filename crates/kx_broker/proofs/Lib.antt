@@ -1,0 +1,11 @@
+pub mod Stores
+pub mod Disks
+pub mod Appending
+pub mod Growing
+pub mod Parked
+pub mod Resuming
+pub mod Served
+pub mod Opening
+pub mod Taking
+pub mod Building
+pub mod Messages

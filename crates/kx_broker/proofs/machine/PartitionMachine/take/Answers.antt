@@ -1,0 +1,53 @@
+use Rattle.std.proofs.Common.{ap, subst}
+use Rattle.std.specs.Prelude.{nat_lt}
+use Rattle.kx_broker.specs.Serving.{IsServed, MayDo, Restarts, StandsFor}
+use Rattle.kx_broker.specs.declared.restart.Restarted.{Restarted}
+use Rattle.kx_broker.proofs.Taking.{is_other, put_any, read_any, rests_any, taken_as}
+use Rattle.kx_broker.proofs.Taking.{unread_any}
+use Rattle.kx_machine.specs.Meaning.{input_of}
+use Rattle.kx_broker.proofs.machine.PartitionMachine.take.Goals as goal
+
+pub returns-in_ok-answer-in-Put : goal.returns-in_ok-answer-in-Put
+returns-in_ok-answer-in-Put g c = λ state stands.
+    let old = c.args.self.now in
+    let new = c.put.new.self in
+    let values = c.in-Put.values in
+    let failed = nat_lt c.failures-before.result c.failures.result in
+    taken_as state (MayDo old) (λ s. StandsFor s new) _ (input_of c.args.input.now) _
+    c.answer.result (ap input_of c.in-Put.is) c.answer.ensures
+    (put_any old new values.first values.more c.in_ok-answer-in-Put.answer failed
+    c.in_ok-answer-in-Put.ensures.ok
+    (λ i. nat_lt (c.failures-before.ensures i) (c.failures.ensures i)) state stands)
+
+pub returns-in-Read : goal.returns-in-Read
+returns-in-Read g c = λ state stands.
+    let old = c.args.self.now in
+    let new = c.restart.new.self in
+    let failed = nat_lt c.failures-before.result c.failures-in-Read.result in
+    taken_as state (MayDo old) (λ s. StandsFor s new) _ (input_of c.args.input.now) _
+    c.answer-in-Read.result (ap input_of c.in-Restart.is) c.answer-in-Read.ensures
+    (read_any old new c.in-Restart.field-0 c.in-Read.found failed
+    (λ number p is. subst (λ (w : Restarted). Restarts (IsServed number) p old new w) c.in-Read.is
+    (c.in_ok-found-in-Restart.ensures number p is))
+    (λ i. nat_lt (c.failures-before.ensures i) (c.failures-in-Read.ensures i)) state stands)
+
+pub returns-in-Unread : goal.returns-in-Unread
+returns-in-Unread g c = λ state stands.
+    let old = c.args.self.now in
+    let new = c.restart.new.self in
+    let failed = nat_lt c.failures-before.result c.failures-in-Unread.result in
+    taken_as state (MayDo old) (λ s. StandsFor s new) _ (input_of c.args.input.now) _
+    c.answer-in-Unread.result (ap input_of c.in-Restart.is) c.answer-in-Unread.ensures
+    (unread_any old new c.in-Restart.field-0 failed
+    (λ number p is. subst (λ (w : Restarted). Restarts (IsServed number) p old new w)
+    c.in-Unread.is (c.in_ok-found-in-Restart.ensures number p is))
+    (λ i. nat_lt (c.failures-before.ensures i) (c.failures-in-Unread.ensures i)) state stands)
+
+pub returns-in-Command : goal.returns-in-Command
+returns-in-Command g c = λ state stands.
+    let old = c.args.self.now in
+    taken_as state (MayDo old) (λ s. StandsFor s old) (input_of c.args.input.now)
+    (input_of c.args.input.now) _ c.answer-in-Command.result (λ i. input_of c.args.input.now)
+    c.answer-in-Command.ensures
+    (rests_any old (input_of c.args.input.now) (is_other c.args.input.now c.in-Command.is) state
+    stands)

@@ -1,0 +1,15 @@
+//! The server of one partition as a machine: its log on its store, and the requests that it has
+//! parked. What it does with each input is what the definitions say that the node of a partition
+//! does, and it stands for such a node before each step and after it (KIP-98, KIP-890).
+#![tactic(auto)]
+
+mod add_reply;
+mod fetch;
+mod machine;
+mod marker;
+mod produce;
+mod put;
+mod reply;
+mod restart;
+
+pub use machine::PartitionMachine;

@@ -1,0 +1,23 @@
+use Rattle.std.proofs.Common.{◌≡◌, ℕ, true, Some, refl, sym, ap, ◌∙◌}
+use Rattle.std.proofs.lemmas.Result.{OkIff-at_ok}
+use Rattle.kx_model.specs.World.{Make, is_new}
+use Rattle.kx_script.proofs.Occurring.{makes}
+use Rattle.kx_script.proofs.Performing.{where_it_holds}
+use Rattle.kx_script.proofs.session.make.Goals as goal
+
+pub returns : goal.returns
+returns g c = λ s st.
+    let new : is_new c.args.number s.world.clients ≡ true =
+    sym (c.is_new.ensures s.world st) ∙ c.if-not-is_new.false in
+    let timeout : c.unwrap-timeout.result ≡ 60000 =
+    (OkIff-at_ok c.try_from.result _ 60000 c.unwrap-timeout.result c.try_from.ensures.0
+    c.unwrap-timeout.ensures).1 in
+    record {
+      event = Make c.args.number c.args.txn c.unwrap-timeout.result;
+      is = where_it_holds (is_new c.args.number s.world.clients)
+          (Make c.args.number c.args.txn 60000) new
+          ∙ ap (λ (t : ℕ). Some (Make c.args.number c.args.txn t)) (sym timeout);
+      place_is = refl;
+      occurs = makes s.world c.args.number c.args.txn c.unwrap-timeout.result _ _ refl refl
+          (c.in_ok-make.ensures s.world st);
+    }

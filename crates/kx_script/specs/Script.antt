@@ -1,0 +1,163 @@
+-- The answers to a script over a whole world: line by line, and over a whole run.
+use Rattle.std.specs.Prelude.{◌≡◌, ℕ, ◌+◌, Bool, true, false, List, [], ◌∷◌, ◌++◌, ◌⊎◌, length}
+use Rattle.std.specs.Prelude.{ℤ, Option, None, Some, IsSome, Result, Ok, Err}
+use Rattle.std.specs.Io.KnownBytes.{Appends, Keeps}
+use Rattle.kx_varint.specs.Text.{◌>>=◌}
+use Rattle.kx_machine.specs.Meaning.{note_of}
+use Rattle.kx_message.specs.Ranges.{offsets_partition}
+use Rattle.kx_message.specs.Values.{where_true}
+use Rattle.kx_model.specs.Coordinator.{rows}
+use Rattle.kx_model.specs.Groups.{OffsetAnswer, offset_fetch}
+use Rattle.kx_model.specs.Page.{fetched}
+use Rattle.kx_model.specs.World.{World, Event, entries_at, log_at, notes, step}
+use Rattle.kx_script.specs.Command.{order_in}
+use Rattle.kx_script.specs.Printing.{dash_text, group_text, messages_text, rows_text, step_text}
+use Rattle.kx_script.specs.Session.{Session, event_of, handed_out, has_node, has_partition}
+use Rattle.kx_script.specs.Session.{opening, place_of, session_after, with_mark}
+use Rattle.kx_script.specs.declared.order.Order.{Order}
+use Rattle.kx_script.specs.declared.order.Order.TheVariants as order
+use Rattle.kx_text.specs.Script.{LeavesWriter, bad_text, fetched_text}
+use Rattle.kx_text.specs.Words.{lines_of}
+use Rattle.kx_text.specs.World.{is_committed, lost_text}
+use Rattle.kx_text.specs.declared.command.Mode.{Mode}
+use Rattle.kx_text.specs.declared.fault.ScriptFault.{ScriptFault}
+use Rattle.kx_text.specs.declared.fault.ScriptFault.TheVariants.{Read, Write, BadLine, Memory}
+
+-- the session, once there is a world
+abbrev pub State : Type 0
+State = Option Session
+
+------ a line
+
+abbrev pub event_text : World → Event → List ℕ
+event_text w event = step_text (note_of (step w event).1)
+    (messages_text (length w.sent) (place_of event) (handed_out w event))
+
+abbrev pub offset_text : OffsetAnswer → List ℕ
+offset_text answer = group_text answer.code answer.offset
+
+abbrev pub happens : Session → Option Event → Option (List ℕ × State)
+happens s None = None
+happens s (Some event) = Some (event_text s.world event, Some (session_after s event))
+
+-- what is printed of a log, where there is the partition
+abbrev pub fetches : Session → ℕ → ℤ → Mode → ℕ → List ℕ
+fetches s partition from mode max =
+    fetched_text from mode (fetched (log_at s.world partition) from max (is_committed mode))
+
+-- what an order prints, and the state after it; none where it may not stand
+abbrev pub performed : State → Order → Option (List ℕ × State)
+performed None (order.World count) = Some (dash_text, Some (opening count))
+performed None other = None
+performed (Some s) (order.World count) = None
+performed (Some s) (order.Happen what) = happens s (event_of s what)
+performed (Some s) (order.Fail place left) = where_true (has_node s.world place)
+    (dash_text, Some (record s { marks = with_mark s.marks place (Some left) }))
+performed (Some s) (order.Fetch partition from mode max) =
+    where_true (has_partition s.world partition) (fetches s partition from mode max, Some s)
+performed (Some s) (order.Offset group partition stable) =
+    where_true (has_partition s.world partition) (
+      offset_text (offset_fetch (entries_at s.world offsets_partition) group partition stable),
+      Some s,
+    )
+performed (Some s) order.Rows = Some (rows_text (rows (notes s.world)), Some s)
+
+-- what a line prints, and the state after it; none for a bad line
+abbrev pub answer : State → List ℕ → Option (List ℕ × State)
+answer state [] = Some ([], state)
+answer state (byte ∷ line) = order_in (byte ∷ line) >>= performed state
+
+-- where memory is refused, an event may print `lost` and change nothing
+abbrev pub MayBeLost : State → Order → Type 0
+MayBeLost (Some s) (order.Happen what) = IsSome (event_of s what)
+MayBeLost state other = ⊥
+
+abbrev pub Performs : State → Order → List ℕ → State → Type 0
+Performs state order text new =
+    (performed state order ≡ Some (text, new))
+    ⊎ (MayBeLost state order × (text ≡ lost_text) × (new ≡ state))
+
+-- the line may be answered by this text, with this state after it
+abbrev pub Answers : State → List ℕ → List ℕ → State → Type 0
+Answers state [] text new = (text ≡ []) × (new ≡ state)
+Answers state (byte ∷ line) text new =
+    (order : Order) × (order_in (byte ∷ line) ≡ Some order) × Performs state order text new
+
+------ a run
+
+-- the lines may be answered by this text, in order, with this state in the end
+abbrev pub Runs : State → List (List ℕ) → List ℕ → State → Type 0
+Runs state [] text new = (text ≡ []) × (new ≡ state)
+Runs state (line ∷ lines) text new =
+    (first : List ℕ) × (rest : List ℕ) × (next : State) × (text ≡ first ++ rest)
+    × Answers state line first next × Runs next lines rest new
+
+-- what a line prints, and those behind it from the state after it on; a bad one is the last
+abbrev pub with_more : ℕ → (State → List ℕ) → Option (List ℕ × State) → List ℕ
+with_more number more None = bad_text number
+with_more number more (Some first) = first.0 ++ more first.1
+
+-- what the lines print from the one of a number on, where no memory is refused
+abbrev pub printed : List (List ℕ) → ℕ → State → List ℕ
+printed [] number state = []
+printed (line ∷ lines) number state =
+    with_more number (printed lines (number + 1)) (answer state line)
+
+-- what a whole script prints, where no memory is refused
+abbrev pub script_text : List ℕ → List ℕ
+script_text input = printed (lines_of input) 1 None
+
+-- all lines ran, and nothing but their answers was written
+abbrev pub Finishes : List (List ℕ) → Option (List ℕ) → Option (List ℕ) → Type 0
+Finishes lines old new =
+    (text : List ℕ) × (state : State) × Runs None lines text state × Appends old new text
+
+-- a front of the lines ran, and nothing but their answers was written
+abbrev pub Stops : List (List ℕ) → Option (List ℕ) → Option (List ℕ) → Type 0
+Stops lines old new =
+    (before : List (List ℕ)) × (after : List (List ℕ)) × (lines ≡ before ++ after)
+    × Finishes before old new
+
+-- the lines in front of the line of this number ran, which is bad, and that was written behind
+-- their answers
+pub record FindsBad (lines : List (List ℕ)) (number : ℕ) (old new : Option (List ℕ))
+    : Type 0 where
+  pub before : List (List ℕ)
+  pub line : List ℕ
+  pub after : List (List ℕ)
+  pub lines_are : lines ≡ before ++ line ∷ after
+  pub number_is : number ≡ length before + 1
+  pub text : List ℕ
+  pub state : State
+  pub runs : Runs None before text state
+  pub bad : answer state line ≡ None
+  pub written : Appends old new (text ++ bad_text number)
+
+-- what was written when a script came to its end
+abbrev pub Ends : List ℕ → Option (List ℕ) → Option (List ℕ) → Result (Unit {0}) ScriptFault
+    → Type 0
+Ends input old new (Ok done) = Finishes (lines_of input) old new
+Ends input old new (Err (BadLine number)) = FindsBad (lines_of input) number old new
+Ends input old new (Err Memory) = Stops (lines_of input) old new
+Ends input old new (Err Read) = Stops (lines_of input) old new
+-- of a write that failed, std doesn't say what it wrote
+Ends input old new (Err Write) = Unit {0}
+
+------ what the interpreter's parts say
+
+-- a good order's answer is written, and the state after it is one that stands
+abbrev pub Performed : (State → Type 0) → State → Order → Option (List ℕ) → Option (List ℕ)
+    → Result Bool ScriptFault → Type 0
+Performed Stands state order old new (Ok true) = (text : List ℕ) × (next : State)
+    × Performs state order text next × Stands next × Appends old new text
+Performed Stands state order old new (Ok false) =
+    (performed state order ≡ None) × Keeps old new
+Performed Stands state order old new (Err fault) = LeavesWriter old new fault
+
+-- the same of a line
+abbrev pub Answered : (State → Type 0) → State → List ℕ → Option (List ℕ) → Option (List ℕ)
+    → Result Bool ScriptFault → Type 0
+Answered Stands state line old new (Ok true) = (text : List ℕ) × (next : State)
+    × Answers state line text next × Stands next × Appends old new text
+Answered Stands state line old new (Ok false) = (answer state line ≡ None) × Keeps old new
+Answered Stands state line old new (Err fault) = LeavesWriter old new fault

@@ -1,0 +1,146 @@
+-- A world of nodes under a script: which of their appends are to fail, which event a line is, and
+-- what it leaves.
+use Rattle.std.specs.Prelude.{ℕ, List, length, drop, Bool, true, false, not, ◌&&◌, ◌||◌}
+use Rattle.std.specs.Prelude.{Option, Some, None, is_some, option_map, replicate, slice_get}
+use Rattle.std.specs.Prelude.{slice_index_or, slice_set, ◌==◌, nat_lt, if◌then◌else◌}
+use Rattle.kx_message.specs.Ranges.{data_partitions, offsets_partition}
+use Rattle.kx_message.specs.Receiver.{receiver_of}
+use Rattle.kx_message.specs.Values.{where_true}
+use Rattle.kx_message.specs.declared.message.Message.{Message}
+use Rattle.kx_message.specs.declared.message.Node.{Node}
+use Rattle.kx_message.specs.declared.message.Node.TheVariants as node
+use Rattle.kx_model.specs.Disk.{Store, Works}
+use Rattle.kx_model.specs.PartitionNode.{Partition}
+use Rattle.kx_model.specs.Step.{Commands, Expires, Reminds, Drops, Puts, Restarts, StepNote}
+use Rattle.kx_model.specs.Step.{Unread, Unwritten}
+use Rattle.kx_model.specs.World.{World, Event, Make, Deliver, Hand, client_at, is_new, partition_at}
+use Rattle.kx_model.specs.World.{start, step}
+use Rattle.kx_script.specs.Order.{command_of, store_of}
+use Rattle.kx_script.specs.declared.marks.Marks.{Marks}
+use Rattle.kx_script.specs.declared.order.Left.{Left}
+use Rattle.kx_script.specs.declared.order.Happening.{Happening}
+use Rattle.kx_script.specs.declared.order.Happening.TheVariants as happening
+use Rattle.kx_script.specs.declared.order.Task.{Task}
+use Rattle.kx_script.specs.declared.order.Task.TheVariants as task
+
+------ appends that are to fail
+
+abbrev pub no_marks : Marks
+no_marks =
+    record { coordinator = None; partitions = replicate data_partitions None; offsets = None }
+
+-- what the next append of a node is to leave, where it is to fail
+abbrev pub mark_at : Marks → Node → Option Left
+mark_at marks node.Coordinator = marks.coordinator
+mark_at marks (node.Partition number) =
+    if number == offsets_partition then marks.offsets
+    else slice_index_or marks.partitions number None
+mark_at marks (node.Client number) = None
+
+abbrev pub with_mark : Marks → Node → Option Left → Marks
+with_mark marks node.Coordinator mark = record marks { coordinator = mark }
+with_mark marks (node.Partition number) mark = record marks {
+  offsets = if number == offsets_partition then mark else marks.offsets;
+  partitions = if number == offsets_partition then marks.partitions
+      else slice_set marks.partitions number mark;
+}
+with_mark marks (node.Client number) mark = marks
+
+------ a world, and whether its nodes' stores fail
+
+abbrev pub closed_in : Option Partition → Bool
+closed_in None = false
+closed_in (Some p) = p.disk.closed
+
+-- whether a node appends nothing until it is restarted
+abbrev pub is_closed : World → Node → Bool
+is_closed w node.Coordinator = w.coordinator.disk.closed
+is_closed w (node.Partition number) = closed_in (partition_at w number)
+is_closed w (node.Client number) = false
+
+-- the node at which an event is
+abbrev pub place_of : Event → Node
+place_of (Make client txn timeout) = node.Client client
+place_of (Deliver which to store) = to
+place_of (Hand to input store) = to
+
+abbrev pub fails_by : StepNote → Bool → Bool
+fails_by Unread closes = true
+fails_by Unwritten closes = true
+fails_by note closes = closes
+
+-- the node's store fails in an event: an append fails, which closes the node, or a restart does
+abbrev pub store_fails : World → Event → Bool
+store_fails w event = fails_by (step w event).1
+    (not (is_closed w (place_of event)) && is_closed (step w event).0 (place_of event))
+
+------ what an order names
+
+abbrev pub has_partition : World → ℕ → Bool
+has_partition w number = nat_lt number (length w.partitions)
+
+-- a node that has a log
+abbrev pub has_node : World → Node → Bool
+has_node w node.Coordinator = true
+has_node w (node.Partition number) = number == offsets_partition || has_partition w number
+has_node w (node.Client number) = false
+
+abbrev pub has_named : World → Task → Bool
+has_named w (task.Send partition values) = has_partition w partition
+has_named w (task.Offset offset) = has_partition w offset.partition
+has_named w what = true
+
+------ a session
+
+pub record Session : Type 0 where
+  pub world : World
+  pub marks : Marks
+
+abbrev pub opening : ℕ → Session
+opening count = record { world = start count; marks = no_marks }
+
+-- what a node's store does in its next step
+abbrev pub store_at : Session → Node → Store
+store_at s place = store_of (mark_at s.marks place)
+
+-- how long a client's transactions may stay open, in milliseconds
+abbrev pub timeout : ℕ
+timeout = 60000
+
+-- the event that is to happen, none where what it names isn't there; the appends of restarts never
+-- fail
+abbrev pub event_of : Session → Happening → Option Event
+event_of s (happening.Client number txn) =
+    where_true (is_new number s.world.clients) (Make number txn timeout)
+event_of s (happening.Tell number what) =
+    where_true (is_some (client_at s.world number) && has_named s.world what)
+    (Hand (node.Client number) (Commands (command_of what)) Works)
+event_of s (happening.Put partition values) = where_true (has_partition s.world partition)
+    (Hand (node.Partition partition) (Puts values.0 values.1)
+    (store_at s (node.Partition partition)))
+event_of s (happening.Deliver number) = option_map
+    (λ m. Deliver number (receiver_of m) (store_at s (receiver_of m)))
+    (slice_get s.world.sent number)
+event_of s (happening.Expire now) =
+    Some (Hand node.Coordinator (Expires now) (store_at s node.Coordinator))
+event_of s happening.Remind =
+    Some (Hand node.Coordinator Reminds (store_at s node.Coordinator))
+event_of s (happening.Drop group member) = Some (Hand (node.Partition offsets_partition)
+    (Drops group member) (store_at s (node.Partition offsets_partition)))
+event_of s (happening.Restart place) =
+    where_true (has_node s.world place) (Hand place (Restarts s.world.clock) Works)
+
+-- an append that was to fail has failed
+abbrev pub marks_after : Marks → Node → Bool → Marks
+marks_after marks place true = with_mark marks place None
+marks_after marks place false = marks
+
+abbrev pub session_after : Session → Event → Session
+session_after s event = record {
+  world = (step s.world event).0;
+  marks = marks_after s.marks (place_of event) (store_fails s.world event);
+}
+
+-- what an event hands out
+abbrev pub handed_out : World → Event → List Message
+handed_out w event = drop (length w.sent) (step w event).0.sent

@@ -1,0 +1,28 @@
+//! Scripts over a whole world: every line of their language is read here, carried out by a world
+//! of nodes, and answered. `order` has what a line may ask for, and `command` reads it; `printing`
+//! writes the answers; `runs` says what a script needs of a world, and `marks` which of its nodes'
+//! appends are to fail; `session` lets things happen in a world, and `script` goes from line to
+//! line.
+#![tactic(auto)]
+
+mod command;
+mod count;
+mod marks;
+mod order;
+mod printing;
+mod runs;
+mod script;
+mod session;
+mod values;
+
+pub use command::order_in;
+pub use count::PartitionCount;
+pub use marks::{Marks, mode_of};
+pub use order::{Batch, Happening, Left, Order, Task};
+pub use printing::{
+    write_code, write_dash, write_declined, write_group, write_message, write_rows,
+};
+pub use runs::{Happened, Runs};
+pub use script::run_script;
+pub use session::{Running, fail, fetch, happen, offset, rows};
+pub use values::{command_of, values_of};

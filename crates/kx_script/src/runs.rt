@@ -1,0 +1,135 @@
+//! What a script needs of a world.
+use crate::count::PartitionCount;
+use kx_machine::{Input, Note, StoreMode};
+use kx_message::{ClientId, ErrorCode, GroupId, Message, Node, PartitionId, Timeout, TxnId};
+use kx_partition::{FetchFault, FetchPage};
+use kx_txnlog::Row;
+use std::alloc::{AllocError, Global};
+
+/// What an event answers beside its messages.
+#[derive(Clone, Copy, Debug, PartialEq, Eq)]
+pub struct Happened {
+    /// What the node answers.
+    pub note: Note,
+    /// Whether the node's store failed.
+    pub failed: bool,
+}
+
+/// A world of running nodes: it takes one event at a time, keeps all messages that its nodes hand
+/// out, and can be looked into.
+pub trait Runs: Drop {
+    ghost use Rattle.std.specs.Prelude.{◌≡◌, Ok, IfOk, MatchResult, is_some, length, map};
+    ghost use Rattle.std.specs.Prelude.{option_copied, slice_get, true};
+    ghost use Rattle.kx_message.specs.Ranges.{offsets_partition};
+    ghost use Rattle.kx_model.specs.Coordinator.{rows};
+    ghost use Rattle.kx_model.specs.Groups.{offset_fetch};
+    ghost use Rattle.kx_model.specs.Page.{answer_to};
+    ghost use Rattle.kx_model.specs.World.{World, Make, client_at, entries_at, is_new, log_at};
+    ghost use Rattle.kx_model.specs.World.{notes, start, step};
+    ghost use Rattle.kx_partition.specs.Fetch.{FetchRefuses};
+    ghost use Rattle.kx_script.specs.Session.{has_partition};
+    ghost use Rattle.kx_script.specs.World.{Delivers, Hands, Happens};
+    ghost use Rattle.kx_txnlog.specs.Entry.{row_of};
+
+    // the world of the definitions for which it stands
+    ghost stands: { World → Self → Type 0 };
+
+    /// The coordinator, so many data partitions and the offsets partition, with empty logs.
+    ///
+    /// # Errors
+    ///
+    /// Only for want of memory.
+    fn start(alloc: Global, partitions: PartitionCount) -> Result<Self, AllocError>
+        ensures { IfOk result (λ world. stands (start partitions) world) };
+
+    /// Makes a client, whose number is above those of all others; else nothing happens.
+    ///
+    /// # Errors
+    ///
+    /// Only for want of memory; then nothing happens.
+    fn make(
+        &mut self,
+        client: ClientId,
+        txn: Option<TxnId>,
+        timeout: Timeout,
+    ) -> Result<(), AllocError>
+        ensures { (w : World) → stands w self.old → MatchResult result
+            (λ made. stands (step w (Make client txn timeout)).0 self.new)
+            (λ refused. stands w self.new) };
+
+    /// Lets the message of this number, counted from 0 among all that were ever handed out, come to
+    /// a node, whose store does this meanwhile. Where there is no such message, or no such node,
+    /// nothing happens.
+    ///
+    /// # Errors
+    ///
+    /// Only for want of memory; then nothing happens.
+    fn deliver(&mut self, number: usize, to: Node, store: StoreMode) -> Result<Happened, AllocError>
+        ensures { (w : World) → stands w self.old → MatchResult result
+            (Happens w (Delivers number to store) (λ v. stands v self.new))
+            (λ refused. stands w self.new) };
+
+    /// Hands a node anything else, while its store does this. A message comes by its number alone.
+    ///
+    /// # Errors
+    ///
+    /// Only for want of memory; then nothing happens.
+    fn hand(&mut self, to: Node, input: Input, store: StoreMode) -> Result<Happened, AllocError>
+        ensures { (w : World) → stands w self.old → MatchResult result
+            (Happens w (Hands to input store) (λ v. stands v self.new))
+            (λ refused. stands w self.new) };
+
+    /// How many data partitions there are.
+    fn partitions(&self) -> usize
+        ensures { (w : World) → stands w self.now → result ≡ length w.partitions };
+
+    /// How many messages were ever handed out.
+    fn sent(&self) -> usize
+        ensures { (w : World) → stands w self.now → result ≡ length w.sent };
+
+    /// The message of this number.
+    fn message(&self, number: usize) -> Option<&Message>
+        ensures { (w : World) → stands w self.now
+            → option_copied result ≡ slice_get w.sent number };
+
+    /// Whether there is a client of this number.
+    fn has_client(&self, client: ClientId) -> bool
+        ensures { (w : World) → stands w self.now → result ≡ is_some (client_at w client) };
+
+    /// Whether the number is above those of all clients.
+    fn is_new(&self, client: ClientId) -> bool
+        ensures { (w : World) → stands w self.now → result ≡ is_new client w.clients };
+
+    /// The greatest moment of an expiry.
+    fn clock(&self) -> u64
+        ensures { (w : World) → stands w self.now → result ≡ w.clock };
+
+    /// A page of a data partition's log, borrowed from it.
+    ///
+    /// # Errors
+    ///
+    /// Those of [`Partition::fetch`](kx_partition::Partition::fetch).
+    fn fetch(
+        &self,
+        partition: PartitionId,
+        from: i64,
+        max: u32,
+        committed: bool,
+    ) -> Result<FetchPage<'_>, FetchFault>
+        requires { (w : World) → stands w self.now → has_partition w partition ≡ true }
+        ensures { (w : World) → stands w self.now
+            → MatchResult result
+            (λ page. answer_to (log_at w partition) from max committed ≡ Ok page)
+            (FetchRefuses (answer_to (log_at w partition) from max committed)) };
+
+    /// A group's committed offset of a data partition, -1 where there is none, or the code that it
+    /// isn't stable.
+    fn offset(&self, group: GroupId, partition: PartitionId, stable: bool) -> (ErrorCode, i64)
+        ensures { (w : World) → stands w self.now
+            → record { code = result.0; offset = result.1 }
+            ≡ offset_fetch (entries_at w offsets_partition) group partition stable };
+
+    /// The coordinator's rows, in order of first use.
+    fn rows(&self) -> &[Row]
+        ensures { (w : World) → stands w self.now → map row_of result.now ≡ rows (notes w) };
+}
