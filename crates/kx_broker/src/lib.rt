@@ -4,12 +4,19 @@
 #![tactic(auto)]
 
 mod add_reply;
+mod as_partition;
+mod commit;
 mod fetch;
 mod machine;
 mod marker;
+mod member;
+mod offsets;
+mod parked;
 mod produce;
 mod put;
 mod reply;
 mod restart;
+mod resume;
 
 pub use machine::PartitionMachine;
+pub use offsets::OffsetsMachine;

@@ -17,8 +17,8 @@ pub(crate) enum Restarted {
     Unread,
 }
 
-// What a restart comes to whose log isn't read, or that memory is wanted.
-fn unread_after(fault: OpenFault) -> Result<Restarted, AllocError>
+/// What a restart comes to whose log isn't read, or that memory is wanted.
+pub(crate) fn unread_after(fault: OpenFault) -> Result<Restarted, AllocError>
     ensures { MatchResult result
         (λ restarted. (restarted ≡ Restarted.Unread) × (fault ≢ OpenFault.Memory))
         (λ refused. fault ≡ OpenFault.Memory) }

@@ -1,0 +1,137 @@
+//! What the server of the offsets partition does as that of any partition: markers, fetches, and
+//! opening again.
+ghost use Rattle.std.specs.Prelude.{◌≡◌, ◌≢◌, negsuc, IfOk, MatchResult, OnErr};
+ghost use Rattle.kx_broker.specs.Offsets.{KeepsOffsets};
+ghost use Rattle.kx_broker.specs.Serving.{Restarts, Serves};
+ghost use Rattle.kx_message.specs.Ranges.{offsets_partition};
+ghost use Rattle.kx_message.specs.declared.message.Message.TheVariants as msg;
+ghost use Rattle.kx_model.specs.PartitionNode.{Partition, marker_of, offsets_takes, on_marker};
+ghost use Rattle.kx_model.specs.PartitionNode.{refused_produce};
+
+use crate::fetch::{fetch, refused_fetch};
+use crate::offsets::OffsetsMachine;
+use crate::parked::ParkedCommits;
+use crate::reply::only;
+use crate::restart::{Restarted, unread_after};
+use kx_log::Store;
+use kx_machine::Messages;
+use kx_message::{
+    ErrorCode, Fetch, MarkerReply, Message, PartitionId, Produce, ProduceReply, WriteMarker,
+};
+use std::alloc::AllocError;
+
+// The reply to a batch for another partition.
+fn refused_batch(it: &Produce) -> Message
+    ensures { result ≡ refused_produce it.now.caller it.now.partition }
+{
+    Message::ProduceReply(ProduceReply {
+        caller: it.caller,
+        partition: it.partition,
+        code: ErrorCode::UnknownTopicOrPartition,
+        offset: -1,
+    })
+}
+
+impl<S: Store> OffsetsMachine<S> {
+    /// A batch comes. One for another partition is refused, and one for this partition is no commit
+    /// of offsets and changes nothing.
+    ///
+    /// # Errors
+    ///
+    /// Only for want of memory.
+    pub(crate) fn refuse(&self, it: &Produce) -> Result<Messages, AllocError>
+        ensures { (p : Partition) → KeepsOffsets p self.now
+            → IfOk result (Serves KeepsOffsets p self.now self.now
+            (λ store. offsets_takes p store (msg.Produce it.now))) }
+    {
+        if it.partition == PartitionId::OFFSETS {
+            Ok(Messages::none(self.alloc))
+        } else {
+            Messages::one(self.alloc, refused_batch(it))
+        }
+    }
+
+    /// A fetch comes; one of another partition is refused.
+    ///
+    /// # Errors
+    ///
+    /// Only for want of memory.
+    pub(crate) fn fetch(&self, it: &Fetch) -> Result<Messages, AllocError>
+        ensures { (p : Partition) → KeepsOffsets p self.now
+            → IfOk result (Serves KeepsOffsets p self.now self.now
+            (λ store. offsets_takes p store (msg.Fetch it.now))) }
+    {
+        let reply = if it.partition == PartitionId::OFFSETS {
+            fetch(self.alloc, self.groups.partition(), it)?
+        } else {
+            refused_fetch(self.alloc, it, ErrorCode::UnknownTopicOrPartition)
+        };
+        Messages::one(self.alloc, reply)
+    }
+
+    // A marker for this partition comes. Room for the reply is asked for first.
+    fn mark(&mut self, it: &WriteMarker) -> Result<Messages, AllocError>
+        ensures ok { (p : Partition) → KeepsOffsets p self.old
+            → IfOk result (Serves KeepsOffsets p self.old self.new
+            (λ store. on_marker offsets_partition p store it.now.txn it.now.held
+            (marker_of it.now.held it.now.coordinator_epoch it.now.outcome))) }
+        ensures err { OnErr result (self.new ≡ self.old) }
+    {
+        let held = it.held;
+        // Its id and epoch fit the fields of a marker.
+        let _ended = held.get();
+        let mut room = Vec::new(self.alloc);
+        room.reserve(1)?;
+        // Each batch stands in its place.
+        let _end = self.groups.partition().end();
+        let code = self.groups.marker(held, it.coordinator_epoch, it.outcome)?;
+        let message = Message::MarkerReply(MarkerReply {
+            partition: PartitionId::OFFSETS,
+            txn: it.txn,
+            held,
+            code,
+        });
+        Ok(only(room, message))
+    }
+
+    /// A marker comes. One for another partition changes nothing.
+    ///
+    /// # Errors
+    ///
+    /// Only for want of memory; then all is as before.
+    pub(crate) fn marker(&mut self, it: &WriteMarker) -> Result<Messages, AllocError>
+        ensures ok { (p : Partition) → KeepsOffsets p self.old
+            → IfOk result (Serves KeepsOffsets p self.old self.new
+            (λ store. offsets_takes p store (msg.WriteMarker it.now))) }
+        ensures err { OnErr result (self.new ≡ self.old) }
+    {
+        if it.partition == PartitionId::OFFSETS {
+            self.mark(it)
+        } else {
+            Ok(Messages::none(self.alloc))
+        }
+    }
+
+    /// Opens the partition again: its log is what its store holds, the groups are those of the log,
+    /// and all else is lost. Where the store can't be read the log is closed.
+    ///
+    /// # Errors
+    ///
+    /// Only for want of memory; then it stands for what it stood for.
+    pub(crate) fn restart(&mut self) -> Result<Restarted, AllocError>
+        ensures { (p : Partition) → KeepsOffsets p self.old
+            → MatchResult result (Restarts KeepsOffsets p self.old self.new)
+            (λ refused. KeepsOffsets p self.new) }
+    {
+        let before = self.groups.partition().end();
+        match self.groups.reload() {
+            Ok(content) => {
+                let _before = self.groups.install(content);
+                let found = before < self.groups.partition().end();
+                self.parked = ParkedCommits::new(self.alloc);
+                Ok(Restarted::Read { found })
+            }
+            Err(fault) => unread_after(fault),
+        }
+    }
+}

@@ -1,0 +1,90 @@
+//! Commits of offsets that come.
+ghost use Rattle.std.specs.Prelude.{◌≡◌, ◌<◌, [], IfOk, OnErr, vec_capacity, vec_len};
+ghost use Rattle.kx_broker.specs.Offsets.{KeepsOffsets};
+ghost use Rattle.kx_broker.specs.Serving.{Serves};
+ghost use Rattle.kx_group.specs.Calls.{text_of};
+ghost use Rattle.kx_message.specs.Messages as the;
+ghost use Rattle.kx_message.specs.Ranges.{offsets_partition};
+ghost use Rattle.kx_message.specs.declared.message.Message.TheVariants as msg;
+ghost use Rattle.kx_model.specs.Groups.{judge_offsets};
+ghost use Rattle.kx_model.specs.Log.{entries};
+ghost use Rattle.kx_model.specs.PartitionNode.{Partition, offsets_takes};
+ghost use Rattle.kx_model.specs.Produce.{Unverified};
+
+use crate::offsets::OffsetsMachine;
+use crate::reply::only;
+use kx_log::Store;
+use kx_machine::Messages;
+use kx_message::{AddPartition, ErrorCode, Message, OffsetsReply, PartitionId, TxnOffsetCommit};
+use kx_offsets::commits_fit;
+use kx_partition::Produced;
+use kx_verify::{Asked, Request};
+use std::alloc::AllocError;
+
+// The reply to a commit of offsets.
+fn reply(it: &TxnOffsetCommit, code: ErrorCode) -> Message
+    ensures { result ≡ the.OffsetsReply it.now.caller code }
+{
+    Message::OffsetsReply(OffsetsReply {
+        caller: it.caller,
+        code,
+    })
+}
+
+impl<S: Store> OffsetsMachine<S> {
+    // Parks a commit whose transaction isn't verified, and asks the coordinator to list the
+    // partition in it.
+    fn park(&mut self, it: &TxnOffsetCommit, room: Vec<Message>) -> Result<Messages, AllocError>
+        requires space { vec_len room < vec_capacity room }
+        requires empty { room.items ≡ [] }
+        requires asks { judge_offsets (entries self.old.log.batches) false it.now.group
+            it.now.member it.now.generation (text_of it.now) ≡ Unverified }
+        ensures ok { (p : Partition) → KeepsOffsets p self.old
+            → IfOk result (Serves KeepsOffsets p self.old self.new
+            (λ store. offsets_takes p store (msg.TxnOffsetCommit it.now))) }
+        ensures err { OnErr result (self.new ≡ self.old) }
+    {
+        // What it holds fits its fields, each batch of the log was the one to come next, and one
+        // of groups: so the commit begins at sequence 0.
+        commits_fit(it);
+        let partition = self.groups.partition();
+        let _end = partition.end();
+        let Ok(request) = Request::of_offsets(it.clone()?) else {
+            return Ok(only(room, reply(it, ErrorCode::InvalidTxnState)));
+        };
+        match self.parked.ask(request)? {
+            Asked::Parked => {
+                let asks = Message::AddPartition(AddPartition {
+                    txn: it.txn,
+                    held: it.held,
+                    partition: PartitionId::OFFSETS,
+                });
+                Ok(only(room, asks))
+            }
+            Asked::Full => Ok(only(room, reply(it, ErrorCode::ConcurrentTransactions))),
+        }
+    }
+
+    /// A commit of offsets comes. Room for the reply is asked for first.
+    ///
+    /// # Errors
+    ///
+    /// Only for want of memory; then all is as before.
+    pub(crate) fn commit(&mut self, it: &TxnOffsetCommit) -> Result<Messages, AllocError>
+        ensures ok { (p : Partition) → KeepsOffsets p self.old
+            → IfOk result (Serves KeepsOffsets p self.old self.new
+            (λ store. offsets_takes p store (msg.TxnOffsetCommit it.now))) }
+        ensures err { OnErr result (self.new ≡ self.old) }
+    {
+        let mut room = Vec::new(self.alloc);
+        room.reserve(1)?;
+        // Each batch stands in its place, and what the commit holds fits its fields.
+        let _end = self.groups.partition().end();
+        commits_fit(it);
+        let answer = self.groups.txn_offset_commit(it, false)?;
+        if let Produced::Unverified = answer {
+            return self.park(it, room);
+        }
+        Ok(only(room, reply(it, answer.code())))
+    }
+}

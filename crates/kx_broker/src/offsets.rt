@@ -1,0 +1,226 @@
+//! The server of the offsets partition.
+ghost use Rattle.std.specs.Prelude.{◌≡◌, [], IfOk, MatchResult, OnErr};
+ghost use Rattle.kx_broker.specs.Offsets.{HasOtherLog, KeepsOffsets, OpensOffsets};
+ghost use Rattle.kx_broker.specs.Offsets.{StandsForGroups};
+ghost use Rattle.kx_broker.specs.Serving.{MayDo, Serves};
+ghost use Rattle.kx_log.specs.Store.{StoreState};
+ghost use Rattle.kx_machine.specs.Meaning.{IsTaken, NodeState, input_of};
+ghost use Rattle.kx_message.specs.Ranges.{offsets_partition};
+ghost use Rattle.kx_model.specs.PartitionNode as node;
+ghost use Rattle.kx_model.specs.PartitionNode.{empty_partition, offsets_takes};
+ghost use Rattle.kx_model.specs.Step.{Comes};
+ghost use Rattle.kx_partition.specs.Opening.{RebuildFaults};
+
+use crate::parked::ParkedCommits;
+use crate::restart::Restarted;
+use kx_group::Groups;
+use kx_log::{FaultStore, OpenFault, Steady, Store};
+use kx_machine::{Closing, Failing, Input, Machine, Messages, Note, StoreMode, Taken};
+use kx_message::Message;
+use kx_partition::Partition;
+use std::alloc::{AllocError, Global};
+use std::marker::Model;
+
+/// The server of the offsets partition, as a machine: the consumer groups in its log, on its store,
+/// and the commits of offsets that it has parked while it asks the coordinator to list the
+/// partition in their transaction (KIP-447, KIP-890).
+#[derive(Drop)]
+pub struct OffsetsMachine<S: Store> {
+    pub(crate) alloc: Global,
+    pub(crate) groups: Groups<S>,
+    pub(crate) parked: ParkedCommits,
+}
+
+impl<S: Store> Model for OffsetsMachine<S> {
+    ghost use Rattle.kx_broker.specs.Serving.{Serving};
+    ghost use Rattle.kx_message.specs.Ranges.{offsets_partition};
+
+    ghost Value = { Serving };
+
+    ghost view = { λ m. record { number = offsets_partition; log = m.groups; parked = m.parked } };
+}
+
+impl<S: Store> OffsetsMachine<S> {
+    /// The server of the offsets partition whose log a store holds: opens the log, as
+    /// [`Partition::rebuild`] and then [`Groups::open`] do. Nothing is parked. It takes memory from
+    /// `alloc`.
+    ///
+    /// # Errors
+    ///
+    /// As [`Partition::rebuild`], with the store beside the fault; and as [`Groups::open`], with
+    /// the partition that was opened on it.
+    pub fn new(alloc: Global, store: S) -> Result<Self, (OpenFault, Result<S, Partition<S>>)>
+        ensures value { MatchResult result (λ machine. (machine.number ≡ offsets_partition)
+            × OpensOffsets (S.state store) machine.log × (machine.parked ≡ []))
+            (λ refused. MatchResult refused.1
+            (λ back. RebuildFaults (S.state store) (S.state back) refused.0)
+            (λ opened. HasOtherLog (S.state store) opened refused.0)) }
+        // On an empty store it stands for the node as it was made.
+        ensures made { (S.state store).bytes ≡ [] → IfOk result (KeepsOffsets empty_partition) }
+    {
+        let partition = match Partition::rebuild(alloc, store) {
+            Ok(partition) => partition,
+            Err((fault, store)) => return Err((fault, Ok(store))),
+        };
+        match Groups::open(alloc, partition) {
+            Ok(groups) => Ok(OffsetsMachine {
+                alloc,
+                groups,
+                parked: ParkedCommits::new(alloc),
+            }),
+            Err((fault, partition)) => Err((fault, Err(partition))),
+        }
+    }
+
+    /// The groups, lent.
+    pub fn groups(&self) -> &Groups<S>
+        ensures value { result.now ≡ self.now.log }
+        // Its batches are those of the node for which it stands.
+        ensures log { (p : node.Partition) → KeepsOffsets p self.now
+            → result.now.batches ≡ p.disk.kept }
+    {
+        &self.groups
+    }
+
+    /// How often its store's device failed.
+    pub fn failures(&self) -> u64
+        ensures { result ≡ self.now.log.store.failures }
+    {
+        self.groups.failures()
+    }
+
+    // Takes a message, and hands out what it does for it.
+    fn serve(&mut self, message: &Message) -> Result<Messages, AllocError>
+        ensures ok { (p : node.Partition) → KeepsOffsets p self.old
+            → IfOk result (Serves KeepsOffsets p self.old self.new
+            (λ store. offsets_takes p store message.now)) }
+        ensures err { (p : node.Partition) → KeepsOffsets p self.old
+            → OnErr result (self.new ≡ self.old) }
+    {
+        match message {
+            Message::TxnOffsetCommit(it) => self.commit(it),
+            Message::Join(it) => self.join(it),
+            Message::Leave(it) => self.leave(it),
+            Message::OffsetFetch(it) => self.offset_fetch(it),
+            Message::Produce(it) => self.refuse(it),
+            Message::AddReply(it) => self.add_reply(it),
+            Message::WriteMarker(it) => self.marker(it),
+            Message::Fetch(it) => self.fetch(it),
+            _ => Ok(Messages::none(self.alloc)),
+        }
+    }
+
+    // What it answers with this note to what hands out nothing.
+    fn answer(&self, note: Note, failed: bool, found: bool) -> Taken
+        ensures { result ≡ record {
+          messages = [];
+          note = note;
+          failed = failed;
+          found = found;
+        } }
+    {
+        Taken {
+            messages: Messages::none(self.alloc),
+            note,
+            failed,
+            found,
+        }
+    }
+
+    /// Takes a message that is lent, as [`Machine::deliver`] has it.
+    ///
+    /// # Errors
+    ///
+    /// Only for want of memory; then it is as before.
+    pub fn deliver(&mut self, message: &Message) -> Result<Taken, AllocError>
+        ensures { (state : NodeState) → StandsForGroups state self.old → MatchResult result
+            (IsTaken state (Comes message.now) (MayDo self.old)
+            (λ s. StandsForGroups s self.new))
+            (λ refused. StandsForGroups state self.new) }
+    {
+        let before = self.failures();
+        let messages = self.serve(message)?;
+        Ok(Taken {
+            messages,
+            note: Note::Done,
+            failed: before < self.failures(),
+            found: false,
+        })
+    }
+
+    /// Takes an input, as [`Machine::take`] has it.
+    ///
+    /// # Errors
+    ///
+    /// Only for want of memory; then it stands for what it stood for.
+    pub fn take(&mut self, input: &Input) -> Result<Taken, AllocError>
+        ensures { (state : NodeState) → StandsForGroups state self.old → MatchResult result
+            (IsTaken state (input_of input.now) (MayDo self.old)
+            (λ s. StandsForGroups s self.new))
+            (λ refused. StandsForGroups state self.new) }
+    {
+        let before = self.failures();
+        match input {
+            Input::Deliver(message) => self.deliver(message),
+            Input::Drop(group, member) => {
+                let code = self.drop_member(*group, *member)?;
+                let failed = before < self.failures();
+                Ok(self.answer(Note::Code(code), failed, false))
+            }
+            Input::Restart(_) => match self.restart()? {
+                Restarted::Read { found } => {
+                    let failed = before < self.failures();
+                    Ok(self.answer(Note::Done, failed, found))
+                }
+                Restarted::Unread => {
+                    let failed = before < self.failures();
+                    Ok(self.answer(Note::Closed(Closing::Read), failed, false))
+                }
+            },
+            // Batches of no producer are put to data partitions alone.
+            Input::Put(_) | Input::Command(_) | Input::Expire(_) | Input::Remind => {
+                Ok(self.answer(Note::Done, false, false))
+            }
+        }
+    }
+}
+
+impl<S: Store> Machine for OffsetsMachine<S> {
+    ghost use Rattle.kx_broker.specs.Offsets.{StandsForGroups};
+    ghost use Rattle.kx_broker.specs.Serving.{MayDo};
+
+    ghost stands = { StandsForGroups };
+
+    ghost allows = { MayDo };
+
+    fn take(&mut self, input: &Input) -> Result<Taken, AllocError> {
+        OffsetsMachine::take(self, input)
+    }
+
+    fn deliver(&mut self, message: &Message) -> Result<Taken, AllocError> {
+        OffsetsMachine::deliver(self, message)
+    }
+
+    fn failures(&self) -> u64 {
+        OffsetsMachine::failures(self)
+    }
+}
+
+impl<S: Steady> Failing for OffsetsMachine<FaultStore<S>> {
+    fn prepare(&mut self, mode: StoreMode) {
+        match mode {
+            StoreMode::Works => {
+                self.groups.arm(None);
+                self.groups.arm_load(false);
+            }
+            StoreMode::Fails { keep } => {
+                self.groups.arm(Some(keep));
+                self.groups.arm_load(false);
+            }
+            StoreMode::CannotLoad => {
+                self.groups.arm(None);
+                self.groups.arm_load(true);
+            }
+        }
+    }
+}
