@@ -93,7 +93,7 @@ impl<S: Store> PartitionMachine<S> {
         let requests = self.guard.parked(*held);
         let room = Vec::with_capacity(self.alloc, requests.len())?;
         let replies = pass_on(room, requests, code);
-        let _answered = self.guard.reply(*held);
+        let _refused = self.guard.reply(*held);
         Ok(Messages::from_vec(replies))
     }
 
