@@ -5,10 +5,10 @@ use Rattle.std.proofs.Common.{◌∙◌, subst, Option, Some, None, append-nil}
 use Rattle.std.specs.Prelude.{slice_get}
 use Rattle.kx_core.specs.Internal.{is_message}
 use Rattle.kx_core.specs.World as running
-use Rattle.kx_core.specs.World.{Happens, IsHanded, Nodes, StandFor}
+use Rattle.kx_core.specs.World.{Happens, IsHanded, Nodes, StandFor, fails_at, is_closed, place_of}
 use Rattle.kx_core.specs.declared.event.Event as happening
 use Rattle.kx_core.specs.declared.event.Event.TheVariants as event
-use Rattle.kx_core.proofs.Standing.{a_store}
+use Rattle.kx_core.proofs.Standing.{a_store, not_both}
 use Rattle.kx_machine.specs.Meaning.{NodeState, input_of, note_of}
 use Rattle.kx_machine.specs.declared.input.Input as given
 use Rattle.kx_machine.specs.declared.input.Input.TheVariants as input
@@ -53,16 +53,19 @@ module _ (Stand : World → Type 0) where
   module _ (w : World) (taken : Taken) where
     by_step : (given : happening.Event) (e : Event) (after : Stepped) → running.IsEvent given e
         → step w e ≡ after → Stand after.0 → after.0.sent ≡ w.sent ++ taken.messages
-        → taken.note ≡ note_of after.1 → Happens w given Stand taken
-    by_step given e after is same h sent note = record {
+        → taken.note ≡ note_of after.1 → taken.failed ≡ fails_at w (place_of e) after
+        → Happens w given Stand taken
+    by_step given e after is same h sent note failed = record {
       happened = e;
       is = is;
       stand = subst (λ (x : Stepped). Stand x.0) (sym same) h;
       sent = ap (λ (x : Stepped). x.0.sent) same ∙ sent;
       note_is = note ∙ ap (λ (x : Stepped). note_of x.1) (sym same);
+      failed_is = failed ∙ ap (fails_at w (place_of e)) (sym same);
     }
 
-    module _ (h : Stand w) (none : taken.messages ≡ []) (done : taken.note ≡ noted.Done) where
+    module _ (h : Stand w) (none : taken.messages ≡ []) (done : taken.note ≡ noted.Done)
+        (works : taken.failed ≡ false) where
       nothing_sent : w.sent ≡ w.sent ++ taken.messages
       nothing_sent = sym (ap (λ ms. w.sent ++ ms) none ∙ append-nil w.sent)
 
@@ -75,7 +78,7 @@ module _ (Stand : World → Type 0) where
           by_step (event.Deliver number to m) (Deliver number to store.0) (w, Done)
           (store.0, store.1, refl)
           (step_deliver w number to store.0 ∙ ap (delivered w to store.0) absent)
-          h nothing_sent done
+          h nothing_sent done (works ∙ not_both (is_closed w to))
 
       -- a message comes by its number alone
       pub not_handed : (to : Node) (i : given.Input) (m : StoreMode) → is_message i ≡ true
@@ -84,7 +87,7 @@ module _ (Stand : World → Type 0) where
           let store = a_store m in
           by_step (event.Hand to (input.Deliver message) m) (Hand to (Comes message) store.0)
           (w, Done) (store.0, store.1, refl) (step_hand w to (Comes message) store.0)
-          h nothing_sent done
+          h nothing_sent done (works ∙ not_both (is_closed w to))
       not_handed to (input.Command command) m comes = absurd cc
       not_handed to (input.Expire now) m comes = absurd cc
       not_handed to input.Remind m comes = absurd cc
@@ -100,7 +103,7 @@ module _ (Stand : World → Type 0) where
         by_step (event.Deliver number to m) (Deliver number to t.store)
         (handed w to t.store (Comes message)) (t.store, t.allowed, refl)
         (step_deliver w number to t.store ∙ ap (delivered w to t.store) there)
-        t.stand t.sent t.note_is
+        t.stand t.sent t.note_is t.failed_is
 
     pub is_handed : (to : Node) (i : given.Input) (m : StoreMode) → is_message i ≡ false
         → IsHanded w to m (input_of i) Stand taken
@@ -109,18 +112,20 @@ module _ (Stand : World → Type 0) where
         by_step (event.Hand to i m) (Hand to (input_of i) t.store)
         (handed w to t.store (input_of i)) (t.store, t.allowed, refl)
         (step_hand w to (input_of i) t.store ∙ no_message w to t.store i other)
-        t.stand t.sent t.note_is
+        t.stand t.sent t.note_is t.failed_is
 
   pub is_made : (w : World) (client : ℕ) (txn : Option (List ℕ)) (timeout : ℕ) (taken : Taken)
       → Stand (step w (Make client txn timeout)).0 → taken.messages ≡ []
-      → taken.note ≡ noted.Done → Happens w (event.Make client txn timeout) Stand taken
+      → taken.note ≡ noted.Done → taken.failed ≡ false
+      → Happens w (event.Make client txn timeout) Stand taken
   unfolding step
-  is_made w client txn timeout taken h none done = record {
+  is_made w client txn timeout taken h none done works = record {
     happened = Make client txn timeout;
     is = refl;
     stand = h;
     sent = sym (ap (λ ms. w.sent ++ ms) none ∙ append-nil w.sent);
     note_is = done;
+    failed_is = works;
   }
 
 -- a client is made, if its number is above those of all others

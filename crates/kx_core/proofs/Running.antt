@@ -7,7 +7,9 @@ use Rattle.std.proofs.lemmas.List.Elements.{All-append}
 use Rattle.kx_core.specs.Promises.{KeepsPromises}
 use Rattle.kx_core.specs.Sent.{joined}
 use Rattle.kx_core.specs.World as running
-use Rattle.kx_core.specs.World.{Happens, IsRun, Nodes, Running, StandFor, Steps}
+use Rattle.kx_core.specs.World.{Happens, IsRun, NoneLeft, OneMore, Nodes, Running, Runs, StandFor}
+use Rattle.kx_core.specs.World.{Steps}
+use Rattle.kx_core.specs.declared.event.Happened.{Happened}
 use Rattle.kx_core.specs.declared.event.Event as happening
 use Rattle.kx_core.proofs.Happening.{run_more}
 use Rattle.kx_machine.specs.Meaning.{NodeState}
@@ -21,6 +23,10 @@ pub joined_push : (steps : List (List Message)) (ms : List Message)
 joined_push [] ms = append-nil ms
 joined_push (s ∷ steps) ms =
     ap (λ rest. s ++ rest) (joined_push steps ms) ∙ sym (append_assoc s (joined steps) ms)
+
+-- what a step answers beside its messages
+abbrev answer_of : Taken → Happened
+answer_of taken = record { note = taken.note; failed = taken.failed }
 
 -- a schedule with one more event
 one_more : (events : List model.Event) (e : model.Event) → IsSchedule events → model.IsEvent e
@@ -41,7 +47,8 @@ module _ {C P O : Type 0} (Coordinates : NodeState → C → Type 0) (Serves : N
       → ((e : model.Event) → running.IsEvent given e → model.IsEvent e)
       → Happens w given (StandFor Coordinates Serves Groups after) taken
       → Steps w given
-      (Run (record { nodes = after; steps = before.steps ++ taken.messages ∷ [] })) taken.note
+      (Run (record { nodes = after; steps = before.steps ++ taken.messages ∷ [] }))
+      (answer_of taken)
   goes_on before after w given taken r fits h = record {
     happened = h.happened;
     is = h.is;
@@ -56,6 +63,7 @@ module _ {C P O : Type 0} (Coordinates : NodeState → C → Type 0) (Serves : N
           ∙ sym h.sent;
     };
     note_is = h.note_is;
+    failed_is = h.failed_is;
   }
 
   -- the same, where what was handed out is named otherwise
@@ -64,10 +72,10 @@ module _ {C P O : Type 0} (Coordinates : NodeState → C → Type 0) (Serves : N
       → ((e : model.Event) → running.IsEvent given e → model.IsEvent e)
       → Happens w given (StandFor Coordinates Serves Groups after) taken
       → steps ≡ before.steps ++ taken.messages ∷ []
-      → Steps w given (Run (record { nodes = after; steps = steps })) taken.note
+      → Steps w given (Run (record { nodes = after; steps = steps })) (answer_of taken)
   stepped before after steps w given taken r fits h same =
       subst (λ (xs : List (List Message)).
-      Steps w given (Run (record { nodes = after; steps = xs })) taken.note) (sym same)
+      Steps w given (Run (record { nodes = after; steps = xs })) (answer_of taken)) (sym same)
       (goes_on before after w given taken r fits h)
 
   -- a world in which nothing has happened
@@ -83,6 +91,18 @@ module _ {C P O : Type 0} (Coordinates : NodeState → C → Type 0) (Serves : N
     nodes = h;
     sent = ap joined none;
   }
+
+  -- events that happened, and one more
+  pub runs_more : (before after : Running C P O) (w : World) (given : List happening.Event)
+      (one : happening.Event) (answer : (v : World) → Run before v → Happened)
+      → ((v : World) (h : Run before v) → Steps v one (Run after) (answer v h))
+      → Runs (Run before) w given → Runs (Run after) w (given ++ one ∷ [])
+  runs_more before after w [] one answer goes (NoneLeft v h) =
+      let s = goes w h in
+      OneMore w one [] s.happened s.is (NoneLeft (step w s.happened).0 s.stands)
+  runs_more before after w (given ∷ more) one answer goes (OneMore v g m happened is rest) =
+      OneMore w given (more ++ one ∷ []) happened is
+      (runs_more before after (step w happened).0 more one answer goes rest)
 
   pub promised : ((count : ℕ) (events : List model.Event) → IsSchedule events
       → KeepsPromises (run events (start count))) → (r : Running C P O) (w : World)

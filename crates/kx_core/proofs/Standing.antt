@@ -1,16 +1,17 @@
 -- Nodes that take what they are handed stand for a world of the definitions after it.
 use Rattle.std.proofs.Common.{◌≡◌, ◌≢◌, ◌<◌, ◌≤◌, ◌++◌, ◌==◌, ℕ, Bool, true, false, cond, List, []}
 use Rattle.std.proofs.Common.{◌∷◌, refl, sym, ap, ◌∙◌, subst, length, Option, Some, None, arith, inl}
-use Rattle.std.proofs.Common.{inr, nat_le, zero, suc, append-nil}
+use Rattle.std.proofs.Common.{inr, nat_le, zero, suc, append-nil, not, ◌&&◌}
 use Rattle.std.specs.Prelude.{slice_get, slice_set, MatchResult, Result, Ok, Err}
 use Rattle.std.proofs.lemmas.Bool.{cases_lt}
 use Rattle.std.proofs.lemmas.Bool.Decides.{Decides-eqb, nat_tests}
 use Rattle.std.proofs.lemmas.Option.{slice_get_past}
 use Rattle.kx_batch.specs.Batch.{batch_limit}
 use Rattle.kx_core.specs.Clients.{TakesAt, TakesBy, client_in, with_one}
-use Rattle.kx_core.specs.World.{IsHanded, Nodes, StandFor}
-use Rattle.kx_machine.specs.Meaning.{AtCoordinator, AtPartition, IsTaken, NodeState}
-use Rattle.kx_machine.specs.Meaning.{note_of}
+use Rattle.kx_core.specs.World.{IsHanded, Nodes, StandFor, closed_in, fails_at, fails_by, is_closed}
+use Rattle.kx_machine.specs.Meaning as meaning
+use Rattle.kx_machine.specs.Meaning.{AtClient, AtCoordinator, AtPartition, IsTaken, NodeState}
+use Rattle.kx_machine.specs.Meaning.{fails, node_step, note_of, taken_of}
 use Rattle.kx_machine.specs.Stores.{FailsWith, IsMode}
 use Rattle.kx_machine.specs.declared.machine.StoreMode.{StoreMode}
 use Rattle.kx_machine.specs.declared.machine.StoreMode.TheVariants as mode
@@ -22,8 +23,10 @@ use Rattle.kx_message.specs.declared.message.Node.TheVariants as node
 use Rattle.kx_model.specs.Client.{Client}
 use Rattle.kx_model.specs.Disk.{Store, Works, Fails, CannotLoad}
 use Rattle.kx_model.specs.PartitionNode.{Partition}
-use Rattle.kx_model.specs.Step.{Done, Input, NodeStep, client_step, partition_step}
+use Rattle.kx_model.specs.Step.{Done, Declined, PutAt, Coded, Unread, Unwritten, RunsOut, StepNote}
+use Rattle.kx_model.specs.Step.{Input, NodeStep, client_step, partition_step}
 use Rattle.kx_model.specs.World.{Stepped, World, at_client, at_partition, clock_after, handed}
+use Rattle.kx_model.specs.World.{partition_at}
 
 ------ stores
 
@@ -48,6 +51,32 @@ a_store (mode.Fails keep) =
     (Fails (nat_le batch_limit keep), whole_if keep (nat_le batch_limit keep) refl)
 a_store mode.CannotLoad = (CannotLoad, refl)
 
+------ whether a store fails
+
+-- what doesn't change isn't closed by it
+pub not_both : (b : Bool) → false ≡ (not b && b)
+not_both true = refl
+not_both false = refl
+
+fails_alike : (before : NodeState) (s : NodeStep NodeState) (n : StepNote)
+    → fails before s n ≡ fails_by n (not (meaning.is_closed before) && meaning.is_closed s.state)
+fails_alike before s Done = refl
+fails_alike before s (Declined f) = refl
+fails_alike before s (PutAt code offset) = refl
+fails_alike before s (Coded code) = refl
+fails_alike before s Unread = refl
+fails_alike before s Unwritten = refl
+fails_alike before s RunsOut = refl
+
+-- a node says whether its store failed, by what became of it
+told : (before : NodeState) (store : Store) (input : Input) (taken : Taken)
+    → taken ≡ taken_of before input (node_step before store input)
+    → taken.failed ≡ fails_by (node_step before store input).note
+    (not (meaning.is_closed before) && meaning.is_closed (node_step before store input).state)
+told before store input taken is =
+    ap (λ (x : Taken). x.failed) is
+    ∙ fails_alike before (node_step before store input) (node_step before store input).note
+
 ------ lists
 
 pub false_true : false ≡ true → ⊥
@@ -58,6 +87,12 @@ get_set : {A : Type 0} (xs : List A) (i : ℕ) (y z : A) → slice_get (slice_se
 get_set [] i y z is = absurd cc
 get_set (x ∷ xs) zero y z is = cc
 get_set (x ∷ xs) (suc i) y z is = get_set xs i y z is
+
+get_new : {A : Type 0} (xs : List A) (i : ℕ) (x y : A) → slice_get xs i ≡ Some x
+    → slice_get (slice_set xs i y) i ≡ Some y
+get_new [] i x y is = absurd cc
+get_new (z ∷ xs) zero x y is = refl
+get_new (z ∷ xs) (suc i) x y is = get_new xs i x y is
 
 get_other : {A : Type 0} (xs : List A) (i j : ℕ) (y : A) → (j ≡ i → ⊥)
     → slice_get (slice_set xs i y) j ≡ slice_get xs j
@@ -140,6 +175,25 @@ handed_data w n store input p apart is =
       s.note,
     )) (not_offsets n apart)
 
+data_at : (w : World) (n : ℕ) → n ≢ offsets_partition
+    → partition_at w n ≡ slice_get w.partitions n
+data_at w n apart =
+    ap (λ b. cond b (Some w.offsets) (slice_get w.partitions n)) (not_offsets n apart)
+
+-- whether the store of a data partition fails
+fails_data : (w : World) (n : ℕ) (p : Partition) (s : NodeStep Partition)
+    → n ≢ offsets_partition → slice_get w.partitions n ≡ Some p
+    → fails_by s.note (not p.disk.closed && s.state.disk.closed)
+    ≡ fails_at w (node.Partition n) (after_partition w n s)
+fails_data w n p s apart is =
+    let before : closed_in (partition_at w n) ≡ p.disk.closed =
+    ap closed_in (data_at w n apart ∙ is) in
+    let after : closed_in (partition_at (after_partition w n s).0 n) ≡ s.state.disk.closed =
+    ap closed_in (data_at (after_partition w n s).0 n apart
+    ∙ get_new w.partitions n p s.state is) in
+    ap (λ b. fails_by s.note (not b && s.state.disk.closed)) (sym before)
+    ∙ ap (λ b. fails_by s.note (not (closed_in (partition_at w n)) && b)) (sym after)
+
 handed_to_none : (w : World) (n : ℕ) (store : Store) (input : Input) → n ≢ offsets_partition
     → slice_get w.partitions n ≡ None → handed w (node.Partition n) store input ≡ (w, Done)
 handed_to_none w n store input apart is =
@@ -157,9 +211,9 @@ module _ {C P O : Type 0} (Coordinates : NodeState → C → Type 0) (Serves : N
   pub rests : (nodes : Nodes C P O) (w : World) (to : Node) (m : StoreMode) (input : Input)
       (taken : Taken) → Stand nodes w
       → ((store : Store) → handed w to store input ≡ (w, Done))
-      → taken.messages ≡ [] → taken.note ≡ noted.Done
+      → taken.messages ≡ [] → taken.note ≡ noted.Done → taken.failed ≡ false
       → IsHanded w to m input (Stand nodes) taken
-  rests nodes w to m input taken h same none done =
+  rests nodes w to m input taken h same none done works =
       let store = a_store m in record {
         store = store.0;
         allowed = store.1;
@@ -167,6 +221,8 @@ module _ {C P O : Type 0} (Coordinates : NodeState → C → Type 0) (Serves : N
         sent = ap (λ (x : Stepped). x.0.sent) (same store.0)
             ∙ sym (ap (λ ms. w.sent ++ ms) none ∙ append-nil w.sent);
         note_is = done ∙ ap (λ (x : Stepped). note_of x.1) (sym (same store.0));
+        failed_is = works ∙ not_both (is_closed w to)
+            ∙ ap (fails_at w to) (sym (same store.0));
       }
 
   pub by_coordinator : (nodes : Nodes C P O) (w : World) (m : StoreMode) (input : Input)
@@ -189,6 +245,7 @@ module _ {C P O : Type 0} (Coordinates : NodeState → C → Type 0) (Serves : N
     };
     sent = ap (λ ms. w.sent ++ ms) (sym (ap (λ (x : Taken). x.messages) t.answer));
     note_is = ap (λ (x : Taken). x.note) t.answer;
+    failed_is = told (AtCoordinator w.coordinator) t.store input taken t.answer;
   }
 
   pub by_offsets : (nodes : Nodes C P O) (w : World) (m : StoreMode) (input : Input) (after : O)
@@ -211,6 +268,8 @@ module _ {C P O : Type 0} (Coordinates : NodeState → C → Type 0) (Serves : N
     };
     sent = ap (λ ms. w.sent ++ ms) (sym (ap (λ (x : Taken). x.messages) t.answer));
     note_is = ap (λ (x : Taken). x.note) t.answer;
+    failed_is =
+        told (AtPartition offsets_partition w.offsets) t.store input taken t.answer;
   }
 
   served : (nodes : Nodes C P O) (w : World) (number : ℕ) (p : Partition) (after : P)
@@ -269,6 +328,9 @@ module _ {C P O : Type 0} (Coordinates : NodeState → C → Type 0) (Serves : N
             ∙ ap (λ ms. w.sent ++ ms) (sym (ap (λ (x : Taken). x.messages) t.answer));
         note_is = ap (λ (x : Taken). x.note) t.answer
             ∙ sym (ap (λ (x : Stepped). note_of x.1) done);
+        failed_is = told (AtPartition number p) t.store input taken t.answer
+            ∙ fails_data w number p s apart is
+            ∙ ap (fails_at w (node.Partition number)) (sym done);
       }
 
   -- the same, where the place among the servers is named otherwise
@@ -306,12 +368,13 @@ module _ {C P O : Type 0} (Coordinates : NodeState → C → Type 0) (Serves : N
   pub by_no_partition : (nodes : Nodes C P O) (w : World) (number : ℕ) (m : StoreMode)
       (input : Input) (taken : Taken) → Stand nodes w → number ≢ offsets_partition
       → slice_get nodes.partitions number ≡ None → taken.messages ≡ []
-      → taken.note ≡ noted.Done → IsHanded w (node.Partition number) m input (Stand nodes) taken
-  by_no_partition nodes w number m input taken h apart is none done =
+      → taken.note ≡ noted.Done → taken.failed ≡ false
+      → IsHanded w (node.Partition number) m input (Stand nodes) taken
+  by_no_partition nodes w number m input taken h apart is none done works =
       let past = past_none nodes.partitions number is in
       rests nodes w (node.Partition number) m input taken h
       (λ store. handed_to_none w number store input apart
-      (slice_get_past w.partitions number (omega (arith, past, h.count)))) none done
+      (slice_get_past w.partitions number (omega (arith, past, h.count)))) none done works
 
   ------ clients
 
@@ -344,6 +407,8 @@ module _ {C P O : Type 0} (Coordinates : NodeState → C → Type 0) (Serves : N
             ∙ ap (λ ms. w.sent ++ ms) (sym (ap (λ (x : Taken). x.messages) t.answer));
         note_is = ap (λ (x : Taken). x.note) t.answer
             ∙ sym (ap (λ (x : Stepped). note_of x.1) done);
+        failed_is = told (AtClient c) t.store input taken t.answer
+            ∙ ap (fails_at w (node.Client number)) (sym done);
       }
 
   pub by_client : (nodes : Nodes C P O) (w : World) (number : ℕ) (m : StoreMode) (input : Input)
@@ -364,9 +429,9 @@ module _ {C P O : Type 0} (Coordinates : NodeState → C → Type 0) (Serves : N
   pub by_no_client : (nodes : Nodes C P O) (w : World) (number : ℕ) (m : StoreMode)
       (input : Input) (new : List Client) (taken : Taken) → Stand nodes w
       → TakesAt nodes.clients new number input None → taken.messages ≡ []
-      → taken.note ≡ noted.Done
+      → taken.note ≡ noted.Done → taken.failed ≡ false
       → IsHanded w (node.Client number) m input (Stand (record nodes { clients = new })) taken
-  by_no_client nodes w number m input new taken h takes none done =
+  by_no_client nodes w number m input new taken h takes none done works =
       let is = no_client nodes number input new (client_in nodes.clients number) refl takes in
       let absent : client_in w.clients number ≡ None =
       sym (ap (λ (cs : List Client). client_in cs number) h.clients) ∙ is.0 in
@@ -374,4 +439,4 @@ module _ {C P O : Type 0} (Coordinates : NodeState → C → Type 0) (Serves : N
       IsHanded w (node.Client number) m input (Stand (record nodes { clients = cs })) taken)
       (sym is.1)
       (rests nodes w (node.Client number) m input taken h
-      (λ store. ap (at_client w input) absent) none done)
+      (λ store. ap (at_client w input) absent) none done works)

@@ -2,4 +2,5 @@ pub mod Clients
 pub mod Promises
 pub mod Sent
 pub mod World
+pub mod Count
 pub mod Internal

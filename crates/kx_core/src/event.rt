@@ -1,5 +1,5 @@
 //! What happens in a world.
-use kx_machine::{Input, StoreMode};
+use kx_machine::{Input, Note, StoreMode};
 use kx_message::{ClientId, Node, Timeout, TxnId};
 
 /// What happens next: one node takes one input, or a client is made.
@@ -26,4 +26,14 @@ pub enum Event {
         input: Input,
         store: StoreMode,
     },
+}
+
+/// What an event answers beside its messages.
+#[derive(Clone, Copy, Debug, PartialEq, Eq)]
+pub struct Happened {
+    /// What the node answers.
+    pub note: Note,
+    /// Whether the node's store failed: its append, which closes the node's log until the node is
+    /// opened again, or that opening.
+    pub failed: bool,
 }

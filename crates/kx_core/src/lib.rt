@@ -7,6 +7,7 @@
 mod client;
 mod clients;
 mod event;
+mod fault;
 mod fits;
 mod hand;
 mod nodes;
@@ -15,7 +16,8 @@ mod sent;
 mod world;
 
 pub use client::ClientMachine;
-pub use event::Event;
+pub use event::{Event, Happened};
+pub use fault::RunFault;
 pub use promises::schedules_keep_promises;
 pub use sent::Sent;
 pub use world::World;

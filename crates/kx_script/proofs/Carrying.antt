@@ -10,11 +10,12 @@ use Rattle.kx_model.specs.World.{World, step}
 use Rattle.kx_script.specs.Printing.{messages_text, step_text}
 use Rattle.kx_script.specs.Running.{Carried, CarriesOut, StandsIn}
 use Rattle.kx_script.specs.Script.{Performed, event_text, happens}
-use Rattle.kx_script.specs.Session.{Session, marks_after, place_of, session_after}
+use Rattle.kx_core.specs.World.{place_of}
+use Rattle.kx_script.specs.Session.{Session, marks_after, session_after}
 use Rattle.kx_script.specs.declared.marks.Marks.{Marks}
 use Rattle.kx_script.specs.declared.order.Happening.{Happening}
 use Rattle.kx_script.specs.declared.order.Order.TheVariants as order
-use Rattle.kx_script.specs.declared.runs.Happened.{Happened}
+use Rattle.kx_core.specs.declared.event.Happened.{Happened}
 use Rattle.kx_text.specs.World.{lost_text}
 
 -- a node took its step, which was printed, and its mark was taken back where its append failed

@@ -1,8 +1,6 @@
-pub mod Count
 pub mod Order
 pub mod Command
 pub mod Session
 pub mod Printing
 pub mod Script
-pub mod World
 pub mod Running

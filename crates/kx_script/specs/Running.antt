@@ -6,9 +6,10 @@ use Rattle.kx_machine.specs.Meaning.{note_of}
 use Rattle.kx_message.specs.declared.message.Node.{Node}
 use Rattle.kx_model.specs.World.{World, Event, Hand, step}
 use Rattle.kx_script.specs.Script.{State}
-use Rattle.kx_script.specs.Session.{Session, event_of, place_of, store_at, store_fails}
+use Rattle.kx_core.specs.World.{place_of, store_fails}
+use Rattle.kx_script.specs.Session.{Session, event_of, store_at}
 use Rattle.kx_script.specs.declared.order.Happening.{Happening}
-use Rattle.kx_script.specs.declared.runs.Happened.{Happened}
+use Rattle.kx_core.specs.declared.event.Happened.{Happened}
 use Rattle.kx_script.specs.declared.session.Running.{Running}
 
 abbrev pub StandsFor : {N : Type 0} → (World → N → Type 0) → Running N → Session → Type 0

@@ -13,7 +13,8 @@ use Rattle.kx_model.specs.World.{World, Event, entries_at, log_at, notes, step}
 use Rattle.kx_script.specs.Command.{order_in}
 use Rattle.kx_script.specs.Printing.{dash_text, group_text, messages_text, rows_text, step_text}
 use Rattle.kx_script.specs.Session.{Session, event_of, handed_out, has_node, has_partition}
-use Rattle.kx_script.specs.Session.{opening, place_of, session_after, with_mark}
+use Rattle.kx_core.specs.World.{place_of}
+use Rattle.kx_script.specs.Session.{opening, session_after, with_mark}
 use Rattle.kx_script.specs.declared.order.Order.{Order}
 use Rattle.kx_script.specs.declared.order.Order.TheVariants as order
 use Rattle.kx_text.specs.Script.{LeavesWriter, bad_text, fetched_text}

@@ -3,6 +3,7 @@
 use Rattle.std.specs.Prelude.{ℕ, List, length, drop, Bool, true, false, not, ◌&&◌, ◌||◌}
 use Rattle.std.specs.Prelude.{Option, Some, None, is_some, option_map, replicate, slice_get}
 use Rattle.std.specs.Prelude.{slice_index_or, slice_set, ◌==◌, nat_lt, if◌then◌else◌}
+use Rattle.kx_core.specs.World.{place_of, store_fails}
 use Rattle.kx_message.specs.Ranges.{data_partitions, offsets_partition}
 use Rattle.kx_message.specs.Receiver.{receiver_of}
 use Rattle.kx_message.specs.Values.{where_true}
@@ -10,10 +11,8 @@ use Rattle.kx_message.specs.declared.message.Message.{Message}
 use Rattle.kx_message.specs.declared.message.Node.{Node}
 use Rattle.kx_message.specs.declared.message.Node.TheVariants as node
 use Rattle.kx_model.specs.Disk.{Store, Works}
-use Rattle.kx_model.specs.PartitionNode.{Partition}
-use Rattle.kx_model.specs.Step.{Commands, Expires, Reminds, Drops, Puts, Restarts, StepNote}
-use Rattle.kx_model.specs.Step.{Unread, Unwritten}
-use Rattle.kx_model.specs.World.{World, Event, Make, Deliver, Hand, client_at, is_new, partition_at}
+use Rattle.kx_model.specs.Step.{Commands, Expires, Reminds, Drops, Puts, Restarts}
+use Rattle.kx_model.specs.World.{World, Event, Make, Deliver, Hand, client_at, is_new}
 use Rattle.kx_model.specs.World.{start, step}
 use Rattle.kx_script.specs.Order.{command_of, store_of}
 use Rattle.kx_script.specs.declared.marks.Marks.{Marks}
@@ -45,34 +44,6 @@ with_mark marks (node.Partition number) mark = record marks {
       else slice_set marks.partitions number mark;
 }
 with_mark marks (node.Client number) mark = marks
-
------- a world, and whether its nodes' stores fail
-
-abbrev pub closed_in : Option Partition → Bool
-closed_in None = false
-closed_in (Some p) = p.disk.closed
-
--- whether a node appends nothing until it is restarted
-abbrev pub is_closed : World → Node → Bool
-is_closed w node.Coordinator = w.coordinator.disk.closed
-is_closed w (node.Partition number) = closed_in (partition_at w number)
-is_closed w (node.Client number) = false
-
--- the node at which an event is
-abbrev pub place_of : Event → Node
-place_of (Make client txn timeout) = node.Client client
-place_of (Deliver which to store) = to
-place_of (Hand to input store) = to
-
-abbrev pub fails_by : StepNote → Bool → Bool
-fails_by Unread closes = true
-fails_by Unwritten closes = true
-fails_by note closes = closes
-
--- the node's store fails in an event: an append fails, which closes the node, or a restart does
-abbrev pub store_fails : World → Event → Bool
-store_fails w event = fails_by (step w event).1
-    (not (is_closed w (place_of event)) && is_closed (step w event).0 (place_of event))
 
 ------ what an order names
 

@@ -2,8 +2,8 @@
 ghost use Rattle.std.specs.Prelude.{◌≡◌, ◌<◌, ◌^◌, IfSome, MatchOption, None, Some, option_copied};
 ghost use Rattle.kx_script.specs.Command as spells;
 
-use crate::count::PartitionCount;
 use crate::order::{Batch, Happening, Left, Order, Task};
+use kx_core::PartitionCount;
 use kx_message::{ClientId, GroupId, Node, Outcome, PartitionId, PartitionOffset, TxnId};
 use kx_text::{DEFAULT_MAX, Words, mode_of, number, number_below, words_of};
 

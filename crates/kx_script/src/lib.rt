@@ -6,7 +6,6 @@
 #![tactic(auto)]
 
 mod command;
-mod count;
 mod marks;
 mod order;
 mod printing;
@@ -16,13 +15,12 @@ mod session;
 mod values;
 
 pub use command::order_in;
-pub use count::PartitionCount;
 pub use marks::{Marks, mode_of};
 pub use order::{Batch, Happening, Left, Order, Task};
 pub use printing::{
     write_code, write_dash, write_declined, write_group, write_message, write_rows,
 };
-pub use runs::{Happened, Runs};
+pub use runs::Runs;
 pub use script::run_script;
 pub use session::{Running, fail, fetch, happen, offset, rows};
 pub use values::{command_of, values_of};

@@ -2,7 +2,7 @@
 ghost use Rattle.std.specs.Prelude.{◌≡◌};
 ghost use Rattle.kx_script.specs.Command.{front};
 
-use crate::count::PartitionCount;
+use kx_core::PartitionCount;
 use kx_message::{ClientId, GroupId, Node, Outcome, PartitionId, PartitionOffset, TxnId};
 use kx_text::{Mode, Words};
 use std::marker::Model;

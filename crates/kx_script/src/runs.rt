@@ -1,34 +1,24 @@
 //! What a script needs of a world.
-use crate::count::PartitionCount;
-use kx_machine::{Input, Note, StoreMode};
-use kx_message::{ClientId, ErrorCode, GroupId, Message, Node, PartitionId, Timeout, TxnId};
+use kx_core::{Event, Happened, PartitionCount};
+use kx_message::{ClientId, ErrorCode, GroupId, Message, PartitionId};
 use kx_partition::{FetchFault, FetchPage};
 use kx_txnlog::Row;
 use std::alloc::{AllocError, Global};
-
-/// What an event answers beside its messages.
-#[derive(Clone, Copy, Debug, PartialEq, Eq)]
-pub struct Happened {
-    /// What the node answers.
-    pub note: Note,
-    /// Whether the node's store failed.
-    pub failed: bool,
-}
 
 /// A world of running nodes: it takes one event at a time, keeps all messages that its nodes hand
 /// out, and can be looked into.
 pub trait Runs: Drop {
     ghost use Rattle.std.specs.Prelude.{◌≡◌, Ok, IfOk, MatchResult, is_some, length, map};
     ghost use Rattle.std.specs.Prelude.{option_copied, slice_get, true};
+    ghost use Rattle.kx_core.specs.World.{Steps};
     ghost use Rattle.kx_message.specs.Ranges.{offsets_partition};
     ghost use Rattle.kx_model.specs.Coordinator.{rows};
     ghost use Rattle.kx_model.specs.Groups.{offset_fetch};
     ghost use Rattle.kx_model.specs.Page.{answer_to};
-    ghost use Rattle.kx_model.specs.World.{World, Make, client_at, entries_at, is_new, log_at};
-    ghost use Rattle.kx_model.specs.World.{notes, start, step};
+    ghost use Rattle.kx_model.specs.World.{World, client_at, entries_at, is_new, log_at, notes};
+    ghost use Rattle.kx_model.specs.World.{start};
     ghost use Rattle.kx_partition.specs.Fetch.{FetchRefuses};
     ghost use Rattle.kx_script.specs.Session.{has_partition};
-    ghost use Rattle.kx_script.specs.World.{Delivers, Hands, Happens};
     ghost use Rattle.kx_txnlog.specs.Entry.{row_of};
 
     // the world of the definitions for which it stands
@@ -42,42 +32,14 @@ pub trait Runs: Drop {
     fn start(alloc: Global, partitions: PartitionCount) -> Result<Self, AllocError>
         ensures { IfOk result (λ world. stands (start partitions) world) };
 
-    /// Makes a client, whose number is above those of all others; else nothing happens.
+    /// An event happens: one node takes one input, or a client is made.
     ///
     /// # Errors
     ///
     /// Only for want of memory; then nothing happens.
-    fn make(
-        &mut self,
-        client: ClientId,
-        txn: Option<TxnId>,
-        timeout: Timeout,
-    ) -> Result<(), AllocError>
+    fn happen(&mut self, event: &Event) -> Result<Happened, AllocError>
         ensures { (w : World) → stands w self.old → MatchResult result
-            (λ made. stands (step w (Make client txn timeout)).0 self.new)
-            (λ refused. stands w self.new) };
-
-    /// Lets the message of this number, counted from 0 among all that were ever handed out, come to
-    /// a node, whose store does this meanwhile. Where there is no such message, or no such node,
-    /// nothing happens.
-    ///
-    /// # Errors
-    ///
-    /// Only for want of memory; then nothing happens.
-    fn deliver(&mut self, number: usize, to: Node, store: StoreMode) -> Result<Happened, AllocError>
-        ensures { (w : World) → stands w self.old → MatchResult result
-            (Happens w (Delivers number to store) (λ v. stands v self.new))
-            (λ refused. stands w self.new) };
-
-    /// Hands a node anything else, while its store does this. A message comes by its number alone.
-    ///
-    /// # Errors
-    ///
-    /// Only for want of memory; then nothing happens.
-    fn hand(&mut self, to: Node, input: Input, store: StoreMode) -> Result<Happened, AllocError>
-        ensures { (w : World) → stands w self.old → MatchResult result
-            (Happens w (Hands to input store) (λ v. stands v self.new))
-            (λ refused. stands w self.new) };
+            (Steps w event.now (λ v. stands v self.new)) (λ refused. stands w self.new) };
 
     /// How many data partitions there are.
     fn partitions(&self) -> usize

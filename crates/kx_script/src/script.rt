@@ -6,12 +6,12 @@ ghost use Rattle.kx_script.specs.Session.{Session};
 ghost use Rattle.kx_script.specs.declared.order.Order.TheVariants as order;
 
 use crate::command::order_in;
-use crate::count::PartitionCount;
 use crate::marks::Marks;
 use crate::order::Order;
 use crate::printing::write_dash;
 use crate::runs::Runs;
 use crate::session::{Running, fail, fetch, happen, offset, rows};
+use kx_core::PartitionCount;
 use kx_text::{ScriptFault, next_line, without_newline, written};
 use std::alloc::Global;
 use std::io::{BufRead, Write};

@@ -20,9 +20,10 @@ use crate::order::{Batch, Happening, Left, Task};
 use crate::printing::{
     write_code, write_dash, write_declined, write_group, write_message, write_rows,
 };
-use crate::runs::{Happened, Runs};
+use crate::runs::Runs;
 use crate::values::{command_of, values_of};
-use kx_machine::{Input, Note, StoreMode};
+use kx_core::{Event, Happened};
+use kx_machine::{Input, Note};
 use kx_message::{ClientId, GroupId, Node, PartitionId, Timeout, TxnId};
 use kx_partition::FetchFault;
 use kx_text::{Mode, ScriptFault, show, write_answer, write_refusal, written};
@@ -86,7 +87,11 @@ fn hand<N: Runs>(
         (λ v. N.stands v world.new))
         (λ refused. N.stands w world.new) }
 {
-    world.hand(*to, input, mode_of(mark))
+    world.happen(&Event::Hand {
+        to: *to,
+        input,
+        store: mode_of(mark),
+    })
 }
 
 // A message comes to a node, while its next append is to fail or not.
@@ -100,7 +105,11 @@ fn bring<N: Runs>(
         (Occurs w (Deliver number to.now (meant.store_of mark)) (λ v. N.stands v world.new))
         (λ refused. N.stands w world.new) }
 {
-    world.deliver(number, *to, mode_of(mark))
+    world.happen(&Event::Deliver {
+        number,
+        to: *to,
+        store: mode_of(mark),
+    })
 }
 
 // A client is made, if its number is above those of all others.
@@ -116,11 +125,11 @@ fn make<N: Runs>(
         return Ok(None);
     }
     let timeout = Timeout::try_from(TIMEOUT).unwrap();
-    world.make(number, txn, timeout)?;
-    let happened = Happened {
-        note: Note::Done,
-        failed: false,
-    };
+    let happened = world.happen(&Event::Make {
+        client: number,
+        txn,
+        timeout,
+    })?;
     Ok(Some((Node::Client(number), happened)))
 }
 

@@ -1,7 +1,7 @@
 use Rattle.std.proofs.Common.{◌≡◌, ℕ, true, Some, refl, sym, ap, ◌∙◌}
 use Rattle.std.proofs.lemmas.Result.{OkIff-at_ok}
 use Rattle.kx_model.specs.World.{Make, is_new}
-use Rattle.kx_script.proofs.Occurring.{makes}
+use Rattle.kx_script.proofs.Occurring.{occurs}
 use Rattle.kx_script.proofs.Performing.{where_it_holds}
 use Rattle.kx_script.proofs.session.make.Goals as goal
 
@@ -18,6 +18,7 @@ returns g c = λ s st.
           (Make c.args.number c.args.txn 60000) new
           ∙ ap (λ (t : ℕ). Some (Make c.args.number c.args.txn t)) (sym timeout);
       place_is = refl;
-      occurs = makes s.world c.args.number c.args.txn c.unwrap-timeout.result _ _ refl refl
-          (c.in_ok-make.ensures s.world st);
+      occurs =
+          let made = c.in_ok-happened.ensures s.world st in
+          occurs s.world _ _ _ (Make c.args.number c.args.txn c.unwrap-timeout.result) made made.is;
     }

@@ -15,6 +15,7 @@ returns-in_default g c = λ mode w h.
     (given c.args.handed) taken) c.in_default.is c.in_ok-taken.ensures)
     (ap (λ (t : Taken). t.messages) c.nothing.ensures)
     (ap (λ (t : Taken). t.note) c.nothing.ensures)
+    (ap (λ (t : Taken). t.failed) c.nothing.ensures)
 
 pub returns : goal.returns
 returns g c = λ mode w h.

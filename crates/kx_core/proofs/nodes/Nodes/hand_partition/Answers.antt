@@ -19,6 +19,7 @@ returns-in_default g c = λ w h.
     (omega (arith, lt, c.self.inside.partitions.ok.0)))) (c.from.ensures ∙ c.get.ensures.value))
     (ap (λ (t : Taken). t.messages) c.nothing.ensures)
     (ap (λ (t : Taken). t.note) c.nothing.ensures)
+    (ap (λ (t : Taken). t.failed) c.nothing.ensures)
 
 pub returns : goal.returns
 returns g c = λ w h.

@@ -14,7 +14,8 @@ returns-in_ok-make-in-Make g c = λ w h sent.
     subst (λ event. Happens w event Stand c.nothing.result) (sym c.in-Make.is)
     (is_made Stand w c.in-Make.client c.in-Make.txn c.in-Make.timeout c.nothing.result
     (c.in_ok-make-in-Make.ensures w h) (ap (λ (t : Taken). t.messages) c.nothing.ensures)
-    (ap (λ (t : Taken). t.note) c.nothing.ensures))
+    (ap (λ (t : Taken). t.note) c.nothing.ensures)
+    (ap (λ (t : Taken). t.failed) c.nothing.ensures))
 
 pub returns-in-Some : goal.returns-in-Some
 returns-in-Some g c = λ w h sent.
@@ -35,7 +36,8 @@ returns-in-None g c = λ w h sent.
     subst (λ event. Happens w event Stand c.nothing-in-None.result) (sym c.in-Deliver.is)
     (not_delivered Stand w c.nothing-in-None.result h
     (ap (λ (t : Taken). t.messages) c.nothing-in-None.ensures)
-    (ap (λ (t : Taken). t.note) c.nothing-in-None.ensures) number c.in-Deliver.to
+    (ap (λ (t : Taken). t.note) c.nothing-in-None.ensures)
+    (ap (λ (t : Taken). t.failed) c.nothing-in-None.ensures) number c.in-Deliver.to
     c.in-Deliver.store
     (ap (λ (ms : List Message). slice_get ms number) (sym sent) ∙ sym c.in-None.ensures))
 
@@ -48,7 +50,8 @@ returns-then-is_message g c = λ w h sent.
     subst (λ event. Happens w event Stand taken) (sym c.in-Hand.is)
     (not_handed Stand w taken h
     (ap (λ (t : Taken). t.messages) c.nothing-then-is_message.ensures)
-    (ap (λ (t : Taken). t.note) c.nothing-then-is_message.ensures) c.in-Hand.to c.in-Hand.input
+    (ap (λ (t : Taken). t.note) c.nothing-then-is_message.ensures)
+    (ap (λ (t : Taken). t.failed) c.nothing-then-is_message.ensures) c.in-Hand.to c.in-Hand.input
     c.in-Hand.store comes)
 
 pub returns-else-is_message : goal.returns-else-is_message

@@ -4,7 +4,7 @@ use Rattle.kx_core.specs.World.{IsRun}
 use Rattle.kx_core.proofs.Running.{stepped}
 use Rattle.kx_message.specs.declared.message.Message.{Message}
 use Rattle.kx_model.specs.World as model
-use Rattle.kx_core.proofs.world.World.step.Goals as goal
+use Rattle.kx_core.proofs.world.World.happen.Goals as goal
 
 pub invariant_of-self-2 : goal.invariant_of-self-2
 invariant_of-self-2 g c =

@@ -1,6 +1,6 @@
 //! How many data partitions a world has.
 ghost use Rattle.std.specs.Prelude.{◌≡◌, MatchOption};
-ghost use Rattle.kx_script.specs.Count.{IsCount};
+ghost use Rattle.kx_core.specs.Count.{IsCount};
 
 use std::marker::Model;
 
@@ -13,7 +13,7 @@ pub struct PartitionCount(usize);
 
 impl Model for PartitionCount {
     ghost use Rattle.std.specs.Prelude.{ℕ};
-    ghost use Rattle.kx_script.specs.Count.{IsCount};
+    ghost use Rattle.kx_core.specs.Count.{IsCount};
 
     ghost Value = { ℕ };
 

@@ -1,0 +1,181 @@
+//! A world whose nodes keep their logs in memory, and what can be read of it.
+ghost use Rattle.std.specs.Prelude.{◌≡◌, ◌⊎◌, ℕ, pos, true, None, Ok, Some, IfOk, MatchOption};
+ghost use Rattle.std.specs.Prelude.{MatchResult, Contains, map};
+ghost use Rattle.kx_core.specs.Local.{IsLocal, between};
+ghost use Rattle.kx_message.specs.Ranges.{offsets_partition};
+ghost use Rattle.kx_message.specs.declared.code.ErrorCode.TheVariants.{UnknownTopicOrPartition};
+ghost use Rattle.kx_model.specs.Coordinator.{commits, owed, rows};
+ghost use Rattle.kx_model.specs.Groups.{generation, members, offset_fetch};
+ghost use Rattle.kx_model.specs.Headline.{FollowsDecisions};
+ghost use Rattle.kx_model.specs.Log.{Placed, Sequenced};
+ghost use Rattle.kx_model.specs.Page.{answer_to};
+ghost use Rattle.kx_model.specs.Reading.{committed_of, visible};
+ghost use Rattle.kx_model.specs.Transactions.{last_stable_offset, open_transactions};
+ghost use Rattle.kx_model.specs.World as model;
+ghost use Rattle.kx_model.specs.World.{data_partition_at, entries_at, log_at, notes, start};
+ghost use Rattle.kx_partition.specs.Fetch.{FetchRefuses};
+ghost use Rattle.kx_partition.specs.declared.fault.FetchFault.TheVariants.{Refused};
+ghost use Rattle.kx_txnlog.specs.Entry.{row_of};
+
+use crate::count::PartitionCount;
+use crate::promises::schedules_keep_promises;
+use crate::world::World;
+use kx_broker::{OffsetsMachine, PartitionMachine};
+use kx_coord_node::CoordinatorMachine;
+use kx_log::{FaultStore, MemStore};
+use kx_message::{ClientId, ErrorCode, GroupId, PartitionId};
+use kx_partition::{FetchFault, FetchPage};
+use kx_txnlog::Row;
+use std::alloc::{AllocError, Global};
+
+/// A store in memory that can be made to fail.
+pub type LocalStore = FaultStore<MemStore>;
+
+/// A world whose nodes keep their logs in memory.
+pub type LocalWorld = World<
+    CoordinatorMachine<LocalStore>,
+    PartitionMachine<LocalStore>,
+    OffsetsMachine<LocalStore>,
+>;
+
+/// How a world is made.
+#[derive(Clone, Copy, Debug, PartialEq, Eq)]
+pub struct Config {
+    /// How many data partitions it has.
+    pub partitions: PartitionCount,
+}
+
+// An empty store, of which nothing fails yet.
+fn empty_store(alloc: Global) -> LocalStore {
+    FaultStore::new(MemStore::new(Vec::new(alloc)), 0, 0)
+}
+
+// The servers of so many data partitions, in order.
+fn servers(
+    alloc: Global,
+    count: usize,
+) -> Result<Vec<PartitionMachine<LocalStore>>, AllocError> {
+    let mut servers = Vec::with_capacity(alloc, count)?;
+    for number in 0..count as u16 {
+        let Ok(number) = PartitionId::try_from(number) else {
+            return Err(AllocError);
+        };
+        let Ok(server) = PartitionMachine::new(alloc, number, empty_store(alloc)) else {
+            return Err(AllocError);
+        };
+        servers.push(server)?;
+    }
+    Ok(servers)
+}
+
+impl World<CoordinatorMachine<LocalStore>, PartitionMachine<LocalStore>, OffsetsMachine<LocalStore>> {
+    /// A world in which nothing has happened: the coordinator, so many data partitions and the
+    /// offsets partition, with empty logs in memory.
+    ///
+    /// # Errors
+    ///
+    /// Only for want of memory.
+    pub fn new(alloc: Global, config: Config) -> Result<LocalWorld, AllocError>
+        ensures { IfOk result (λ world. IsLocal world (start config.partitions)) }
+    {
+        let Ok(coordinator) = CoordinatorMachine::new(alloc, empty_store(alloc)) else {
+            return Err(AllocError);
+        };
+        let partitions = servers(alloc, config.partitions.get())?;
+        let Ok(offsets) = OffsetsMachine::new(alloc, empty_store(alloc)) else {
+            return Err(AllocError);
+        };
+        Ok(World::of(alloc, coordinator, partitions, offsets))
+    }
+
+    /// A page of a data partition, borrowed from its log: from the batch that holds the offset
+    /// `from` on, as many as have at most `max` bytes in all, and at least one where there is one,
+    /// of committed records or of all (Kafka's Fetch; KIP-98, "READ_COMMITTED"). A reader of
+    /// committed records gets exactly what is visible by the coordinator's decisions.
+    ///
+    /// # Errors
+    ///
+    /// Those of [`Partition::fetch`](kx_partition::Partition::fetch), and
+    /// [`FetchFault::Refused`] with `UnknownTopicOrPartition` where there is no such partition.
+    pub fn fetch(
+        &self,
+        partition: PartitionId,
+        from: i64,
+        max: u32,
+        committed: bool,
+    ) -> Result<FetchPage<'_>, FetchFault>
+        ensures answer { (w : model.World) → IsLocal self.now w → MatchResult result
+            (λ page. answer_to (log_at w partition) from max committed ≡ Ok page)
+            (λ fault. FetchRefuses (answer_to (log_at w partition) from max committed) fault
+            ⊎ ((data_partition_at w partition ≡ None)
+            × (fault ≡ Refused UnknownTopicOrPartition))) }
+        // Of committed records it has exactly what is visible, by decision.
+        ensures visible { (w : model.World) → IsLocal self.now w → committed ≡ true
+            → IfOk result (λ page. committed_of page
+            ≡ between from page.next (visible (entries_at w partition) (commits (notes w)))) }
+    {
+        schedules_keep_promises();
+        match self.partition(partition) {
+            Some(server) => server.partition().fetch(from, max, committed),
+            None => Err(FetchFault::Refused(ErrorCode::UnknownTopicOrPartition)),
+        }
+    }
+
+    /// The last stable offset of a data partition, where there is the partition: the first offset
+    /// of its earliest open transaction, or its end (KIP-98, "READ_COMMITTED"). Each transaction
+    /// that is open there is owed its marker by the coordinator.
+    pub fn last_stable_offset(&self, partition: PartitionId) -> Option<i64>
+        ensures offset { (w : model.World) → IsLocal self.now w → MatchOption result
+            (data_partition_at w partition ≡ None)
+            (λ offset. offset ≡ pos (last_stable_offset (entries_at w partition))) }
+        ensures owed { (w : model.World) → IsLocal self.now w → (opened : Placed Sequenced)
+            → Contains (open_transactions (entries_at w partition)) opened
+            → owed (notes w) partition opened.item.id opened.item.epoch ≡ true }
+    {
+        schedules_keep_promises();
+        let server = self.partition(partition)?;
+        Some(server.partition().lso())
+    }
+
+    /// A group's committed offset of a data partition that it reads, -1 where there is none, or the
+    /// code that one is pending where a stable one is asked for (KIP-447). It is that of the last
+    /// transaction that the coordinator decided to commit.
+    pub fn committed_offset(
+        &self,
+        group: GroupId,
+        partition: PartitionId,
+        stable: bool,
+    ) -> (ErrorCode, i64)
+        ensures answer { (w : model.World) → IsLocal self.now w
+            → record { code = result.0; offset = result.1 }
+            ≡ offset_fetch (entries_at w offsets_partition) group partition stable }
+        ensures decided { (w : model.World) → IsLocal self.now w
+            → FollowsDecisions w group partition }
+    {
+        schedules_keep_promises();
+        self.offsets().groups().offset_fetch(group, partition, stable)
+    }
+
+    /// A group's generation, 0 to 2^31 - 1: how often its membership has changed.
+    pub fn generation(&self, group: GroupId) -> i32
+        ensures { (w : model.World) → IsLocal self.now w
+            → result ≡ pos (generation (entries_at w offsets_partition) group) }
+    {
+        self.offsets().groups().generation(group)
+    }
+
+    /// A group's members, in joining order.
+    pub fn members(&self, group: GroupId) -> &[ClientId]
+        ensures { (w : model.World) → IsLocal self.now w
+            → result.now ≡ members (entries_at w offsets_partition) group }
+    {
+        self.offsets().groups().members(group)
+    }
+
+    /// The coordinator's row of each transactional id, in order of first use.
+    pub fn rows(&self) -> &[Row]
+        ensures { (w : model.World) → IsLocal self.now w → map row_of result.now ≡ rows (notes w) }
+    {
+        self.coordinator().coordinator().rows()
+    }
+}
