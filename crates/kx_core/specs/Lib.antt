@@ -4,3 +4,4 @@ pub mod Sent
 pub mod World
 pub mod Count
 pub mod Internal
+pub mod Local

@@ -1,7 +1,7 @@
 -- A world whose nodes keep their logs in memory, and the world of the definitions for which it
 -- stands.
 use Rattle.std.specs.Prelude.{ℤ, ◌&&◌, List, filter, int_le, int_lt}
-use Rattle.kx_broker.specs.Groups.{StandsForGroups}
+use Rattle.kx_broker.specs.Offsets.{StandsForGroups}
 use Rattle.kx_broker.specs.Serving.{Serving, StandsFor}
 use Rattle.kx_coord.specs.CoordinatorState.{CoordinatorState}
 use Rattle.kx_coord_node.specs.Stands.{Stands}

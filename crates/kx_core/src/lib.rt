@@ -6,18 +6,22 @@
 
 mod client;
 mod clients;
+mod count;
 mod event;
 mod fault;
 mod fits;
 mod hand;
+mod local;
 mod nodes;
 mod promises;
 mod sent;
 mod world;
 
 pub use client::ClientMachine;
+pub use count::PartitionCount;
 pub use event::{Event, Happened};
 pub use fault::RunFault;
+pub use local::{Config, LocalStore, LocalWorld};
 pub use promises::schedules_keep_promises;
 pub use sent::Sent;
 pub use world::World;

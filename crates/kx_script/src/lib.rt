@@ -9,10 +9,12 @@ mod command;
 mod marks;
 mod order;
 mod printing;
+mod program;
 mod runs;
 mod script;
 mod session;
 mod values;
+mod world;
 
 pub use command::order_in;
 pub use marks::{Marks, mode_of};
@@ -20,6 +22,7 @@ pub use order::{Batch, Happening, Left, Order, Task};
 pub use printing::{
     write_code, write_dash, write_declined, write_group, write_message, write_rows,
 };
+pub use program::run_sim;
 pub use runs::Runs;
 pub use script::run_script;
 pub use session::{Running, fail, fetch, happen, offset, rows};

@@ -1,8 +1,7 @@
 //! A world of running nodes under a script.
 use crate::runs::Runs;
 use kx_core::{Config, Event, Happened, LocalWorld, PartitionCount};
-use kx_machine::{Input, StoreMode};
-use kx_message::{ClientId, ErrorCode, GroupId, Message, Node, PartitionId, Timeout, TxnId};
+use kx_message::{ClientId, ErrorCode, GroupId, Message, PartitionId};
 use kx_partition::{FetchFault, FetchPage};
 use kx_txnlog::Row;
 use std::alloc::{AllocError, Global};
@@ -16,31 +15,8 @@ impl Runs for LocalWorld {
         LocalWorld::new(alloc, Config { partitions })
     }
 
-    fn make(
-        &mut self,
-        client: ClientId,
-        txn: Option<TxnId>,
-        timeout: Timeout,
-    ) -> Result<(), AllocError> {
-        let _made = self.happen(&Event::Make {
-            client,
-            txn,
-            timeout,
-        })?;
-        Ok(())
-    }
-
-    fn deliver(
-        &mut self,
-        number: usize,
-        to: Node,
-        store: StoreMode,
-    ) -> Result<Happened, AllocError> {
-        self.happen(&Event::Deliver { number, to, store })
-    }
-
-    fn hand(&mut self, to: Node, input: Input, store: StoreMode) -> Result<Happened, AllocError> {
-        self.happen(&Event::Hand { to, input, store })
+    fn happen(&mut self, event: &Event) -> Result<Happened, AllocError> {
+        LocalWorld::happen(self, event)
     }
 
     fn partitions(&self) -> usize {
