@@ -104,6 +104,15 @@ module _ {C P O : Type 0} (Coordinates : NodeState → C → Type 0) (Serves : N
       OneMore w given (more ++ one ∷ []) happened is
       (runs_more before after (step w happened).0 more one answer goes rest)
 
+  -- the same, where nothing more happened
+  pub runs_still : (before after : Running C P O) (w : World) (given : List happening.Event)
+      → ((v : World) → Run before v → Run after v) → Runs (Run before) w given
+      → Runs (Run after) w given
+  runs_still before after w [] still (NoneLeft v h) = NoneLeft w (still w h)
+  runs_still before after w (given ∷ more) still (OneMore v g m happened is rest) =
+      OneMore w given more happened is
+      (runs_still before after (step w happened).0 more still rest)
+
   pub promised : ((count : ℕ) (events : List model.Event) → IsSchedule events
       → KeepsPromises (run events (start count))) → (r : Running C P O) (w : World)
       → Run r w → KeepsPromises w

@@ -7,7 +7,7 @@ ghost use Rattle.kx_machine.specs.declared.machine.StoreMode.{StoreMode};
 ghost use Rattle.kx_machine.specs.declared.taken.Note.TheVariants as note;
 ghost use Rattle.kx_message.specs.Ranges.{offsets_partition};
 ghost use Rattle.kx_message.specs.declared.message.Node.TheVariants as node;
-ghost use Rattle.kx_model.specs.World.{Make, World, step};
+ghost use Rattle.kx_model.specs.World.{Make, World, clock_after, step};
 
 use crate::client::ClientMachine;
 use crate::clients::Clients;
@@ -41,6 +41,16 @@ fn is_message(input: &Input) -> bool
     ensures { result ≡ is_message input.now }
 {
     matches!(input, Input::Deliver(_))
+}
+
+// The greatest moment of an expiry, once the coordinator has taken this.
+fn clock_after(clock: u64, handed: Given<'_>) -> u64
+    ensures { result ≡ clock_after clock (given handed.entry) }
+{
+    match handed {
+        Given::Input(Input::Expire(now)) => clock.max(*now),
+        Given::Input(_) | Given::Message(_) => clock,
+    }
 }
 
 /// The nodes of a world: the coordinator, the partitions, and the clients in the order of their
@@ -78,10 +88,9 @@ impl<C: Failing, P: Failing, O: Failing> Nodes<C, P, O> {
             (StandFor C.stands P.stands O.stands self.new) node.Coordinator mode
             (given handed.entry) result }
     {
+        let clock = clock_after(self.clock, handed);
         let taken = hand(&mut self.coordinator, handed, mode)?;
-        if let Given::Input(Input::Expire(now)) = handed {
-            self.clock = self.clock.max(*now);
-        }
+        self.clock = clock;
         Ok(taken)
     }
 

@@ -126,8 +126,9 @@ impl<C: Failing, P: Failing, O: Failing> World<C, P, O> {
     {
         schedules_keep_promises();
         for (at, event) in events.iter().enumerate() {
-            if self.happen(event).is_err() {
-                return Err(RunFault::Memory(at));
+            match self.happen(event) {
+                Ok(_) => {}
+                Err(_) => return Err(RunFault::Memory(at)),
             }
         }
         Ok(())

@@ -1,0 +1,42 @@
+use Rattle.std.proofs.Common.{◌≡◌, ◌∙◌, ◌++◌, ◌∷◌, [], ap, subst, sym, arith, suc, ◌+◌, ℕ}
+use Rattle.std.specs.Prelude.{take}
+use Rattle.std.proofs.Math.Seq.{take-suc}
+use Rattle.std.proofs.lemmas.List.{take_all}
+use Rattle.kx_core.specs.World.{IsRun, NoneLeft, Runs}
+use Rattle.kx_core.specs.declared.event.Event.{Event}
+use Rattle.kx_core.proofs.Running.{runs_more, runs_still}
+use Rattle.kx_core.proofs.world.World.run.Goals as goal
+
+pub loop-at-init : goal.loop-at-init
+loop-at-init g c = λ w h. NoneLeft w h
+
+pub returns-in-Err-clause-run : goal.returns-in-Err-clause-run
+returns-in-Err-clause-run g c = λ w h. (
+  omega (arith, c.loop-at-test.true),
+  runs_still g.C.Machine.stands g.P.Machine.stands g.O.Machine.stands c.loop-at.self
+      c.happen.new.self w (take c.loop-at.at c.args.events.now) c.in-Err.ensures.step
+      (c.loop-at.invariant w h),
+)
+
+pub loop-at-preserved : goal.loop-at-preserved
+loop-at-preserved g c = λ w h.
+    let events = c.args.events.now in
+    let at = c.loop-at.at in
+    let one = c.index-events-at.result in
+    let next : at + 1 ≡ suc at = omega arith in
+    let longer : take (at + 1) events ≡ take at events ++ one ∷ [] =
+    ap (λ (n : ℕ). take n events) next
+    ∙ take-suc events at one (omega (arith, c.loop-at-test.true))
+    ∙ ap (λ (e : Event). take at events ++ e ∷ []) (sym c.index-events-at.is) in
+    subst (Runs (IsRun g.C.Machine.stands g.P.Machine.stands g.O.Machine.stands c.happen.new.self)
+    w) (sym longer)
+    (runs_more g.C.Machine.stands g.P.Machine.stands g.O.Machine.stands c.loop-at.self
+    c.happen.new.self w (take at events) one (λ v before. c.in-Ok.field-0)
+    c.in-Ok.ensures.step (c.loop-at.invariant w h))
+
+pub returns-clause-run : goal.returns-clause-run
+returns-clause-run g c = λ w h.
+    let all : take c.loop-at.at c.args.events.now ≡ c.args.events.now =
+    take_all c.loop-at.at c.args.events.now (omega (arith, c.loop-at-test.false)) in
+    subst (Runs (IsRun g.C.Machine.stands g.P.Machine.stands g.O.Machine.stands c.loop-at.self) w)
+    all (c.loop-at.invariant w h)
