@@ -1,7 +1,8 @@
 //! Steps that run scripts over streams that fail, and the script of a long line.
 use crate::streams::{Full, Torn};
 use kx_cases::{Runs, StepFault, Subject, Texts, value};
-use kx_text::run_script;
+use kx_core::LocalWorld;
+use kx_script::run_script;
 use std::alloc::{AllocError, Global};
 use std::io::BufRead;
 use std::str;
@@ -42,7 +43,7 @@ fn on_one_line(alloc: Global, text: &[u8], ended: &str) -> Result<String, AllocE
 // What a script writes, and how it ends.
 fn run<R: BufRead>(alloc: Global, reader: &mut R) -> Result<String, AllocError> {
     let mut written = Vec::new(alloc);
-    let ended = run_script(alloc, reader, &mut written);
+    let ended = run_script::<LocalWorld, _, _>(alloc, reader, &mut written);
     let ended = format!(in alloc; "{ended:?}")?;
     on_one_line(alloc, written.as_slice(), ended.as_str())
 }
@@ -52,7 +53,7 @@ fn full(alloc: Global, most: usize, script: &str) -> Result<String, AllocError> 
     let mut runs = Runs::new(alloc);
     for room in 0..=most {
         let mut reader = script.as_bytes();
-        let ended = run_script(alloc, &mut reader, &mut Full(room));
+        let ended = run_script::<LocalWorld, _, _>(alloc, &mut reader, &mut Full(room));
         runs.push(room, format!(in alloc; "{ended:?}")?)?;
     }
     runs.finish()

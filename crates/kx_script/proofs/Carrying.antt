@@ -16,7 +16,7 @@ use Rattle.kx_script.specs.declared.marks.Marks.{Marks}
 use Rattle.kx_script.specs.declared.order.Happening.{Happening}
 use Rattle.kx_script.specs.declared.order.Order.TheVariants as order
 use Rattle.kx_core.specs.declared.event.Happened.{Happened}
-use Rattle.kx_text.specs.World.{lost_text}
+use Rattle.kx_text.specs.Pages.{lost_text}
 
 -- a node took its step, which was printed, and its mark was taken back where its append failed
 pub happens_so : {N : Type 0} (Stands : World → N → Type 0) (s : Session) (what : Happening)

@@ -17,9 +17,9 @@ use Rattle.kx_script.specs.Session.{Session, has_node, has_partition, opening, w
 use Rattle.kx_script.specs.declared.order.Left.{Left}
 use Rattle.kx_script.specs.declared.order.Order.TheVariants as order
 use Rattle.kx_script.specs.declared.session.Running.{Running}
-use Rattle.kx_text.specs.Script.{fetched_text}
-use Rattle.kx_text.specs.World.{page_text, refused_text}
-use Rattle.kx_text.specs.declared.command.Mode.{Mode}
+use Rattle.kx_text.specs.Lines.{fetched_text}
+use Rattle.kx_text.specs.Pages.{page_text, refused_text}
+use Rattle.kx_text.specs.declared.mode.Mode.{Mode}
 
 pub where_it_holds : {A : Type 0} (b : Bool) (x : A) → b ≡ true → where_true b x ≡ Some x
 where_it_holds true x e = refl

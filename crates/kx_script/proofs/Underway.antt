@@ -5,7 +5,7 @@ use Rattle.std.specs.Prelude.{IfSome}
 use Rattle.std.specs.Io.KnownBytes.{Appends}
 use Rattle.std.proofs.lemmas.List.{append-nil, length-append}
 use Rattle.kx_text.specs.Words.{before, lines_of}
-use Rattle.kx_text.specs.Script.{ReadsLine, bad_text}
+use Rattle.kx_text.specs.Lines.{ReadsLine, bad_text}
 use Rattle.kx_text.specs.declared.fault.ScriptFault.{ScriptFault}
 use Rattle.kx_text.specs.declared.fault.ScriptFault.TheVariants.{Read, Write, BadLine, Memory}
 use Rattle.kx_text.proofs.Writes.{appends_both, appends_kept, appends_nothing}

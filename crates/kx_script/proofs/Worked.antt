@@ -4,7 +4,7 @@ use Rattle.std.proofs.Common.{◌≡◌, ◌++◌, ℕ, List, [], ◌∷◌, ref
 use Rattle.std.specs.Prelude.{codes, flat_map}
 use Rattle.kx_script.specs.Script.{script_text}
 use Rattle.kx_script.proofs.Rules.{rules}
-use Rattle.kx_text.specs.World.{newline}
+use Rattle.kx_text.specs.Pages.{newline}
 
 -- a line, and the lines that it has to print
 pub record Step : Type 0 where

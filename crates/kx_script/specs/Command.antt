@@ -8,7 +8,7 @@ use Rattle.kx_message.specs.Values.{name_with, where_true}
 use Rattle.kx_message.specs.declared.message.Node.{Node}
 use Rattle.kx_message.specs.declared.message.Node.TheVariants as node
 use Rattle.kx_message.specs.declared.outcome.Outcome.TheVariants.{Abort, Commit}
-use Rattle.kx_text.specs.Command.{default_max, mode_of}
+use Rattle.kx_text.specs.Mode.{default_max, mode_of}
 use Rattle.kx_text.specs.Words.{below, number_below, number_of, words_of}
 use Rattle.kx_script.specs.declared.command.Name.{Name}
 use Rattle.kx_script.specs.declared.command.Name.TheVariants as name

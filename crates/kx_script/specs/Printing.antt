@@ -14,7 +14,7 @@ use Rattle.kx_message.specs.declared.message.Message.{Message}
 use Rattle.kx_message.specs.declared.message.Node.{Node}
 use Rattle.kx_message.specs.declared.outcome.Outcome.TheVariants.{Abort, Commit}
 use Rattle.kx_model.specs.Coordinator.{Row, State, Empty, Ongoing, Prepare, Complete}
-use Rattle.kx_text.specs.World.{answer_text, newline}
+use Rattle.kx_text.specs.Pages.{answer_text, newline}
 
 -- nothing was handed out, or there is nothing to show
 abbrev pub dash_text : List ℕ

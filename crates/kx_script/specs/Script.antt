@@ -17,10 +17,11 @@ use Rattle.kx_core.specs.World.{place_of}
 use Rattle.kx_script.specs.Session.{opening, session_after, with_mark}
 use Rattle.kx_script.specs.declared.order.Order.{Order}
 use Rattle.kx_script.specs.declared.order.Order.TheVariants as order
-use Rattle.kx_text.specs.Script.{LeavesWriter, bad_text, fetched_text}
+use Rattle.kx_text.specs.Lines.{LeavesWriter, bad_text, fetched_text}
 use Rattle.kx_text.specs.Words.{lines_of}
-use Rattle.kx_text.specs.World.{is_committed, lost_text}
-use Rattle.kx_text.specs.declared.command.Mode.{Mode}
+use Rattle.kx_text.specs.Mode.{is_committed}
+use Rattle.kx_text.specs.Pages.{lost_text}
+use Rattle.kx_text.specs.declared.mode.Mode.{Mode}
 use Rattle.kx_text.specs.declared.fault.ScriptFault.{ScriptFault}
 use Rattle.kx_text.specs.declared.fault.ScriptFault.TheVariants.{Read, Write, BadLine, Memory}
 

@@ -1,12 +1,8 @@
-pub mod Building
 pub mod Cuts
 pub mod Dumping
-pub mod Lines
+pub mod Firsts
 pub mod Numbers
+pub mod Pairs
 pub mod Performing
 pub mod Reading
-pub mod Running
 pub mod Writes
-pub mod Putting
-pub mod Pairs
-pub mod Worlds

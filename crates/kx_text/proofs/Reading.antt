@@ -6,8 +6,8 @@ use Rattle.std.specs.Io.KnownBytes.{IsAtEnd}
 use Rattle.std.specs.Io.BufRead.{take_through, drop_through, DropsThrough}
 use Rattle.std.proofs.lemmas.Bool.{eqb-true, eq-eqb}
 use Rattle.kx_text.specs.Words.{before, lines_of}
-use Rattle.kx_text.specs.Script.{ReadsLine}
-use Rattle.kx_text.proofs.Lines.{lines_of-first}
+use Rattle.kx_text.specs.Lines.{ReadsLine}
+use Rattle.kx_text.proofs.Firsts.{lines_of-first}
 
 pub reads_line : (old new : Option (List ℕ)) (line : List ℕ) (count : ℕ) (more : Bool)
     → more ≡ not (eqb count 0) → length line ≡ count → (count ≡ 0 → IsAtEnd old)

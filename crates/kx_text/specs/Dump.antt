@@ -12,7 +12,7 @@ use Rattle.kx_batch.specs.Batch.{Batch, Spelled, batch_at, is_control, is_transa
 use Rattle.kx_batch.specs.Marker.{end_marker_of}
 use Rattle.kx_batch.specs.declared.fault.BatchFault.{BatchFault}
 use Rattle.kx_batch.specs.declared.fault.BatchFault.TheVariants as fault
-use Rattle.kx_text.specs.World.{newline}
+use Rattle.kx_text.specs.Pages.{newline}
 use Rattle.kx_text.specs.declared.dump.DumpFault.{DumpFault}
 use Rattle.kx_text.specs.declared.dump.DumpFault.TheVariants as dump_fault
 

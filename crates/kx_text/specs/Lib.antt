@@ -1,7 +1,7 @@
 pub mod Words
-pub mod Command
-pub mod World
-pub mod Script
+pub mod Mode
+pub mod Pages
+pub mod Lines
 pub mod Dump
 pub mod Faults
 pub mod Statuses

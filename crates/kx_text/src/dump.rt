@@ -10,7 +10,7 @@ ghost use Rattle.kx_text.specs.Dump.{record_line};
 ghost use Rattle.kx_text.specs.Faults.{dump_fault_number};
 ghost use Rattle.kx_text.specs.declared.dump.DumpFault.TheVariants as dump_fault;
 
-use crate::answers::offset_of;
+use crate::pages::offset_of;
 use kx_batch::{BatchFault, BatchView, RecordView};
 use kx_message::Outcome;
 use std::io;

@@ -18,8 +18,8 @@ pub enum ScriptFault {
     /// written, and then `bad line N`.
     #[error("line {0} is bad")]
     BadLine(u64),
-    /// Memory ran out for the line that was read, or for the partitions of `world`. The answers to
-    /// the lines before were written, and nothing else.
+    /// Memory ran out for the line that was read, for the world that it makes, or for the records
+    /// that it shows. The answers to the lines before were written, and nothing else.
     #[error("out of memory")]
     Memory,
 }

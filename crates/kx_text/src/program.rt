@@ -1,18 +1,12 @@
-//! What the program does once its arguments are read, over any reader and any writer, and the
-//! status that it ends with.
-ghost use Rattle.std.specs.Prelude.{◌≡◌, ◌⊎◌, [], Err, IfSome};
+//! A dump as the program writes it, over any writer, and the status that the program ends with.
+ghost use Rattle.std.specs.Prelude.{◌≡◌, ◌⊎◌, [], Err};
 ghost use Rattle.std.specs.Io.Buffered.{writer_buffer, writer_contents};
 ghost use Rattle.kx_text.specs.Dump.{Dumps};
-ghost use Rattle.kx_text.specs.Script.{Ends};
 ghost use Rattle.kx_text.specs.Statuses.{ending_of, exit_status};
 ghost use Rattle.kx_text.specs.declared.dump.DumpFault.TheVariants as dump_fault;
-ghost use Rattle.kx_text.specs.declared.fault.ScriptFault.TheVariants as fault;
 
 use crate::dump::{DumpFault, dump_batches};
-use crate::fault::ScriptFault;
-use crate::script::run_script;
-use std::alloc::Global;
-use std::io::{BufRead, BufWriter, Write};
+use std::io::{BufWriter, Write};
 
 /// How the program ends.
 #[derive(Clone, Copy, Debug, PartialEq, Eq)]
@@ -47,28 +41,6 @@ impl Ending {
             Ending::WrongArguments => 2,
         }
     }
-}
-
-/// Runs a script as [`run_script`] does, and flushes what it wrote, also before a fault.
-///
-/// # Errors
-///
-/// Those of [`ScriptFault`]; `Write` also where the writer can't be flushed. Of any other nothing
-/// is left in the buffer.
-pub fn run_sim<R: BufRead, W: Write + Drop>(
-    alloc: Global,
-    reader: &mut R,
-    writer: &mut BufWriter<W>,
-) -> Result<(), ScriptFault>
-    ensures ends { IfSome (R.remaining reader.old) (λ input. Ends input
-        (writer_contents W.contents writer.old) (writer_contents W.contents writer.new) result) }
-    ensures flushed { (result ≡ Err fault.Write) ⊎ (writer_buffer writer.new ≡ []) }
-{
-    let ran = run_script(alloc, reader, writer);
-    if writer.flush().is_err() {
-        return Err(ScriptFault::Write);
-    }
-    ran
 }
 
 /// Writes a dump as [`dump_batches`] does, and flushes what it wrote, also before a fault.

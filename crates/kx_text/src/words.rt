@@ -1,5 +1,5 @@
 //! Reading: a line's text, its words and its numbers.
-ghost use Rattle.std.specs.Prelude.{◌≡◌, ◌↔◌, ◌<◌, ◌^◌, [], ◌∷◌, IsNone, IfSome, option_map};
+ghost use Rattle.std.specs.Prelude.{◌≡◌, ◌<◌, ◌^◌, IfSome, option_map};
 ghost use Rattle.std.specs.Iterator.{YieldsFirstRef, item_count};
 ghost use Rattle.kx_text.specs.Words.{before, behind, below, is_visible, is_word, number_below};
 ghost use Rattle.kx_text.specs.Words.{number_of, pieces_of, words_of};
@@ -66,39 +66,6 @@ impl<'a> Iterator for Words<'a> {
         let (word, behind) = cut_at(b' ', rest);
         self.rest = behind;
         Some(word)
-    }
-}
-
-/// One word of a line, and those behind it.
-#[derive(Drop)]
-pub struct SomeWords<'a> {
-    first: &'a [u8],
-    more: Words<'a>,
-}
-
-impl<'a> Model for SomeWords<'a> {
-    ghost use Rattle.std.specs.Prelude.{ℕ, List, ◌∷◌};
-
-    ghost Value = { List (List ℕ) };
-
-    ghost view = { λ words. words.first.now ∷ words.more };
-}
-
-impl<'a> SomeWords<'a> {
-    /// The words, or None where there is none.
-    pub fn of(mut words: Words<'a>) -> Option<SomeWords<'a>>
-        ensures some { IfSome result (λ some. some ≡ words.entry) }
-        ensures none { IsNone result ↔ (words.entry ≡ []) }
-    {
-        let first = words.next()?;
-        Some(SomeWords { first, more: words })
-    }
-
-    /// The first word, and those behind it.
-    pub fn split_first(self) -> (&'a [u8], Words<'a>)
-        ensures { self.entry ≡ result.0.now ∷ result.1 }
-    {
-        (self.first, self.more)
     }
 }
 

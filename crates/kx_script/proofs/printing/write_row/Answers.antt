@@ -2,7 +2,7 @@ use Rattle.std.proofs.Common.{◌≡◌, ◌++◌, ℕ, List, append_assoc, subs
 use Rattle.std.specs.Prelude.{codes, decimal}
 use Rattle.std.specs.Io.KnownBytes.{Appends}
 use Rattle.std.proofs.lemmas.Result.{on_ok_weaker}
-use Rattle.kx_text.specs.World.{newline}
+use Rattle.kx_text.specs.Pages.{newline}
 use Rattle.kx_text.proofs.Writes.{appends_both}
 use Rattle.kx_txnlog.specs.State.{state_of}
 use Rattle.kx_script.specs.Printing.{partitions_text, state_number}

@@ -2,7 +2,7 @@ use Rattle.std.proofs.Common.{None, Result, Ok, Err, Bool, sym, ap, ◌∙◌, s
 use Rattle.std.specs.Prelude.{IfSome}
 use Rattle.std.proofs.lemmas.Result.{err_from_is_err_and}
 use Rattle.kx_text.specs.Words.{before}
-use Rattle.kx_text.specs.Script.{ReadsLine}
+use Rattle.kx_text.specs.Lines.{ReadsLine}
 use Rattle.kx_text.specs.declared.fault.ScriptFault.{ScriptFault}
 use Rattle.kx_text.proofs.Performing.{holds_at_ok}
 use Rattle.kx_script.specs.Running.{StandsIn}

@@ -4,7 +4,7 @@ use Rattle.std.specs.Io.KnownBytes.{Appends}
 use Rattle.std.proofs.lemmas.Int.{to_z-of_z}
 use Rattle.kx_model.specs.Page.{fetched}
 use Rattle.kx_model.specs.World.{log_at}
-use Rattle.kx_text.specs.Script.{fetched_text}
+use Rattle.kx_text.specs.Lines.{fetched_text}
 use Rattle.kx_text.proofs.Performing.{holds_at_ok}
 use Rattle.kx_script.specs.Script.{fetches}
 use Rattle.kx_script.specs.Session.{has_partition}

@@ -1,8 +1,6 @@
-use Rattle.std.proofs.Common.{◌≡◌, ◌++◌, ◌-◌, ℕ, List, [], length, Ok, Err, refl, sym, ap, ◌∙◌}
-use Rattle.std.proofs.Common.{subst, arith}
-use Rattle.std.specs.Io.KnownBytes.{Appends}
+use Rattle.std.proofs.Common.{◌-◌, length, Ok, Err, refl}
+use Rattle.std.proofs.Common.{arith}
 use Rattle.std.proofs.lemmas.Grind.{common_steps}
-use Rattle.kx_text.specs.Dump.{Dumps}
 use Rattle.kx_text.specs.declared.dump.DumpFault.TheVariants as dump_fault
 use Rattle.kx_text.proofs.Dumping.{starts, goes_on, ends, stops, only_whole, only_stops}
 use Rattle.kx_text.proofs.dump.dump_batches.Goals as goal

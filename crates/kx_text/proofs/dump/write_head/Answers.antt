@@ -1,11 +1,11 @@
-use Rattle.std.proofs.Common.{◌≡◌, ◌++◌, ℕ, ℤ, List, [], ◌∷◌, subst, arith, append_assoc}
+use Rattle.std.proofs.Common.{◌≡◌, ◌++◌, ℕ, List, subst, arith, append_assoc}
 use Rattle.std.specs.Prelude.{OnOk, codes, decimal, length}
 use Rattle.std.specs.Fmt.{signed_decimal}
 use Rattle.std.specs.Io.KnownBytes.{Appends}
 use Rattle.std.proofs.lemmas.Result.{on_ok_weaker}
 use Rattle.std.proofs.lemmas.Grind.{common_steps}
-use Rattle.kx_text.specs.Dump.{batch_line, kind_of, producer_text}
-use Rattle.kx_text.specs.World.{newline}
+use Rattle.kx_text.specs.Dump.{kind_of, producer_text}
+use Rattle.kx_text.specs.Pages.{newline}
 use Rattle.kx_text.proofs.Writes.{appends_both}
 use Rattle.kx_text.proofs.dump.write_head.Goals as goal
 

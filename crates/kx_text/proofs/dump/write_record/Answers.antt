@@ -1,13 +1,13 @@
-use Rattle.std.proofs.Common.{◌≡◌, ◌++◌, ◌+ℤ◌, ℕ, ℤ, List, [], ◌∷◌, subst, arith, append_assoc}
+use Rattle.std.proofs.Common.{◌≡◌, ◌++◌, ◌+ℤ◌, ℤ, subst, arith}
 use Rattle.std.proofs.Common.{to_z, of_z}
 use Rattle.std.specs.Int.{w128}
-use Rattle.std.specs.Prelude.{codes, decimal, length}
+use Rattle.std.specs.Prelude.{codes}
 use Rattle.std.specs.Fmt.{signed_decimal}
 use Rattle.std.specs.Io.KnownBytes.{Appends}
 use Rattle.std.proofs.lemmas.Result.{on_ok_weaker}
 use Rattle.std.proofs.lemmas.Grind.{common_steps}
-use Rattle.kx_text.specs.Dump.{field_text, record_line}
-use Rattle.kx_text.specs.World.{newline}
+use Rattle.kx_text.specs.Dump.{field_text}
+use Rattle.kx_text.specs.Pages.{newline}
 use Rattle.kx_text.proofs.Writes.{appends_both}
 use Rattle.kx_text.proofs.dump.write_record.Goals as goal
 

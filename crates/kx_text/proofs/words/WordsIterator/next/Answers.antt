@@ -1,7 +1,7 @@
 use Rattle.std.proofs.Common.{◌≡◌, ◌∷◌, suc, length, rules, sym, ap, ◌∙◌}
 use Rattle.std.specs.Prelude.{option_map}
 use Rattle.kx_text.specs.Words.{behind, pieces_in}
-use Rattle.kx_text.proofs.Lines.{pieces_of-first}
+use Rattle.kx_text.proofs.Firsts.{pieces_of-first}
 use Rattle.kx_text.proofs.words.WordsIterator.next.Goals as goal
 
 pub returns-clause-steps : goal.returns-clause-steps

@@ -1,5 +1,0 @@
-use Rattle.std.proofs.Common.{rules}
-use Rattle.kx_text.proofs.answers.write_record.Goals as goal
-
-pub returns : goal.returns
-returns g c = search rules

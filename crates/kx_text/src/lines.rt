@@ -1,0 +1,39 @@
+//! Reading a script line by line, and what a write is to it.
+ghost use Rattle.std.specs.Prelude.{◌≡◌, IfSome, IsOk, MatchResult};
+ghost use Rattle.kx_text.specs.Lines.{ReadsLine};
+ghost use Rattle.kx_text.specs.declared.fault.ScriptFault.TheVariants as fault;
+
+use crate::fault::ScriptFault;
+use std::io;
+use std::io::{BufRead, ErrorKind};
+
+/// What a write is to a script.
+///
+/// # Errors
+///
+/// [`ScriptFault::Write`] where it failed.
+pub fn written(done: io::Result<()>) -> Result<(), ScriptFault>
+    ensures { MatchResult result (λ _. IsOk done) (λ f. f ≡ fault.Write) }
+{
+    match done {
+        Ok(()) => Ok(()),
+        Err(_) => Err(ScriptFault::Write),
+    }
+}
+
+/// Reads the next line, with its newline; false where there is none.
+///
+/// # Errors
+///
+/// [`ScriptFault::Read`] where the reader failed, and [`ScriptFault::Memory`].
+pub fn next_line<R: BufRead>(reader: &mut R, line: &mut Vec<u8>) -> Result<bool, ScriptFault>
+    ensures { IfSome (R.remaining reader.old)
+        (λ bytes. ReadsLine bytes (R.remaining reader.new) line.new.items result) }
+{
+    line.clear();
+    match reader.read_until(b'\n', line) {
+        Ok(count) => Ok(count != 0),
+        Err(error) if error.kind() == ErrorKind::OutOfMemory => Err(ScriptFault::Memory),
+        Err(_) => Err(ScriptFault::Read),
+    }
+}
