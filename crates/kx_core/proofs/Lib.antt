@@ -1,3 +1,4 @@
+pub mod Beginning
 pub mod Declining
 pub mod Fitting
 pub mod Happening

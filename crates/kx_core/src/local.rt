@@ -1,14 +1,21 @@
 //! A world whose nodes keep their logs in memory, and what can be read of it.
-ghost use Rattle.std.specs.Prelude.{◌≡◌, ◌⊎◌, ℕ, pos, true, None, Ok, Some, IfOk, MatchOption};
-ghost use Rattle.std.specs.Prelude.{MatchResult, Contains, map};
+ghost use Rattle.std.specs.Prelude.{◌≡◌, ◌⊎◌, ◌<◌, [], pos, true, None, Ok, Some, IfOk};
+ghost use Rattle.std.specs.Prelude.{MatchOption, MatchResult, Contains, length, map};
+ghost use Rattle.kx_broker.specs.Offsets.{StandsForGroups};
+ghost use Rattle.kx_broker.specs.Serving.{StandsFor};
+ghost use Rattle.kx_coord_node.specs.Stands.{Stands};
+ghost use Rattle.kx_core.specs.Internal.{AreServers};
 ghost use Rattle.kx_core.specs.Local.{IsLocal, between};
-ghost use Rattle.kx_message.specs.Ranges.{offsets_partition};
+ghost use Rattle.kx_machine.specs.Meaning.{AtCoordinator, AtPartition};
+ghost use Rattle.kx_message.specs.Ranges.{data_partitions, offsets_partition};
 ghost use Rattle.kx_message.specs.declared.code.ErrorCode.TheVariants.{UnknownTopicOrPartition};
 ghost use Rattle.kx_model.specs.Coordinator.{commits, owed, rows};
+ghost use Rattle.kx_model.specs.CoordinatorNode.{new_coordinator};
 ghost use Rattle.kx_model.specs.Groups.{generation, members, offset_fetch};
 ghost use Rattle.kx_model.specs.Headline.{FollowsDecisions};
 ghost use Rattle.kx_model.specs.Log.{Placed, Sequenced};
 ghost use Rattle.kx_model.specs.Page.{answer_to};
+ghost use Rattle.kx_model.specs.PartitionNode.{empty_partition};
 ghost use Rattle.kx_model.specs.Reading.{committed_of, visible};
 ghost use Rattle.kx_model.specs.Transactions.{last_stable_offset, open_transactions};
 ghost use Rattle.kx_model.specs.World as model;
@@ -46,26 +53,59 @@ pub struct Config {
 }
 
 // An empty store, of which nothing fails yet.
-fn empty_store(alloc: Global) -> LocalStore {
+fn empty_store(alloc: Global) -> LocalStore
+    ensures { result.bytes ≡ [] }
+{
     FaultStore::new(MemStore::new(Vec::new(alloc)), 0, 0)
 }
 
-// The servers of so many data partitions, in order.
+// The server of a data partition, with an empty log.
+fn server(alloc: Global, number: usize) -> Result<PartitionMachine<LocalStore>, AllocError>
+    requires { number < data_partitions }
+    ensures { IfOk result (StandsFor (AtPartition number empty_partition)) }
+{
+    let Ok(id) = PartitionId::try_from(number as u16) else {
+        return Err(AllocError);
+    };
+    match PartitionMachine::new(alloc, id, empty_store(alloc)) {
+        Ok(server) => Ok(server),
+        Err(_) => Err(AllocError),
+    }
+}
+
+// The servers of so many data partitions, in the order of their numbers.
 fn servers(
     alloc: Global,
-    count: usize,
-) -> Result<Vec<PartitionMachine<LocalStore>>, AllocError> {
-    let mut servers = Vec::with_capacity(alloc, count)?;
-    for number in 0..count as u16 {
-        let Ok(number) = PartitionId::try_from(number) else {
-            return Err(AllocError);
-        };
-        let Ok(server) = PartitionMachine::new(alloc, number, empty_store(alloc)) else {
-            return Err(AllocError);
-        };
-        servers.push(server)?;
+    count: PartitionCount,
+) -> Result<Vec<PartitionMachine<LocalStore>>, AllocError>
+    ensures count { IfOk result (λ servers. length servers.items ≡ count) }
+    ensures each { IfOk result (λ servers. AreServers servers.items) }
+{
+    let mut servers = Vec::with_capacity(alloc, count.get())?;
+    for number in 0..count.get() {
+        servers.push(server(alloc, number)?)?;
     }
     Ok(servers)
+}
+
+// The coordinator, with an empty log.
+fn coordinator(alloc: Global) -> Result<CoordinatorMachine<LocalStore>, AllocError>
+    ensures { IfOk result (Stands (AtCoordinator new_coordinator)) }
+{
+    match CoordinatorMachine::new(alloc, empty_store(alloc)) {
+        Ok(coordinator) => Ok(coordinator),
+        Err(_) => Err(AllocError),
+    }
+}
+
+// The server of the offsets partition, with an empty log.
+fn offsets(alloc: Global) -> Result<OffsetsMachine<LocalStore>, AllocError>
+    ensures { IfOk result (StandsForGroups (AtPartition offsets_partition empty_partition)) }
+{
+    match OffsetsMachine::new(alloc, empty_store(alloc)) {
+        Ok(offsets) => Ok(offsets),
+        Err(_) => Err(AllocError),
+    }
 }
 
 impl World<CoordinatorMachine<LocalStore>, PartitionMachine<LocalStore>, OffsetsMachine<LocalStore>> {
@@ -78,13 +118,9 @@ impl World<CoordinatorMachine<LocalStore>, PartitionMachine<LocalStore>, Offsets
     pub fn new(alloc: Global, config: Config) -> Result<LocalWorld, AllocError>
         ensures { IfOk result (λ world. IsLocal world (start config.partitions)) }
     {
-        let Ok(coordinator) = CoordinatorMachine::new(alloc, empty_store(alloc)) else {
-            return Err(AllocError);
-        };
-        let partitions = servers(alloc, config.partitions.get())?;
-        let Ok(offsets) = OffsetsMachine::new(alloc, empty_store(alloc)) else {
-            return Err(AllocError);
-        };
+        let coordinator = coordinator(alloc)?;
+        let partitions = servers(alloc, config.partitions)?;
+        let offsets = offsets(alloc)?;
         Ok(World::of(alloc, coordinator, partitions, offsets))
     }
 

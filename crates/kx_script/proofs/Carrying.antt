@@ -20,15 +20,15 @@ use Rattle.kx_text.specs.Pages.{lost_text}
 
 -- a node took its step, which was printed, and its mark was taken back where its append failed
 pub happens_so : {N : Type 0} (Stands : World → N → Type 0) (s : Session) (what : Happening)
-    (world : N) (marks before : Marks) (done : Option (Node × Happened)) (place : Node)
-    (h : Happened) (first : ℕ) (old new : Option (List ℕ)) → done ≡ Some (place, h)
-    → Carried s what (λ v. Stands v world) (Ok done) → before ≡ s.marks
+    (world : N) (marks before : Marks) (carried : Option (Node × Happened)) (place : Node)
+    (h : Happened) (first : ℕ) (old new : Option (List ℕ)) → carried ≡ Some (place, h)
+    → Carried s what (λ v. Stands v world) (Ok carried) → before ≡ s.marks
     → marks ≡ marks_after before place h.failed → first ≡ length s.world.sent
     → ((w : World) → Stands w world → Appends old new
     (step_text h.note (messages_text first place (drop first w.sent))))
     → Performed (StandsIn Stands (Some (record { world = world; marks = marks }))) (Some s)
     (order.Happen what) old new (Ok true)
-happens_so Stands s what world marks before done place h first old new d k b m f a =
+happens_so Stands s what world marks before carried place h first old new d k b m f a =
     let c : CarriesOut s what (λ v. Stands v world) place h =
     subst (λ (o : Option (Node × Happened)). Carried s what (λ v. Stands v world) (Ok o)) d k in
     let after : World = (step s.world c.event).0 in
