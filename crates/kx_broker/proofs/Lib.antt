@@ -9,3 +9,8 @@ pub mod Opening
 pub mod Taking
 pub mod Building
 pub mod Messages
+pub mod OffsetsParked
+pub mod OffsetsLogs
+pub mod OffsetsMessages
+pub mod OffsetsTaking
+pub mod OffsetsOpening

@@ -88,7 +88,7 @@ asks closed v text old new answer (Breaks next h) e = absurd cc
 asks closed v text old new answer (IsAnswered given told same) e =
     (asks_by closed v (told ∙ ap Some e), same)
 
-asked_then : (closed : Bool) (v : Verdict) (text : List ℕ) (old new : LogState) (answer : Produced)
+pub asked_then : (closed : Bool) (v : Verdict) (text : List ℕ) (old new : LogState) (answer : Produced)
     → FollowsVerdict (unless_closed closed v) text old new answer → v ≡ Unverified
     → answer ≡ produced.Unverified
 asked_then closed v text old new answer (IsAppended offset next h) e =
@@ -155,20 +155,20 @@ not_not true false e = absurd cc
 not_not false true e = absurd cc
 not_not false false e = refl
 
-parked_not_full : (full : Bool) → asked.Parked ≡ cond full asked.Full asked.Parked → full ≡ false
+pub parked_not_full : (full : Bool) → asked.Parked ≡ cond full asked.Full asked.Parked → full ≡ false
 parked_not_full true e = absurd cc
 parked_not_full false e = refl
 
-full_is_full : (full : Bool) → asked.Full ≡ cond full asked.Full asked.Parked → full ≡ true
+pub full_is_full : (full : Bool) → asked.Full ≡ cond full asked.Full asked.Parked → full ≡ true
 full_is_full true e = refl
 full_is_full false e = absurd cc
 
-no_failure : (n : ℕ) (closed : Bool) → nat_lt n n ≡ (not closed && closed)
+pub no_failure : (n : ℕ) (closed : Bool) → nat_lt n n ≡ (not closed && closed)
 no_failure n true = grind (arith, nat_tests)
 no_failure n false = grind (arith, nat_tests)
 
 -- a code of the coordinator is passed on
-refused_all : (number : ℕ) (p : Partition) (store : Store) (held : Held) (c : ErrorCode)
+pub refused_all : (number : ℕ) (p : Partition) (store : Store) (held : Held) (c : ErrorCode)
     → (c ≡ code.NoError → ⊥) → on_add_reply number p store held c
     ≡ (record p { parked = without p.parked held }, map (passes_on c) (parked_for p.parked held))
 refused_all number p store held code.NoError other = absurd (other refl)

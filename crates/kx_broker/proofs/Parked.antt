@@ -31,7 +31,7 @@ is_for_held held p e =
     let epoch = eqb-true p.held.epoch held.epoch parts.1 in
     λ i. record { id = id i; epoch = epoch i }
 
-same_there : (a b : List Parked) → SameParked a b → (q : Parked) → Contains a q → Contains b q
+pub same_there : (a b : List Parked) → SameParked a b → (q : Parked) → Contains a q → Contains b q
 same_there a b same q c =
     let there = filter_keeps (is_for q.held) a q c (for_itself q) in
     (filter_holds (is_for q.held) b q

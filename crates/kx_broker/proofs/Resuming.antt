@@ -244,7 +244,7 @@ resumed_each requests old new answers (NoneLeft log) = refl
 resumed_each requests old new answers (OneMore q rest o b n a others one more) =
     omega (arith, resumed_each rest b n others more)
 
-told_more : (requests : List Parked) (answers : List Produced) (q : Parked) (a : Produced)
+pub told_more : (requests : List Parked) (answers : List Produced) (q : Parked) (a : Produced)
     → length answers ≡ length requests
     → told_each (requests ++ q ∷ []) (answers ++ a ∷ [])
     ≡ told_each requests answers ++ told q.request a ∷ []

@@ -10,7 +10,7 @@ ghost use Rattle.kx_model.specs.PartitionNode.{refused_produce};
 
 use crate::fetch::{fetch, refused_fetch};
 use crate::offsets::OffsetsMachine;
-use crate::parked::ParkedCommits;
+use crate::waiting::ParkedCommits;
 use crate::reply::only;
 use crate::restart::{Restarted, unread_after};
 use kx_log::Store;

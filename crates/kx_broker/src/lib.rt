@@ -11,12 +11,12 @@ mod machine;
 mod marker;
 mod member;
 mod offsets;
-mod parked;
 mod produce;
 mod put;
 mod reply;
 mod restart;
 mod resume;
+mod waiting;
 
 pub use machine::PartitionMachine;
 pub use offsets::OffsetsMachine;

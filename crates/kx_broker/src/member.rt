@@ -2,6 +2,8 @@
 ghost use Rattle.std.specs.Prelude.{◌≡◌, IfOk, OnErr};
 ghost use Rattle.kx_broker.specs.Offsets.{DropsMember, KeepsOffsets};
 ghost use Rattle.kx_broker.specs.Serving.{Serves};
+ghost use Rattle.kx_message.specs.Message.{IsU32};
+ghost use Rattle.kx_message.specs.Ranges.{IsName};
 ghost use Rattle.kx_message.specs.declared.message.Message.TheVariants as msg;
 ghost use Rattle.kx_model.specs.Groups.{judge_drop};
 ghost use Rattle.kx_model.specs.PartitionNode.{Partition, changed, entries_of, offsets_takes};
@@ -14,6 +16,15 @@ use kx_message::{
     ClientId, ErrorCode, GroupId, Join, Leave, LeaveReply, Message, OffsetFetch, OffsetFetchReply,
 };
 use std::alloc::AllocError;
+
+// A group's name and a member's number fit the fields of a record, as their types see to.
+fn member_fits(group: GroupId, member: ClientId)
+    ensures name { IsName group }
+    ensures number { IsU32 member }
+{
+    let _name = group.as_bytes();
+    let _number = member.get();
+}
 
 impl<S: Store> OffsetsMachine<S> {
     /// A client asks to join a group. Room for the reply is asked for first.
@@ -31,6 +42,7 @@ impl<S: Store> OffsetsMachine<S> {
         room.reserve(1)?;
         // Each batch stands in its place.
         let _end = self.groups.partition().end();
+        member_fits(it.group, it.caller.client);
         let reply = self.groups.join(it)?;
         Ok(only(room, Message::JoinReply(reply)))
     }
@@ -51,6 +63,7 @@ impl<S: Store> OffsetsMachine<S> {
         room.reserve(1)?;
         // Each batch stands in its place.
         let _end = self.groups.partition().end();
+        member_fits(group, caller.client);
         let code = self.groups.leave(group, caller.client)?;
         Ok(only(room, Message::LeaveReply(LeaveReply { caller, code })))
     }
@@ -72,6 +85,7 @@ impl<S: Store> OffsetsMachine<S> {
     {
         // Each batch stands in its place.
         let _end = self.groups.partition().end();
+        member_fits(group, member);
         self.groups.drop_member(group, member)
     }
 

@@ -11,7 +11,7 @@ ghost use Rattle.kx_model.specs.PartitionNode.{empty_partition, offsets_takes};
 ghost use Rattle.kx_model.specs.Step.{Comes};
 ghost use Rattle.kx_partition.specs.Opening.{RebuildFaults};
 
-use crate::parked::ParkedCommits;
+use crate::waiting::ParkedCommits;
 use crate::restart::Restarted;
 use kx_group::Groups;
 use kx_log::{FaultStore, OpenFault, Steady, Store};

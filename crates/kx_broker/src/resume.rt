@@ -20,6 +20,7 @@ use std::alloc::AllocError;
 fn tell(room: Vec<Message>, requests: &[Request], answers: &[Produced]) -> Vec<Message>
     requires space { length requests.now ≤ vec_capacity room }
     requires empty { room.items ≡ [] }
+    requires same { length answers.now ≡ length requests.now }
     ensures { result.items ≡ told_each requests.now answers.now }
 {
     let mut replies = room;

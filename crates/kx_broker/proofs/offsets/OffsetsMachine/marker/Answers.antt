@@ -1,0 +1,15 @@
+use Rattle.std.proofs.Common.{◌∙◌, sym}
+use Rattle.kx_broker.proofs.OffsetsMessages.{marker_other, marker_own}
+use Rattle.kx_group.proofs.Answers.{if_ok}
+use Rattle.kx_broker.proofs.offsets.OffsetsMachine.marker.Goals as goal
+
+pub returns-then-eq-clause-ok : goal.returns-then-eq-clause-ok
+returns-then-eq-clause-ok g c = λ p is.
+    if_ok c.mark.result (c.mark.ensures.ok p is)
+    (λ messages s. marker_own p c.args.self.now c.mark.new.self messages c.args.it.now
+    (sym c.eq.ensures ∙ c.if-eq.true) s)
+
+pub returns-else-eq-clause-ok : goal.returns-else-eq-clause-ok
+returns-else-eq-clause-ok g c = λ p is.
+    marker_other p c.args.self.now is c.none.result c.args.it.now
+    (sym c.eq.ensures ∙ c.if-eq.false) c.none.ensures

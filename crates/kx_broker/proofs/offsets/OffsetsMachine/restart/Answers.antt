@@ -1,0 +1,24 @@
+use Rattle.std.proofs.Common.{◌∙◌, ap, subst, sym}
+use Rattle.std.specs.Int.{w64}
+use Rattle.std.specs.Prelude.{MatchResult}
+use lib.Signed.{lt_z}
+use mir.Val.{of_z, to_z}
+use Rattle.kx_broker.specs.Offsets.{CommitsAt0, IsOffsetsLog, KeepsOffsets}
+use Rattle.kx_broker.specs.Serving.{Restarts, Serving}
+use Rattle.kx_broker.specs.declared.restart.Restarted.TheVariants as restarted
+use Rattle.kx_broker.proofs.Opening.{found_by, restarts}
+use Rattle.kx_broker.proofs.OffsetsOpening.{closed_by}
+use Rattle.kx_broker.proofs.Served.{restarts_seen, serving}
+use Rattle.kx_message.specs.Ranges.{offsets_partition}
+use Rattle.kx_broker.proofs.offsets.OffsetsMachine.restart.Goals as goal
+
+pub returns-in-Err : goal.returns-in-Err
+returns-in-Err g c = λ p is.
+    let inside = c.self.inside in
+    let old = serving offsets_partition inside.groups inside.parked in
+    let new = serving offsets_partition c.reload.new.self inside.parked in
+    let stands = subst (λ (o : Serving). KeepsOffsets p o) (sym c.self.view_is) is in
+    subst (λ (o : Serving). MatchResult c.unread_after.result
+    (Restarts KeepsOffsets p o new) (λ refused. KeepsOffsets p new)) c.self.view_is
+    (closed_by p old stands c.reload.new.self c.in-Err.fault c.unread_after.result
+    c.unread_after.ensures c.in-Err.ensures)
