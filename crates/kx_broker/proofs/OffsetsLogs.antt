@@ -9,11 +9,10 @@ use Rattle.kx_broker.proofs.Growing.{batch_grows, marker_grows}
 use Rattle.kx_group.specs.Calls.{IsChanged}
 use Rattle.kx_group.specs.Log.{IsGroupLog}
 use Rattle.kx_group.proofs.Committing.{begins_at}
-use Rattle.kx_group.proofs.Growing.{with_change, with_commit, with_marker}
+use Rattle.kx_group.proofs.Growing.{with_commit, with_marker}
 use Rattle.kx_laws.proofs.GrownLogs.{grown_by_batch, grown_by_marker}
 use Rattle.kx_log.specs.Log.{IsLog, texts}
 use Rattle.kx_log.specs.LogState.{LogState}
-use Rattle.kx_members.specs.Follows.{Makes}
 use Rattle.kx_message.specs.declared.code.ErrorCode.{ErrorCode}
 use Rattle.kx_message.specs.declared.code.ErrorCode.TheVariants as code
 use Rattle.kx_message.specs.declared.message.Held.{Held}
@@ -25,7 +24,7 @@ use Rattle.kx_model.specs.Log.{Entry, Marker, MarkerFits, Stored, entries}
 use Rattle.kx_model.specs.PartitionNode.{Partition, Taken, changed, entries_of, marked_with, refused}
 use Rattle.kx_model.specs.PartitionNode.{taken}
 use Rattle.kx_model.specs.Produce.{Next, Verdict, judge_marker, judge_text, text_of}
-use Rattle.kx_offsets.specs.Facts.{CommitFits, FactFits}
+use Rattle.kx_offsets.specs.Facts.{CommitFits}
 use Rattle.kx_partition.specs.Answer.{FollowsVerdict, IsMarked, code_of, marker_unless_closed}
 use Rattle.kx_partition.specs.Answer.{unless_closed}
 use Rattle.kx_partition.specs.declared.answer.Produced.{Produced}
@@ -52,20 +51,10 @@ commit_next log verified group held first offsets is fits next =
           (subst (λ z. CommitFits group held z offsets) at.1 fits));
     }
 
--- with a change of members that comes next
-pub change_next : (log : List Stored) (fact : Fact) → IsOffsetsLog log → FactFits fact
-    → Makes (entries log) fact → judge_text (entries log) true (membership_text fact) ≡ Next
-    → IsOffsetsLog (with_next (membership_text fact) log)
-change_next log fact is fits makes next = record {
-  grown = grown_by_batch log true (membership_text fact) is.grown next;
-  groups = with_change log fact is.groups fits makes;
-}
-
--- a change that is made fits its record
-pub record IsMade (log : List Entry) (fact : Fact) : Type 0 where
+-- a change that is made makes a log of groups
+pub record IsMade (log : List Stored) (fact : Fact) : Type 0 where
   pub bytes : IsBytes (membership_text fact)
-  pub fits : FactFits fact
-  pub makes : Makes log fact
+  pub groups : IsGroupLog (with_next (membership_text fact) log)
 
 module _ (p : Partition) (old : Serving) (is : KeepsOffsets p old) (known : IsKept old.log) where
   abbrev log_now : List Entry
@@ -92,7 +81,7 @@ module _ (p : Partition) (old : Serving) (is : KeepsOffsets p old) (known : IsKe
 
   ------ a change of members
 
-  pub change_comes : (m : Membership) → ((fact : Fact) → m ≡ Changes fact → IsMade log_now fact)
+  pub change_comes : (m : Membership) → ((fact : Fact) → m ≡ Changes fact → IsMade old.log.batches fact)
       → (log : LogState) (given : ErrorCode) → IsChanged m old.log log given
       → (offset : ℤ) × Comes IsOffsetsLog p old.log log (λ store. changed p store m) given offset
   change_comes Already made log given h = (
@@ -109,8 +98,10 @@ module _ (p : Partition) (old : Serving) (is : KeepsOffsets p old) (known : IsKe
       let text = membership_text fact in
       let is_made = made fact refl in
       let c = judged_comes (λ l. judge_text l true text) true text is_made.bytes (λ next. next)
-      (λ next. change_next old.log.batches fact known.fits is_made.fits is_made.makes next) log
-      h.answer h.produced in (
+      (λ next. record {
+        grown = grown_by_batch old.log.batches true text known.fits.grown next;
+        groups = is_made.groups;
+      }) log h.answer h.produced in (
         offset_of h.answer,
         subst (λ (e : ErrorCode). Comes IsOffsetsLog p old.log log
             (λ store. changed p store (Changes fact)) e (offset_of h.answer)) (sym h.code_is) c,
@@ -118,7 +109,7 @@ module _ (p : Partition) (old : Serving) (is : KeepsOffsets p old) (known : IsKe
 
   -- as the definitions judge it
   pub changed_comes : (judged : List Entry → Membership)
-      → ((fact : Fact) → judged log_now ≡ Changes fact → IsMade log_now fact)
+      → ((fact : Fact) → judged log_now ≡ Changes fact → IsMade old.log.batches fact)
       → (log : LogState) (given : ErrorCode) → IsChanged (judged log_now) old.log log given
       → (offset : ℤ) × Comes IsOffsetsLog p old.log log
       (λ store. changed p store (judged (entries_of p))) given offset

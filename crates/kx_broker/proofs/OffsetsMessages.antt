@@ -5,6 +5,7 @@ use Rattle.std.proofs.Common.{[], ◌∷◌, map, Option, Some, None, Result, Ok
 use Rattle.std.proofs.Common.{sym, ap, ◌∙◌, subst, arith}
 use Rattle.std.specs.Prelude.{min, ◌≤ℤ◌, ◌<ℤ◌}
 use Rattle.std.specs.List.{All}
+use Rattle.std.proofs.lemmas.Bool.Decides.{nat_tests}
 use Rattle.std.proofs.lemmas.Option.{same_Some}
 use Rattle.kx_batch.specs.Batch.{batch_limit, batch_of}
 use Rattle.kx_broker.specs.Offsets.{CommitsAt0, DropsMember, IsOffsetsLog, KeepsOffsets}
@@ -22,10 +23,11 @@ use Rattle.kx_broker.proofs.Served.{as_step, rests_with, served_parking, served_
 use Rattle.kx_broker.proofs.Served.{serving}
 use Rattle.kx_broker.proofs.Stores.{any_allowed}
 use Rattle.kx_group.specs.Calls.{IsChanged, IsCommitted, IsResumed, text_of}
+use Rattle.kx_group.specs.Log.{IsGroupLog}
 use Rattle.kx_group.proofs.Changing.{drops_only, joins_only, leaves_only}
+use Rattle.kx_group.proofs.Growing.{with_change}
 use Rattle.kx_group.proofs.Unverified.{begins_at_0}
 use Rattle.kx_log.specs.LogState.{LogState}
-use Rattle.kx_members.specs.Follows.{Makes}
 use Rattle.kx_message.specs.Message.{IsU32}
 use Rattle.kx_message.specs.Messages as the
 use Rattle.kx_message.specs.Ranges.{IsName, offsets_partition}
@@ -45,8 +47,8 @@ use Rattle.kx_message.specs.declared.requests.TxnOffsetCommit.{TxnOffsetCommit}
 use Rattle.kx_message.specs.declared.requests.WriteMarker.{WriteMarker}
 use Rattle.kx_model.specs.Disk.{Store}
 use Rattle.kx_model.specs.Groups.{Changes, Dropped, Fact, Joined, Left, OffsetAnswer, judge_drop}
-use Rattle.kx_model.specs.Groups.{judge_join, judge_leave, judge_offsets, offset_fetch}
-use Rattle.kx_model.specs.Groups.{offset_records, offsets_batch}
+use Rattle.kx_model.specs.Groups.{judge_join, judge_leave, judge_offsets, membership_text}
+use Rattle.kx_model.specs.Groups.{offset_fetch, offset_records, offsets_batch}
 use Rattle.kx_model.specs.Log.{Entry, Data, Marker, MarkerFits, Stored, entries, entry_in}
 use Rattle.kx_model.specs.PartitionNode.{Partition, Served, answers_request, changed, entries_of}
 use Rattle.kx_model.specs.PartitionNode.{fetch_reply, join_reply, marked_with, marker_of}
@@ -366,33 +368,36 @@ module _ (p : Partition) (old : Serving) (is : KeepsOffsets p old) (held : Held)
 
 ------ members
 
--- a change of a member fits its record
-made_by : (log : List Entry) (fact : Fact) → FactFits fact → Makes log fact → IsMade log fact
-made_by log fact fits makes = record {
-  bytes = (membership_built fact fits).bytes;
-  fits = fits;
-  makes = makes;
-}
+module _ (log : List Stored) (is : IsGroupLog log) (group : List ℕ) (member : ℕ)
+    (name : IsName group) (number : IsU32 member) where
+  -- a change of a member
+  made_by : (fact some : Fact) → fact ≡ some → FactFits some
+      → IsGroupLog (with_next (membership_text some) log) → IsMade log fact
+  made_by fact some e fits groups = subst (IsMade log) (sym e) (record {
+    bytes = (membership_built some fits).bytes;
+    groups = groups;
+  })
 
-module _ (log : List Entry) (group : List ℕ) (member : ℕ) (name : IsName group)
-    (number : IsU32 member) where
-  pub joins : (fact : Fact) → judge_join log group member ≡ Changes fact → IsMade log fact
+  pub joins : (fact : Fact) → judge_join (entries log) group member ≡ Changes fact
+      → IsMade log fact
   joins fact e =
-      let is = joins_only log group member fact e in
-      subst (IsMade log) (sym is) (made_by log (Joined group member) (name, number)
-      (e ∙ ap Changes is))
+      let only = joins_only (entries log) group member fact e in
+      made_by fact (Joined group member) only (name, number)
+      (with_change log (Joined group member) is (name, number) (e ∙ ap Changes only))
 
-  pub leaves : (fact : Fact) → judge_leave log group member ≡ Changes fact → IsMade log fact
+  pub leaves : (fact : Fact) → judge_leave (entries log) group member ≡ Changes fact
+      → IsMade log fact
   leaves fact e =
-      let is = leaves_only log group member fact e in
-      subst (IsMade log) (sym is) (made_by log (Left group member) (name, number)
-      (e ∙ ap Changes is))
+      let only = leaves_only (entries log) group member fact e in
+      made_by fact (Left group member) only (name, number)
+      (with_change log (Left group member) is (name, number) (e ∙ ap Changes only))
 
-  pub drops : (fact : Fact) → judge_drop log group member ≡ Changes fact → IsMade log fact
+  pub drops : (fact : Fact) → judge_drop (entries log) group member ≡ Changes fact
+      → IsMade log fact
   drops fact e =
-      let is = drops_only log group member fact e in
-      subst (IsMade log) (sym is) (made_by log (Dropped group member) (name, number)
-      (e ∙ ap Changes is))
+      let only = drops_only (entries log) group member fact e in
+      made_by fact (Dropped group member) only (name, number)
+      (with_change log (Dropped group member) is (name, number) (e ∙ ap Changes only))
 
 module _ (p : Partition) (old : Serving) (is : KeepsOffsets p old) (known : IsKept old.log)
     (group : List ℕ) (name : IsName group) where
@@ -404,7 +409,7 @@ module _ (p : Partition) (old : Serving) (is : KeepsOffsets p old) (known : IsKe
       (λ store. offsets_takes p store (the.Join caller group)) (m ∷ [])
   joined_as caller log given m number h is_it =
       let found = changed_comes p old is known (λ l. judge_join l group caller.client)
-      (joins (entries old.log.batches) group caller.client name number) log given h in
+      (joins old.log.batches known.fits.groups group caller.client name number) log given h in
       let c = found.1 in
       let t = changed p c.store (judge_join (entries_of p) group caller.client) in
       record {
@@ -425,7 +430,7 @@ module _ (p : Partition) (old : Serving) (is : KeepsOffsets p old) (known : IsKe
       (λ store. offsets_takes p store (the.Leave caller group)) (the.LeaveReply caller given ∷ [])
   left_as caller log given number h =
       let c = changed_comes p old is known (λ l. judge_leave l group caller.client)
-      (leaves (entries old.log.batches) group caller.client name number) log given h in
+      (leaves old.log.batches known.fits.groups group caller.client name number) log given h in
       serves_by IsOffsetsLog CommitsAt0 offsets_partition p old is log
       (λ store. changed p store (judge_leave (entries_of p) group caller.client)) given c.0 c.1
       (λ store. offsets_takes p store (the.Leave caller group))
@@ -437,7 +442,7 @@ module _ (p : Partition) (old : Serving) (is : KeepsOffsets p old) (known : IsKe
       (λ store. changed p store (judge_drop (entries_of p) group member)) given
   dropped_as member log given number h =
       let found = changed_comes p old is known (λ l. judge_drop l group member)
-      (drops (entries old.log.batches) group member name number) log given h in
+      (drops old.log.batches known.fits.groups group member name number) log given h in
       let c = found.1 in
       let t = changed p c.store (judge_drop (entries_of p) group member) in
       record {
@@ -540,11 +545,11 @@ module _ (p : Partition) (old : Serving) (is : KeepsOffsets p old) (messages : L
         ∙ ap (λ (m : List Message). (p, m)) (sym same))
 
     pub fetch_own : (it : Fetch) → (it.partition == offsets_partition) ≡ true
-        → it.partition ≡ offsets_partition
         → messages ≡ fetch_reply it.caller it.partition
         (fetched old.log.batches it.from (min it.max batch_limit) it.committed) ∷ []
         → Serves KeepsOffsets p old old (λ store. offsets_takes p store (msg.Fetch it)) messages
-    fetch_own it own here same =
+    fetch_own it own same =
+        let here : it.partition ≡ offsets_partition = grind (arith, nat_tests, own) in
         rest p old is (λ store. offsets_takes p store (msg.Fetch it)) messages
         (λ store. ap (λ b.
         cond b (on_fetch offsets_partition p it.caller it.from it.max it.committed)

@@ -2,6 +2,7 @@
 use Rattle.std.proofs.Common.{◌≡◌, ◌++◌, ℕ, pos, Bool, true, false, cond, List, [], ◌∷◌, Contains}
 use Rattle.std.proofs.Common.{refl, sym, ap, ◌∙◌, subst, not}
 use Rattle.std.specs.List.{All}
+use Rattle.std.specs.Prelude.{Err, MatchResult, Ok, Result}
 use Rattle.std.proofs.lemmas.List.Elements.{All-contains, All-filter, All-push}
 use Rattle.kx_batch.specs.Batch.{Batch, batch_of}
 use Rattle.kx_broker.specs.Offsets.{CommitsAt0, ParksCommit}
@@ -57,10 +58,21 @@ all_after p parked all commits =
     (All-push ParksCommit parked p all commits))
 
 -- with one more
-pub asked_all : (given parked : List Parked) (p : Parked) → SameParked given (after parked p)
+asked_all : (given parked : List Parked) (p : Parked) → SameParked given (after parked p)
     → All ParksCommit parked → CommitsAt0 p.request → All ParksCommit given
 asked_all given parked p same all commits =
     all_same given (after parked p) same (all_after p parked all commits)
+
+-- whatever came of it
+pub asked_by : {A E : Type 0} (r : Result A E) (given parked : List Parked) (p : Parked)
+    (Is : A → Type 0) (Faults : E → Type 0)
+    → MatchResult r (λ asked. Is asked × SameParked given (after parked p))
+    (λ refused. (given ≡ parked) × Faults refused)
+    → All ParksCommit parked → CommitsAt0 p.request → All ParksCommit given
+asked_by (Ok asked) given parked p Is Faults h all commits =
+    asked_all given parked p h.1 all commits
+asked_by (Err refused) given parked p Is Faults h all commits =
+    subst (λ (l : List Parked). All ParksCommit l) (sym h.0) all
 
 -- without those of an id and epoch
 pub forgotten_all : (given parked : List Parked) (held : Held)

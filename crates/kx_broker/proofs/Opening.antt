@@ -70,7 +70,7 @@ module _ (Fits : List Stored → Type 0) (disk : Disk Stored) (old : LogState)
       (ap (λ (s : StoreState). s.bytes) same ∙ bytes_are) is.placed is.fits
 
   -- the log as before, over a store that is cut to what was read
-  cut_disk : (new : LogState) → new.batches ≡ old.batches → new.closed ≡ old.closed
+  pub cut_disk : (new : LogState) → new.batches ≡ old.batches → new.closed ≡ old.closed
       → new.store ≡ store → IsDisk Fits disk new
   cut_disk new batches closed same =
       let read : log_in new.store.bytes ≡ record { batches = reread disk; tail = NoTail } =

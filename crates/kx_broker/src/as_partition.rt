@@ -10,9 +10,9 @@ ghost use Rattle.kx_model.specs.PartitionNode.{refused_produce};
 
 use crate::fetch::{fetch, refused_fetch};
 use crate::offsets::OffsetsMachine;
-use crate::waiting::ParkedCommits;
 use crate::reply::only;
 use crate::restart::{Restarted, unread_after};
+use crate::waiting::ParkedCommits;
 use kx_log::Store;
 use kx_machine::Messages;
 use kx_message::{
@@ -61,12 +61,13 @@ impl<S: Store> OffsetsMachine<S> {
             → IfOk result (Serves KeepsOffsets p self.now self.now
             (λ store. offsets_takes p store (msg.Fetch it.now))) }
     {
-        let reply = if it.partition == PartitionId::OFFSETS {
-            fetch(self.alloc, self.groups.partition(), it)?
+        if it.partition == PartitionId::OFFSETS {
+            let page = fetch(self.alloc, self.groups.partition(), it)?;
+            Messages::one(self.alloc, page)
         } else {
-            refused_fetch(self.alloc, it, ErrorCode::UnknownTopicOrPartition)
-        };
-        Messages::one(self.alloc, reply)
+            let refusal = refused_fetch(self.alloc, it, ErrorCode::UnknownTopicOrPartition);
+            Messages::one(self.alloc, refusal)
+        }
     }
 
     // A marker for this partition comes. Room for the reply is asked for first.

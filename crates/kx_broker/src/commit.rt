@@ -1,5 +1,5 @@
 //! Commits of offsets that come.
-ghost use Rattle.std.specs.Prelude.{◌≡◌, ◌<◌, [], IfOk, OnErr, vec_capacity, vec_len};
+ghost use Rattle.std.specs.Prelude.{◌≡◌, ◌<◌, [], false, IfOk, OnErr, vec_capacity, vec_len};
 ghost use Rattle.kx_broker.specs.Offsets.{KeepsOffsets};
 ghost use Rattle.kx_broker.specs.Serving.{Serves};
 ghost use Rattle.kx_group.specs.Calls.{text_of};

@@ -11,8 +11,8 @@ ghost use Rattle.kx_model.specs.PartitionNode.{empty_partition, offsets_takes};
 ghost use Rattle.kx_model.specs.Step.{Comes};
 ghost use Rattle.kx_partition.specs.Opening.{RebuildFaults};
 
-use crate::waiting::ParkedCommits;
 use crate::restart::Restarted;
+use crate::waiting::ParkedCommits;
 use kx_group::Groups;
 use kx_log::{FaultStore, OpenFault, Steady, Store};
 use kx_machine::{Closing, Failing, Input, Machine, Messages, Note, StoreMode, Taken};

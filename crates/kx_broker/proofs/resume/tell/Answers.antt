@@ -4,7 +4,7 @@ use Rattle.std.specs.Int.RustNames.{FitsSigned}
 use Rattle.std.proofs.lemmas.Int.{to_z-of_z}
 use Rattle.std.proofs.lemmas.List.{length_push, length-take-le, take_all, take_more}
 use Rattle.std.proofs.lemmas.Slice.Zip.{zip_end, zip_turn}
-use Rattle.kx_broker.specs.Serving.{told_each}
+use Rattle.kx_broker.specs.Serving.{told, told_each}
 use Rattle.kx_broker.proofs.Resuming.{told_more}
 use Rattle.kx_message.specs.declared.message.Message.{Message}
 use Rattle.kx_model.specs.Verification.{Parked, reply_to}
@@ -40,8 +40,9 @@ loop-request-preserved c =
     let fits : FitsSigned w64 c.offset_of.result = search rules in
     let offset = to_z-of_z w64 c.offset_of.result fits ∙ c.offset_of.ensures in
     let longer = length_push l.yielded (c.in-Some.request, c.in-Some.answer) in
+    let m = told q.request a in
     let pushed = c.push_reserved.ensures.items
-    ∙ ap (λ (m : Message). l.replies.items ++ m ∷ []) (c.reply_to.ensures
+    ∙ ap (λ (r : Message). l.replies.items ++ r ∷ []) (c.reply_to.ensures
     ∙ λ i. reply_to q.request (c.code.ensures i) (offset i)) in
     let first = length-take-le n c.args.requests.now (omega (arith, t.0)) in
     let second = length-take-le n c.args.answers.now (omega (arith, t.1)) in
@@ -53,10 +54,10 @@ loop-request-preserved c =
     ((take_more c.args.answers.now n a t.1
     ∙ ap (λ (p : Produced). take n c.args.answers.now ++ p ∷ []) (sym (t.3 a))) i) in
     record {
-      many = ap length pushed ∙ length_push l.replies.items _
+      many = ap length pushed ∙ length_push l.replies.items m
           ∙ ap (λ n. n + 1) l.invariant.many ∙ sym longer;
       replies = pushed
-          ∙ ap (λ (r : List Message). r ++ reply_to q.request _ _ ∷ []) l.invariant.replies
+          ∙ ap (λ (r : List Message). r ++ m ∷ []) l.invariant.replies
           ∙ sym (told_more (take n c.args.requests.now) (take n c.args.answers.now) q a
           (second ∙ sym first))
           ∙ sym both

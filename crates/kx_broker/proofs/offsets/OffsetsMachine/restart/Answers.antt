@@ -22,3 +22,13 @@ returns-in-Err g c = λ p is.
     (Restarts KeepsOffsets p o new) (λ refused. KeepsOffsets p new)) c.self.view_is
     (closed_by p old stands c.reload.new.self c.in-Err.fault c.unread_after.result
     c.unread_after.ensures c.in-Err.ensures)
+
+pub returns-in-Ok : goal.returns-in-Ok
+returns-in-Ok g c = λ p is.
+    let inside = c.self.inside in
+    let old = serving offsets_partition inside.groups inside.parked in
+    let new = serving offsets_partition c.install-before.new.self c.new.result in
+    let content = c.in-Ok.content in
+    let longer = lt_z (to_z w64 (of_z w64 c.end-before.result)) (to_z w64 (of_z w64 c.end.result)) in
+    restarts_seen KeepsOffsets p old c.args.self.now new (restarted.Read longer)
+    c.self.view_is ? is
