@@ -1,7 +1,7 @@
 -- What groups append makes a log that the server of the offsets partition grows.
-use Rattle.std.proofs.Common.{◌≡◌, ℕ, ℤ, pos, negsuc, Bool, true, false, List, [], ◌∷◌, ◌++◌}
+use Rattle.std.proofs.Common.{◌≡◌, ℕ, ℤ, negsuc, Bool, true, false, List}
 use Rattle.std.proofs.Common.{refl, sym, ap, ◌∙◌, subst}
-use Rattle.kx_broker.specs.Offsets.{IsOffsetsLog, KeepsOffsets}
+use Rattle.kx_broker.specs.Offsets.{IsKept, IsOffsetsLog, KeepsOffsets}
 use Rattle.kx_broker.specs.Serving.{Serving, offset_of}
 use Rattle.kx_broker.proofs.Appending.{Comes, marker_comes, stays, verdict_comes}
 use Rattle.kx_broker.proofs.Disks.{Grows, with_next}
@@ -10,18 +10,17 @@ use Rattle.kx_group.specs.Calls.{IsChanged}
 use Rattle.kx_group.specs.Log.{IsGroupLog}
 use Rattle.kx_group.proofs.Committing.{begins_at}
 use Rattle.kx_group.proofs.Growing.{with_commit, with_marker}
+use Rattle.kx_laws.specs.Grown.{IsGrown}
 use Rattle.kx_laws.proofs.GrownLogs.{grown_by_batch, grown_by_marker}
 use Rattle.kx_log.specs.Log.{IsLog, texts}
 use Rattle.kx_log.specs.LogState.{LogState}
 use Rattle.kx_message.specs.declared.code.ErrorCode.{ErrorCode}
-use Rattle.kx_message.specs.declared.code.ErrorCode.TheVariants as code
 use Rattle.kx_message.specs.declared.message.Held.{Held}
 use Rattle.kx_message.specs.declared.payload.PartitionOffset.{PartitionOffset}
-use Rattle.kx_model.specs.Disk.{Store}
 use Rattle.kx_model.specs.Groups.{Already, Changes, Fact, Membership, Refuses}
 use Rattle.kx_model.specs.Groups.{membership_text, offsets_batch}
 use Rattle.kx_model.specs.Log.{Entry, Marker, MarkerFits, Stored, entries}
-use Rattle.kx_model.specs.PartitionNode.{Partition, Taken, changed, entries_of, marked_with, refused}
+use Rattle.kx_model.specs.PartitionNode.{Partition, changed, entries_of, marked_with}
 use Rattle.kx_model.specs.PartitionNode.{taken}
 use Rattle.kx_model.specs.Produce.{Next, Verdict, judge_marker, judge_text, text_of}
 use Rattle.kx_offsets.specs.Facts.{CommitFits}
@@ -30,11 +29,17 @@ use Rattle.kx_partition.specs.Answer.{unless_closed}
 use Rattle.kx_partition.specs.declared.answer.Produced.{Produced}
 use Rattle.kx_varint.specs.Text.{IsBytes}
 
--- what is known of the log that groups have
-pub record IsKept (log : LogState) : Type 0 where
-  pub placed : IsLog log.batches
-  pub fits : IsOffsetsLog log.batches
-  pub holds : log.closed ≡ false → log.store.bytes ≡ texts log.batches
+-- what is known of the log of a partition that is lent
+pub known_of : (given log : LogState) → given ≡ log → IsLog given.batches → IsGrown given.batches
+    → IsGroupLog log.batches → (given.closed ≡ false → given.store.bytes ≡ texts given.batches)
+    → IsKept log
+known_of given log same placed grown groups holds =
+    let here = subst (λ (l : LogState). IsGroupLog l.batches) (sym same) groups in
+    subst IsKept same (record {
+      placed = placed;
+      fits = record { grown = grown; groups = here };
+      holds = holds;
+    })
 
 -- with a commit of offsets that comes next
 pub commit_next : (log : List Stored) (verified : Bool) (group : List ℕ) (held : Held) (first : ℤ)

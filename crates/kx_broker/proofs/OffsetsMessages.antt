@@ -1,20 +1,21 @@
 -- What the server of the offsets partition does with each message that comes, in the words of the
 -- definitions.
-use Rattle.std.proofs.Common.{◌≡◌, ◌≤◌, ◌==◌, ℕ, ℤ, pos, negsuc, Bool, true, false, cond, List}
-use Rattle.std.proofs.Common.{[], ◌∷◌, map, Option, Some, None, Result, Ok, Err, refl}
+use Rattle.std.proofs.Common.{◌≡◌, ◌==◌, ℕ, ℤ, pos, negsuc, Bool, true, false, cond, List}
+use Rattle.std.proofs.Common.{[], ◌∷◌, map, Option, Some, None, Err, refl}
 use Rattle.std.proofs.Common.{sym, ap, ◌∙◌, subst, arith}
 use Rattle.std.specs.Prelude.{min, ◌≤ℤ◌, ◌<ℤ◌}
 use Rattle.std.specs.List.{All}
 use Rattle.std.proofs.lemmas.Bool.Decides.{nat_tests}
+use Rattle.std.proofs.lemmas.Int.{ints}
 use Rattle.std.proofs.lemmas.Option.{same_Some}
 use Rattle.kx_batch.specs.Batch.{batch_limit, batch_of}
-use Rattle.kx_broker.specs.Offsets.{CommitsAt0, DropsMember, IsOffsetsLog, KeepsOffsets}
+use Rattle.kx_broker.specs.Offsets.{CommitsAt0, DropsMember, IsKept, IsOffsetsLog}
+use Rattle.kx_broker.specs.Offsets.{KeepsOffsets}
 use Rattle.kx_broker.specs.Serving.{BeginsBy, Serves, Serving, Waits, closes, offset_of, told_each}
-use Rattle.kx_broker.proofs.Appending.{Comes}
 use Rattle.kx_broker.proofs.Disks.{with_next}
 use Rattle.kx_broker.proofs.Messages.{asked_then, full_is_full, no_failure, parked_not_full}
 use Rattle.kx_broker.proofs.Messages.{refused_all}
-use Rattle.kx_broker.proofs.OffsetsLogs.{IsKept, IsMade, changed_comes, commit_next, judged_comes}
+use Rattle.kx_broker.proofs.OffsetsLogs.{IsMade, changed_comes, commit_next, judged_comes}
 use Rattle.kx_broker.proofs.OffsetsLogs.{marks_comes}
 use Rattle.kx_broker.proofs.Parked.{each_after, each_for, each_without, same_after, same_then}
 use Rattle.kx_broker.proofs.Parked.{same_full, same_without}
@@ -56,10 +57,10 @@ use Rattle.kx_model.specs.PartitionNode.{offsets_takes, on_add_reply, on_fetch, 
 use Rattle.kx_model.specs.PartitionNode.{refused_produce, resumes, taken}
 use Rattle.kx_model.specs.Page.{fetched}
 use Rattle.kx_model.specs.Produce.{Next, Unverified, Verdict, judge_marker, judge_text}
-use Rattle.kx_model.specs.Verification.{Parked, Request, ToGroup, is_full, judge_request, pair_in}
+use Rattle.kx_model.specs.Verification.{Parked, Request, ToGroup, is_full, pair_in}
 use Rattle.kx_model.specs.Verification.{pair_of, parked_for, passed_on, reply_to, without}
 use Rattle.kx_offsets.specs.Facts.{CommitFits, FactFits}
-use Rattle.kx_offsets.proofs.Commits.{commit_below, commit_built, commit_entry, commit_pair}
+use Rattle.kx_offsets.proofs.Commits.{commit_below, commit_built, commit_entry}
 use Rattle.kx_offsets.proofs.Memberships.{membership_built}
 use Rattle.kx_partition.specs.Answer.{IsMarked, code_of}
 use Rattle.kx_partition.specs.declared.answer.Produced.{Produced}
@@ -84,10 +85,10 @@ module _ (p : Partition) (old : Serving) (is : KeepsOffsets p old) where
 
 from_0 : (z : ℤ) → pos 0 ≤ℤ z → (n : ℕ) × (z ≡ pos n)
 from_0 (pos n) h = (n, refl)
-from_0 (negsuc n) h = absurd h
+from_0 (negsuc n) h = absurd (omega (arith, ints, h))
 
 below_0 : (z : ℤ) → z <ℤ pos 0 → (n : ℕ) × (z ≡ negsuc n)
-below_0 (pos n) h = absurd (omega (arith, h))
+below_0 (pos n) h = absurd (omega (arith, ints, h))
 below_0 (negsuc n) h = (n, refl)
 
 abbrev request_for : TxnOffsetCommit → Request
@@ -105,7 +106,7 @@ abbrev Fits : TxnOffsetCommit → Type 0
 Fits it = CommitFits it.group it.held it.first_sequence it.offsets
 
 -- what isn't verified begins at sequence 0
-pub commits_at_0 : (log : List Stored) (it : TxnOffsetCommit) (r : Parked) → IsOffsetsLog log
+commits_at_0 : (log : List Stored) (it : TxnOffsetCommit) (r : Parked) → IsOffsetsLog log
     → Fits it → judged_for it (entries log) ≡ Unverified → IsParked (msg.TxnOffsetCommit it) r
     → pos 0 ≤ℤ it.first_sequence → CommitsAt0 r.request
 commits_at_0 log it r is fits asks parked above =
@@ -126,6 +127,15 @@ commits_at_0 log it r is fits asks parked above =
       text = ap (λ z. offsets_batch it.group it.held z it.offsets) first;
       fits = subst (λ z. CommitFits it.group it.held z it.offsets) first fits;
     })
+
+-- a copy of it, which is to be parked
+pub parked_at_0 : (log : List Stored) (it copy : TxnOffsetCommit) (r : Parked) → IsOffsetsLog log
+    → Fits it → judged_for it (entries log) ≡ Unverified → copy ≡ it
+    → IsParked (msg.TxnOffsetCommit copy) r → pos 0 ≤ℤ copy.first_sequence → CommitsAt0 r.request
+parked_at_0 log it copy r is fits asks same parked above =
+    commits_at_0 log it r is fits asks
+    (subst (λ (q : TxnOffsetCommit). IsParked (msg.TxnOffsetCommit q) r) same parked)
+    (subst (λ (q : TxnOffsetCommit). pos 0 ≤ℤ q.first_sequence) same above)
 
 -- it begins no later than the next one of its id and epoch
 begins_by : (log : List Entry) (r : Parked) → CommitsAt0 r.request

@@ -5,7 +5,7 @@ use Rattle.std.specs.Prelude.{◌≢◌, Result, Ok, Err, MatchResult}
 use Rattle.std.specs.declared.alloc.AllocError.{AllocError}
 use Rattle.std.proofs.lemmas.List.Elements.{All-nil}
 use Rattle.kx_broker.specs.Offsets.{CommitsAt0, IsOffsetsLog, KeepsOffsets, OpensOffsets}
-use Rattle.kx_broker.specs.Serving.{IsDisk, Restarts, Serving, Waits}
+use Rattle.kx_broker.specs.Serving.{Restarts, Serving, Waits}
 use Rattle.kx_broker.specs.declared.restart.Restarted.{Restarted}
 use Rattle.kx_broker.specs.declared.restart.Restarted.TheVariants as restarted
 use Rattle.kx_broker.proofs.Disks.{plain_disk}
@@ -23,7 +23,6 @@ use Rattle.kx_log.specs.Store.{StoreState}
 use Rattle.kx_log.specs.declared.fault.OpenFault.{OpenFault}
 use Rattle.kx_log.specs.declared.fault.OpenFault.TheVariants as fault
 use Rattle.kx_message.specs.Ranges.{offsets_partition}
-use Rattle.kx_model.specs.Log.{Stored}
 use Rattle.kx_model.specs.PartitionNode.{Partition, empty_partition}
 use Rattle.kx_model.specs.Verification.{Parked, parked_for}
 

@@ -1,6 +1,6 @@
 -- The commits of offsets that are parked: those of one id and epoch are alike.
-use Rattle.std.proofs.Common.{◌≡◌, ◌++◌, ℕ, pos, Bool, true, false, cond, List, [], ◌∷◌, Contains}
-use Rattle.std.proofs.Common.{refl, sym, ap, ◌∙◌, subst, not}
+use Rattle.std.proofs.Common.{◌≡◌, ◌++◌, pos, Bool, true, false, cond, List, [], ◌∷◌}
+use Rattle.std.proofs.Common.{sym, ap, ◌∙◌, subst, not}
 use Rattle.std.specs.List.{All}
 use Rattle.std.specs.Prelude.{Err, MatchResult, Ok, Result}
 use Rattle.std.proofs.lemmas.List.Elements.{All-contains, All-filter, All-push}

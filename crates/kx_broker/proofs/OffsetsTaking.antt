@@ -1,5 +1,5 @@
 -- A step of the server of the offsets partition as one that a machine makes.
-use Rattle.std.proofs.Common.{◌≡◌, ◌⊎◌, inl, inr, ℕ, Bool, true, false, List, [], ◌∷◌}
+use Rattle.std.proofs.Common.{◌≡◌, ◌⊎◌, inl, inr, ℕ, Bool, true, false, List, []}
 use Rattle.std.proofs.Common.{refl, sym, ap}
 use Rattle.std.proofs.Common.{◌∙◌, subst}
 use Rattle.std.specs.Prelude.{not, ◌&&◌}

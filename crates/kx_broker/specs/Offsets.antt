@@ -1,9 +1,10 @@
 -- The running server of the offsets partition, and the node of the definitions for which it stands.
-use Rattle.std.specs.Prelude.{◌≡◌, ℕ, ℤ, pos, List}
+use Rattle.std.specs.Prelude.{◌≡◌, ℕ, ℤ, pos, List, false}
 use Rattle.kx_broker.specs.Serving.{IsServedBy, Serving, Steps, closes, has_failed}
 use Rattle.kx_group.specs.Log.{IsGroupLog}
 use Rattle.kx_group.specs.Opening.{ReadFaults}
 use Rattle.kx_laws.specs.Grown.{IsGrown}
+use Rattle.kx_log.specs.Log.{IsLog, texts}
 use Rattle.kx_log.specs.declared.fault.OpenFault.{OpenFault}
 use Rattle.kx_log.specs.LogState.{LogState}
 use Rattle.kx_log.specs.Store.{StoreState}
@@ -26,6 +27,12 @@ use Rattle.kx_partition.specs.Opening.{Rebuilds}
 pub record IsOffsetsLog (log : List Stored) : Type 0 where
   pub grown : IsGrown log
   pub groups : IsGroupLog log
+
+-- what is known of the log that groups have
+pub record IsKept (log : LogState) : Type 0 where
+  pub placed : IsLog log.batches
+  pub fits : IsOffsetsLog log.batches
+  pub holds : log.closed ≡ false → log.store.bytes ≡ texts log.batches
 
 -- opened on a store
 pub record OpensOffsets (store : StoreState) (log : LogState) : Type 0 where

@@ -9,7 +9,7 @@ ghost use Rattle.kx_model.specs.PartitionNode.{Partition, marker_of, offsets_tak
 ghost use Rattle.kx_model.specs.PartitionNode.{refused_produce};
 
 use crate::fetch::{fetch, refused_fetch};
-use crate::offsets::OffsetsMachine;
+use crate::offsets::{OffsetsMachine, end_of};
 use crate::reply::only;
 use crate::restart::{Restarted, unread_after};
 use crate::waiting::ParkedCommits;
@@ -84,7 +84,7 @@ impl<S: Store> OffsetsMachine<S> {
         let mut room = Vec::new(self.alloc);
         room.reserve(1)?;
         // Each batch stands in its place.
-        let _end = self.groups.partition().end();
+        let _end = end_of(&self.groups);
         let code = self.groups.marker(held, it.coordinator_epoch, it.outcome)?;
         let message = Message::MarkerReply(MarkerReply {
             partition: PartitionId::OFFSETS,
@@ -124,11 +124,11 @@ impl<S: Store> OffsetsMachine<S> {
             → MatchResult result (Restarts KeepsOffsets p self.old self.new)
             (λ refused. KeepsOffsets p self.new) }
     {
-        let before = self.groups.partition().end();
+        let before = end_of(&self.groups);
         match self.groups.reload() {
             Ok(content) => {
                 let _before = self.groups.install(content);
-                let found = before < self.groups.partition().end();
+                let found = before < end_of(&self.groups);
                 self.parked = ParkedCommits::new(self.alloc);
                 Ok(Restarted::Read { found })
             }

@@ -11,7 +11,7 @@ ghost use Rattle.kx_model.specs.Log.{entries};
 ghost use Rattle.kx_model.specs.PartitionNode.{Partition, offsets_takes};
 ghost use Rattle.kx_model.specs.Produce.{Unverified};
 
-use crate::offsets::OffsetsMachine;
+use crate::offsets::{OffsetsMachine, end_of};
 use crate::reply::only;
 use kx_log::Store;
 use kx_machine::Messages;
@@ -47,8 +47,7 @@ impl<S: Store> OffsetsMachine<S> {
         // What it holds fits its fields, each batch of the log was the one to come next, and one
         // of groups: so the commit begins at sequence 0.
         commits_fit(it);
-        let partition = self.groups.partition();
-        let _end = partition.end();
+        let _end = end_of(&self.groups);
         let Ok(request) = Request::of_offsets(it.clone()?) else {
             return Ok(only(room, reply(it, ErrorCode::InvalidTxnState)));
         };
@@ -79,7 +78,7 @@ impl<S: Store> OffsetsMachine<S> {
         let mut room = Vec::new(self.alloc);
         room.reserve(1)?;
         // Each batch stands in its place, and what the commit holds fits its fields.
-        let _end = self.groups.partition().end();
+        let _end = end_of(&self.groups);
         commits_fit(it);
         let answer = self.groups.txn_offset_commit(it, false)?;
         if let Produced::Unverified = answer {

@@ -1,6 +1,7 @@
-//! The server of one partition as a machine: its log on its store, and the requests that it has
-//! parked. What it does with each input is what the definitions say that the node of a partition
-//! does, and it stands for such a node before each step and after it (KIP-98, KIP-890).
+//! The servers of partitions as machines, of a data partition and of the offsets partition: the
+//! partition's log on its store, and the requests that it has parked. What a server does with each
+//! input is what the definitions say that the node of a partition does, and it stands for such a
+//! node before each step and after it (KIP-98, KIP-447, KIP-890).
 #![tactic(auto)]
 
 mod add_reply;

@@ -8,7 +8,7 @@ ghost use Rattle.kx_message.specs.declared.message.Message.TheVariants as msg;
 ghost use Rattle.kx_model.specs.Groups.{judge_drop};
 ghost use Rattle.kx_model.specs.PartitionNode.{Partition, changed, entries_of, offsets_takes};
 
-use crate::offsets::OffsetsMachine;
+use crate::offsets::{OffsetsMachine, end_of};
 use crate::reply::only;
 use kx_log::Store;
 use kx_machine::Messages;
@@ -41,7 +41,7 @@ impl<S: Store> OffsetsMachine<S> {
         let mut room = Vec::new(self.alloc);
         room.reserve(1)?;
         // Each batch stands in its place.
-        let _end = self.groups.partition().end();
+        let _end = end_of(&self.groups);
         member_fits(it.group, it.caller.client);
         let reply = self.groups.join(it)?;
         Ok(only(room, Message::JoinReply(reply)))
@@ -62,7 +62,7 @@ impl<S: Store> OffsetsMachine<S> {
         let mut room = Vec::new(self.alloc);
         room.reserve(1)?;
         // Each batch stands in its place.
-        let _end = self.groups.partition().end();
+        let _end = end_of(&self.groups);
         member_fits(group, caller.client);
         let code = self.groups.leave(group, caller.client)?;
         Ok(only(room, Message::LeaveReply(LeaveReply { caller, code })))
@@ -84,7 +84,7 @@ impl<S: Store> OffsetsMachine<S> {
         ensures err { OnErr result (self.new ≡ self.old) }
     {
         // Each batch stands in its place.
-        let _end = self.groups.partition().end();
+        let _end = end_of(&self.groups);
         member_fits(group, member);
         self.groups.drop_member(group, member)
     }

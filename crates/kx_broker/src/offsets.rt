@@ -1,11 +1,12 @@
 //! The server of the offsets partition.
-ghost use Rattle.std.specs.Prelude.{◌≡◌, [], IfOk, MatchResult, OnErr};
-ghost use Rattle.kx_broker.specs.Offsets.{HasOtherLog, KeepsOffsets, OpensOffsets};
+ghost use Rattle.std.specs.Prelude.{◌≡◌, [], pos, IfOk, MatchResult, OnErr};
+ghost use Rattle.kx_broker.specs.Offsets.{HasOtherLog, IsKept, KeepsOffsets, OpensOffsets};
 ghost use Rattle.kx_broker.specs.Offsets.{StandsForGroups};
 ghost use Rattle.kx_broker.specs.Serving.{MayDo, Serves};
 ghost use Rattle.kx_log.specs.Store.{StoreState};
 ghost use Rattle.kx_machine.specs.Meaning.{IsTaken, NodeState, input_of};
 ghost use Rattle.kx_message.specs.Ranges.{offsets_partition};
+ghost use Rattle.kx_model.specs.Log.{end, entries};
 ghost use Rattle.kx_model.specs.PartitionNode as node;
 ghost use Rattle.kx_model.specs.PartitionNode.{empty_partition, offsets_takes};
 ghost use Rattle.kx_model.specs.Step.{Comes};
@@ -38,6 +39,15 @@ impl<S: Store> Model for OffsetsMachine<S> {
     ghost Value = { Serving };
 
     ghost view = { λ m. record { number = offsets_partition; log = m.groups; parked = m.parked } };
+}
+
+/// The end of the groups' log, the offset of the next record to be appended.
+pub(crate) fn end_of<S: Store>(groups: &Groups<S>) -> i64
+    ensures value { result ≡ pos (end (entries groups.now.batches)) }
+    // Each batch stands in its place, was the one to come next, and one that groups append.
+    ensures kept { IsKept groups.now }
+{
+    groups.partition().end()
 }
 
 impl<S: Store> OffsetsMachine<S> {

@@ -7,7 +7,7 @@ ghost use Rattle.kx_message.specs.declared.code.ErrorCode.TheVariants.{NoError};
 ghost use Rattle.kx_message.specs.declared.message.Message.TheVariants as msg;
 ghost use Rattle.kx_model.specs.PartitionNode.{Partition, offsets_takes, on_add_reply};
 
-use crate::offsets::OffsetsMachine;
+use crate::offsets::{OffsetsMachine, end_of};
 use crate::reply::{offset_of, pass_on, reply_to};
 use kx_log::Store;
 use kx_machine::Messages;
@@ -39,7 +39,7 @@ impl<S: Store> OffsetsMachine<S> {
         ensures err { OnErr result (self.new ≡ self.old) }
     {
         // Each batch stands in its place.
-        let _end = self.groups.partition().end();
+        let _end = end_of(&self.groups);
         let requests = self.parked.of_held(*held);
         let room = Vec::with_capacity(self.alloc, requests.len())?;
         let answers = self.groups.resume(requests)?;

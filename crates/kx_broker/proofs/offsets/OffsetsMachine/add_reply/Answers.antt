@@ -1,4 +1,4 @@
-use Rattle.std.proofs.Common.{◌≡◌, ◌∙◌, ap, subst, sym, rules, false, true}
+use Rattle.std.proofs.Common.{◌≡◌, ◌∙◌, subst, sym, rules, false, true}
 use denote.Enum.Bare.{same_true}
 use Rattle.kx_broker.specs.Offsets.{KeepsOffsets}
 use Rattle.kx_broker.specs.Serving.{Serves}

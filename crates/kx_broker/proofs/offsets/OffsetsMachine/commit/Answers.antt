@@ -1,9 +1,8 @@
-use Rattle.std.proofs.Common.{◌≡◌, ◌∙◌, ◌∷◌, [], ap, subst, sym}
+use Rattle.std.proofs.Common.{◌∙◌, ◌∷◌, [], ap, subst, sym, false}
 use Rattle.std.specs.Prelude.{IfOk}
 use Rattle.kx_broker.specs.Offsets.{KeepsOffsets}
 use Rattle.kx_broker.specs.Serving.{Serves, Serving}
 use Rattle.kx_broker.proofs.Messages.{asks}
-use Rattle.kx_broker.proofs.OffsetsLogs.{IsKept}
 use Rattle.kx_broker.proofs.OffsetsMessages.{commit_answered}
 use Rattle.kx_broker.proofs.Served.{as_seen, serving}
 use Rattle.kx_group.proofs.Answers.{on_err}
@@ -63,16 +62,11 @@ returns g c = record {
       let answer = c.in_ok-answer.answer in
       let old = serving offsets_partition inside.groups inside.parked in
       let new = serving offsets_partition c.txn_offset_commit.new.self inside.parked in
-      let known : IsKept inside.groups = record {
-        placed = c.end-end.ensures.log;
-        fits = record { grown = c.end-end.ensures.grown; groups = c.partition.ensures.groups };
-        holds = c.end-end.ensures.store;
-      } in
       let reply = c.reply.ensures ∙ ap (the.OffsetsReply it.caller) c.code.ensures in
       as_seen KeepsOffsets p old c.args.self.now new
       (λ store. offsets_takes p store (msg.TxnOffsetCommit it)) _ c.only.result
       c.self.view_is (c.only.ensures ∙ ap (λ (m : Message). m ∷ []) reply)
-      (λ stands. commit_answered p old stands it known c.commits_fit.ensures
+      (λ stands. commit_answered p old stands it c.end_of-end.ensures.kept c.commits_fit.ensures
       c.txn_offset_commit.new.self answer c.in_ok-answer.ensures.answer
       c.in_default.not-Unverified) is;
   err = tt;

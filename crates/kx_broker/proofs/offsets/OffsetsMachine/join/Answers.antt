@@ -1,6 +1,5 @@
-use Rattle.std.proofs.Common.{◌∙◌, ◌∷◌, [], ap, sym}
+use Rattle.std.proofs.Common.{◌∷◌, []}
 use Rattle.kx_broker.specs.Offsets.{KeepsOffsets}
-use Rattle.kx_broker.proofs.OffsetsLogs.{IsKept}
 use Rattle.kx_broker.proofs.OffsetsMessages.{joined_as}
 use Rattle.kx_broker.proofs.Served.{as_seen, serving}
 use Rattle.kx_message.specs.Ranges.{offsets_partition}
@@ -13,16 +12,11 @@ returns-clause-ok g c = λ p is.
     let inside = c.self.inside in
     let it = c.args.it.now in
     let old = serving offsets_partition inside.groups inside.parked in
-    let new = serving offsets_partition c.join-reply.new.self inside.parked in
+    let new = serving offsets_partition c.join.new.self inside.parked in
     let reply = c.in_ok-reply.reply in
-    let known : IsKept inside.groups = record {
-      placed = c.end-end.ensures.log;
-      fits = record { grown = c.end-end.ensures.grown; groups = c.partition.ensures.groups };
-      holds = c.end-end.ensures.store;
-    } in
     as_seen KeepsOffsets p old c.args.self.now new
     (λ store. offsets_takes p store (msg.Join it)) (msg.JoinReply reply ∷ []) c.only.result
     c.self.view_is c.only.ensures
-    (λ stands. joined_as p old stands known it.group c.member_fits.ensures.name it.caller
-    c.join-reply.new.self reply.code (msg.JoinReply reply) c.member_fits.ensures.number
+    (λ stands. joined_as p old stands c.end_of-end.ensures.kept it.group c.member_fits.ensures.name it.caller
+    c.join.new.self reply.code (msg.JoinReply reply) c.member_fits.ensures.number
     c.in_ok-reply.ensures.answer.0 c.in_ok-reply.ensures.answer.1) is

@@ -1,9 +1,8 @@
-use Rattle.std.proofs.Common.{◌≡◌, ◌∙◌, ◌∷◌, [], ap, subst, rules}
+use Rattle.std.proofs.Common.{◌∷◌, [], subst, rules}
 use Rattle.std.specs.Int.{w32}
 use Rattle.std.specs.Int.RustNames.{FitsSigned}
 use Rattle.std.proofs.lemmas.Int.{to_z-of_z}
 use Rattle.kx_broker.specs.Offsets.{KeepsOffsets}
-use Rattle.kx_broker.proofs.OffsetsLogs.{IsKept}
 use Rattle.kx_broker.proofs.OffsetsMessages.{marked_as}
 use Rattle.kx_broker.proofs.Served.{as_seen, serving}
 use Rattle.kx_message.specs.Messages as the
@@ -25,14 +24,9 @@ returns-clause-ok g c = λ p is.
     c.in_ok-code.ensures.answer in
     let old = serving offsets_partition inside.groups inside.parked in
     let new = serving offsets_partition c.marker.new.self inside.parked in
-    let known : IsKept inside.groups = record {
-      placed = c.end-end.ensures.log;
-      fits = record { grown = c.end-end.ensures.grown; groups = c.partition.ensures.groups };
-      holds = c.end-end.ensures.store;
-    } in
     as_seen KeepsOffsets p old c.args.self.now new
     (λ store. on_marker offsets_partition p store it.txn it.held m)
     (the.MarkerReply offsets_partition it.txn it.held c.in_ok-code.code ∷ []) c.only.result
     c.self.view_is c.only.ensures
-    (λ stands. marked_as p old stands known it.txn it.held m c.marker.new.self
+    (λ stands. marked_as p old stands c.end_of-end.ensures.kept it.txn it.held m c.marker.new.self
     c.in_ok-code.code fits answer) is

@@ -1,5 +1,8 @@
-use Rattle.std.proofs.Common.{ap, subst}
+use Rattle.std.proofs.Common.{subst, sym}
 use Rattle.kx_broker.proofs.OffsetsOpening.{made_groups}
+use Rattle.kx_group.specs.Log.{IsGroupLog}
+use Rattle.kx_log.specs.LogState.{LogState}
+use Rattle.kx_partition.specs.Opening.{Rebuilds}
 use Rattle.kx_broker.proofs.offsets.OffsetsMachine.new.Goals as goal
 
 pub returns-in-Ok-open-clause-made : goal.returns-in-Ok-open-clause-made

@@ -1,9 +1,9 @@
-use Rattle.std.proofs.Common.{◌≡◌, ◌∙◌, ◌∷◌, [], ap, subst, sym, rules}
+use Rattle.std.proofs.Common.{◌≡◌, ◌∙◌, ◌∷◌, [], ap, subst, sym, rules, false}
 use Rattle.std.specs.Prelude.{IfOk, ◌<ℤ◌, pos}
-use Rattle.kx_broker.specs.Offsets.{CommitsAt0, IsOffsetsLog, KeepsOffsets}
+use Rattle.kx_broker.specs.Offsets.{KeepsOffsets}
 use Rattle.kx_broker.specs.Serving.{Serves, Serving}
 use Rattle.kx_broker.proofs.OffsetsMessages.{commit_below_0, commit_full, commit_parked}
-use Rattle.kx_broker.proofs.OffsetsMessages.{commits_at_0}
+use Rattle.kx_broker.proofs.OffsetsMessages.{parked_at_0}
 use Rattle.kx_broker.proofs.Served.{as_seen, serving}
 use Rattle.kx_group.specs.Calls.{text_of}
 use Rattle.kx_message.specs.Messages as the
@@ -24,16 +24,11 @@ ask-requires g c =
     let it = c.args.it.now in
     let inside = c.self.inside in
     let same : c.in_ok-clone.field-0 ≡ it = search rules in
-    let log : IsOffsetsLog inside.groups.batches = record {
-      grown = c.end-end.ensures.grown;
-      groups = c.partition-partition.ensures.groups;
-    } in
     let asks = subst (λ (o : Serving). judge_offsets (entries o.log.batches) false it.group
     it.member it.generation (text_of it) ≡ Unverified) (sym c.self.view_is) c.requires.asks in
-    commits_at_0 inside.groups.batches it c.in-Ok.request log c.commits_fit.ensures asks
-    (subst (λ (q : TxnOffsetCommit). IsParked (msg.TxnOffsetCommit q) c.in-Ok.request) same
-    c.in-Ok.ensures.0)
-    (subst (λ (q : TxnOffsetCommit). pos 0 ≤ℤ q.first_sequence) same c.in-Ok.ensures.2)
+    parked_at_0 inside.groups.batches it c.in_ok-clone.field-0 c.in-Ok.request
+    c.end_of-end.ensures.kept.fits c.commits_fit.ensures asks same c.in-Ok.ensures.0
+    c.in-Ok.ensures.2
 
 pub returns-in_default-clause-ok : goal.returns-in_default-clause-ok
 returns-in_default-clause-ok g c = λ p is.
@@ -60,7 +55,9 @@ returns-clause-ok g c = λ p is.
     let parked = subst (λ (q : TxnOffsetCommit). IsParked (msg.TxnOffsetCommit q) request) same
     c.in-Ok.ensures.0 in
     let held = sym (c.in-Ok.ensures.1 ∙ ap (λ (q : TxnOffsetCommit). q.held) same) in
-    let commits = c.ask.requires in
+    let commits = parked_at_0 inside.groups.batches it c.in_ok-clone.field-0 request
+    c.end_of-end.ensures.kept.fits c.commits_fit.ensures asks same c.in-Ok.ensures.0
+    c.in-Ok.ensures.2 in
     let asked = c.in_ok-ask.ensures in
     elim c.match-branch-3.branch [
       | in-Parked w ↦

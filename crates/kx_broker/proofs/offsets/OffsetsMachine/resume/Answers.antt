@@ -1,7 +1,6 @@
-use Rattle.std.proofs.Common.{◌≡◌, ◌∙◌, ap, length}
+use Rattle.std.proofs.Common.{◌∙◌, ap, length}
 use Rattle.kx_broker.specs.Offsets.{KeepsOffsets}
 use Rattle.kx_broker.specs.Serving.{told_each}
-use Rattle.kx_broker.proofs.OffsetsLogs.{IsKept}
 use Rattle.kx_broker.proofs.OffsetsMessages.{commits_resumed}
 use Rattle.kx_broker.proofs.Resuming.{resumed_each}
 use Rattle.kx_broker.proofs.Served.{as_seen, serving}
@@ -24,16 +23,11 @@ returns-clause-ok g c = λ p is.
     let held = c.args.held.now in
     let requests = c.of_held-requests.result.now in
     let answers = c.in_ok-answers.answers.items in
-    let known : IsKept inside.groups = record {
-      placed = c.end-end.ensures.log;
-      fits = record { grown = c.end-end.ensures.grown; groups = c.partition.ensures.groups };
-      holds = c.end-end.ensures.store;
-    } in
     as_seen KeepsOffsets p old c.args.self.now new
     (λ store. on_add_reply offsets_partition p store held NoError) (told_each requests answers)
     c.from_vec.result c.self.view_is
     (c.from_vec.ensures ∙ c.tell-replies.ensures
     ∙ ap (told_each requests) c.as_slice.ensures.value)
     (λ stands. commits_resumed p old stands held c.forget.new.self c.forget.ensures requests
-    c.resume.new.self answers known c.of_held-requests.ensures.value
+    c.resume.new.self answers c.end_of-end.ensures.kept c.of_held-requests.ensures.value
     c.in_ok-answers.ensures.answers) is
