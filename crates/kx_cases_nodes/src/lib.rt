@@ -11,6 +11,7 @@ pub use scripts::Scripts;
 
 mod coordinator;
 mod dump;
+mod lines;
 mod pair;
 mod partition;
 mod parts;
@@ -19,4 +20,5 @@ mod scripts;
 mod sending;
 mod shown;
 mod streams;
+mod sweeps;
 mod words;

@@ -1,43 +1,18 @@
-//! Steps that run scripts over streams that fail, and the script of a long line.
+//! Steps that run scripts: as they stand, over streams that fail, with appends that fail, and one
+//! of a long line.
+use crate::lines::{on_one_line, script_of};
 use crate::streams::{Full, Torn};
+use crate::sweeps::sweep;
 use kx_cases::{Runs, StepFault, Subject, Texts, value};
 use kx_core::LocalWorld;
 use kx_script::run_script;
 use std::alloc::{AllocError, Global};
 use std::io::BufRead;
-use std::str;
 
 /// Nothing is kept between two scripts.
 #[derive(Drop)]
 pub struct Scripts {
     alloc: Global,
-}
-
-// A script that stands on one line, where each `|` is the end of a line.
-fn script_of(alloc: Global, words: &[&str]) -> Result<String, AllocError> {
-    let mut script = String::new(alloc);
-    for (at, word) in words.iter().enumerate() {
-        let space = if at == 0 { "" } else { " " };
-        script.push_str(space)?;
-        for (at, part) in word.split('|').enumerate() {
-            let newline = if at == 0 { "" } else { "\n" };
-            script.push_str(newline)?;
-            script.push_str(part)?;
-        }
-    }
-    Ok(script)
-}
-
-// Text on one line: each `|` is the end of a line. Behind it stands how it ended.
-fn on_one_line(alloc: Global, text: &[u8], ended: &str) -> Result<String, AllocError> {
-    let mut line = String::new(alloc);
-    for (at, part) in str::from_utf8(text).unwrap_or("?").split('\n').enumerate() {
-        let newline = if at == 0 { "" } else { "|" };
-        line.push_str(newline)?;
-        line.push_str(part)?;
-    }
-    line.push_str(ended)?;
-    Ok(line)
 }
 
 // What a script writes, and how it ends.
@@ -77,6 +52,15 @@ impl Subject for Scripts {
     fn answer(&mut self, _texts: &Texts, words: &[&str]) -> Result<String, StepFault> {
         let alloc = self.alloc;
         match words {
+            ["run", script @ ..] => {
+                let script = script_of(alloc, script)?;
+                let mut reader = script.as_bytes();
+                Ok(run(alloc, &mut reader)?)
+            }
+            ["sweep", most, script @ ..] => {
+                let script = script_of(alloc, script)?;
+                sweep(alloc, value(most)?, script.as_str())
+            }
             ["torn", script @ ..] => {
                 let script = script_of(alloc, script)?;
                 Ok(run(alloc, &mut Torn(script.as_bytes()))?)

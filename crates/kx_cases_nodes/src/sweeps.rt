@@ -1,0 +1,108 @@
+//! Scripts in which an append fails and leaves a part of its bytes.
+use crate::lines::on_one_line;
+use kx_cases::{Runs, StepFault, known, value};
+use kx_core::{Config, Event, LocalWorld};
+use kx_machine::StoreMode;
+use kx_message::Node;
+use kx_script::{Marks, Order, Running, fetch, happen, order_in, rows, write_dash, write_message};
+use std::alloc::Global;
+
+// The world that a line makes.
+fn world_in(alloc: Global, line: &str) -> Result<Running<LocalWorld>, StepFault> {
+    let Some(Order::World(partitions)) = order_in(line.as_bytes()) else {
+        return Err(StepFault::Unknown);
+    };
+    Ok(Running {
+        world: LocalWorld::new(alloc, Config { partitions })?,
+        marks: Marks::none(),
+    })
+}
+
+// Carries a line out, and writes its answer.
+fn carry_out(
+    alloc: Global,
+    running: &mut Running<LocalWorld>,
+    line: &str,
+    writer: &mut Vec<u8>,
+) -> Result<(), StepFault> {
+    let done = match order_in(line.as_bytes()) {
+        Some(Order::Happen(what)) => happen(alloc, running, what, writer),
+        Some(Order::Fetch(partition, from, mode, max)) => {
+            fetch(alloc, running, partition, from, mode, max, writer)
+        }
+        Some(Order::Rows) => rows(running, writer),
+        _ => Ok(false),
+    };
+    match done {
+        Ok(true) => Ok(()),
+        _ => Err(StepFault::Unknown),
+    }
+}
+
+// Writes the messages from a number on, a line each.
+fn write_from(
+    world: &LocalWorld,
+    first: usize,
+    from: &Node,
+    writer: &mut Vec<u8>,
+) -> Result<(), StepFault> {
+    let sent = world.sent();
+    if sent.len() <= first {
+        return known(write_dash(writer));
+    }
+    for number in first..sent.len() {
+        if let Some(message) = sent.get(number) {
+            known(write_message(writer, number, from, message))?;
+        }
+    }
+    Ok(())
+}
+
+// A message comes to its node, which has to append something: that fails, and leaves so many bytes.
+// Writes what is handed out.
+fn tear(
+    world: &mut LocalWorld,
+    number: usize,
+    keep: u64,
+    writer: &mut Vec<u8>,
+) -> Result<(), StepFault> {
+    let Some(message) = world.sent().get(number) else {
+        return Err(StepFault::Unknown);
+    };
+    let to = message.receiver();
+    let first = world.sent().len();
+    let store = StoreMode::Fails { keep };
+    let happened = world.happen(&Event::Deliver { number, to, store })?;
+    if !happened.failed {
+        return Err(StepFault::Unknown);
+    }
+    write_from(world, first, &to, writer)
+}
+
+// What a script writes from its line `tear K` on, where that leaves so many bytes.
+fn torn(alloc: Global, script: &str, keep: u64) -> Result<Vec<u8>, StepFault> {
+    let mut lines = script.split('\n');
+    let mut running = world_in(alloc, lines.next().unwrap_or(""))?;
+    let mut written = Vec::new(alloc);
+    for line in lines {
+        match line.strip_prefix("tear ") {
+            Some(number) => {
+                written.clear();
+                tear(&mut running.world, value(number)?, keep, &mut written)?;
+            }
+            None => carry_out(alloc, &mut running, line, &mut written)?,
+        }
+    }
+    Ok(written)
+}
+
+/// What a script writes from its line `tear K` on, which lets message K come to its node, while the
+/// append there fails and leaves none of its bytes, one, and so on up to so many.
+pub fn sweep(alloc: Global, most: usize, script: &str) -> Result<String, StepFault> {
+    let mut runs = Runs::new(alloc);
+    for keep in 0..=most {
+        let written = torn(alloc, script, keep as u64)?;
+        runs.push(keep, on_one_line(alloc, written.as_slice(), "")?)?;
+    }
+    Ok(runs.finish()?)
+}
