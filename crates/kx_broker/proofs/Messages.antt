@@ -88,8 +88,9 @@ asks closed v text old new answer (Breaks next h) e = absurd cc
 asks closed v text old new answer (IsAnswered given told same) e =
     (asks_by closed v (told ∙ ap Some e), same)
 
-pub asked_then : (closed : Bool) (v : Verdict) (text : List ℕ) (old new : LogState) (answer : Produced)
-    → FollowsVerdict (unless_closed closed v) text old new answer → v ≡ Unverified
+pub asked_then : (closed : Bool) (v : Verdict) (text : List ℕ) (old new : LogState)
+    (answer : Produced) → FollowsVerdict (unless_closed closed v) text old new answer
+    → v ≡ Unverified
     → answer ≡ produced.Unverified
 asked_then closed v text old new answer (IsAppended offset next h) e =
     let n = verdict_next closed v next in absurd (cc (n.1, e))
@@ -155,7 +156,8 @@ not_not true false e = absurd cc
 not_not false true e = absurd cc
 not_not false false e = refl
 
-pub parked_not_full : (full : Bool) → asked.Parked ≡ cond full asked.Full asked.Parked → full ≡ false
+pub parked_not_full : (full : Bool) → asked.Parked ≡ cond full asked.Full asked.Parked
+    → full ≡ false
 parked_not_full true e = absurd cc
 parked_not_full false e = refl
 

@@ -86,7 +86,8 @@ module _ (p : Partition) (old : Serving) (is : KeepsOffsets p old) (known : IsKe
 
   ------ a change of members
 
-  pub change_comes : (m : Membership) → ((fact : Fact) → m ≡ Changes fact → IsMade old.log.batches fact)
+  pub change_comes : (m : Membership)
+      → ((fact : Fact) → m ≡ Changes fact → IsMade old.log.batches fact)
       → (log : LogState) (given : ErrorCode) → IsChanged m old.log log given
       → (offset : ℤ) × Comes IsOffsetsLog p old.log log (λ store. changed p store m) given offset
   change_comes Already made log given h = (

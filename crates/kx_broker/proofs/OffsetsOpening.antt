@@ -9,8 +9,8 @@ use Rattle.kx_broker.specs.Serving.{Restarts, Serving, Waits}
 use Rattle.kx_broker.specs.declared.restart.Restarted.{Restarted}
 use Rattle.kx_broker.specs.declared.restart.Restarted.TheVariants as restarted
 use Rattle.kx_broker.proofs.Disks.{plain_disk}
-use Rattle.kx_broker.proofs.Opening.{cut_disk, never_damaged, never_used_up, read_is, unloaded_still}
-use Rattle.kx_broker.proofs.Opening.{unread}
+use Rattle.kx_broker.proofs.Opening.{cut_disk, never_damaged, never_used_up, read_is, unread}
+use Rattle.kx_broker.proofs.Opening.{unloaded_still}
 use Rattle.kx_broker.proofs.Served.{serving}
 use Rattle.kx_group.specs.Log.{NoBatch}
 use Rattle.kx_group.specs.Opening.{IsNoGroups, NotReloaded}

@@ -20,5 +20,5 @@ returns-clause-ok g c = λ p is.
     if_ok c.drop_member.result c.drop_member.ensures.answer
     (λ code h. subst (λ (o : Serving). DropsMember KeepsOffsets p o new
     (λ store. changed p store (judge_drop (entries_of p) group member)) code) c.self.view_is
-    (dropped_as p old stands c.end_of-end.ensures.kept group c.member_fits.ensures.name member c.drop_member.new.self
-    code c.member_fits.ensures.number h))
+    (dropped_as p old stands c.end_of-end.ensures.kept group c.member_fits.ensures.name member
+    c.drop_member.new.self code c.member_fits.ensures.number h))

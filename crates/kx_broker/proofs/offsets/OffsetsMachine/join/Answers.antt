@@ -17,6 +17,6 @@ returns-clause-ok g c = λ p is.
     as_seen KeepsOffsets p old c.args.self.now new
     (λ store. offsets_takes p store (msg.Join it)) (msg.JoinReply reply ∷ []) c.only.result
     c.self.view_is c.only.ensures
-    (λ stands. joined_as p old stands c.end_of-end.ensures.kept it.group c.member_fits.ensures.name it.caller
-    c.join.new.self reply.code (msg.JoinReply reply) c.member_fits.ensures.number
+    (λ stands. joined_as p old stands c.end_of-end.ensures.kept it.group c.member_fits.ensures.name
+    it.caller c.join.new.self reply.code (msg.JoinReply reply) c.member_fits.ensures.number
     c.in_ok-reply.ensures.answer.0 c.in_ok-reply.ensures.answer.1) is

@@ -33,7 +33,8 @@ returns-in-Ok g c = λ p is.
     let old = serving offsets_partition inside.groups inside.parked in
     let new = serving offsets_partition after c.new.result in
     let content = c.in-Ok.content in
-    let longer = lt_z (to_z w64 (of_z w64 c.end_of-before.result)) (to_z w64 (of_z w64 c.end_of.result)) in
+    let longer = lt_z (to_z w64 (of_z w64 c.end_of-before.result))
+    (to_z w64 (of_z w64 c.end_of.result)) in
     let installed = c.install-before.ensures.new in
     let found = found_by c.end_of-before.result c.end_of.result inside.groups.batches after.batches
     c.end_of-before.ensures.kept.placed c.end_of.ensures.kept.placed c.end_of-before.ensures.value
