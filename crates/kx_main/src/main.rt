@@ -1,6 +1,7 @@
-//! The program. `kx_main sim` runs a script of commands over partitions held in memory; `kx_main
-//! dump FILE` prints the record batches that a file holds. What is read and printed is kx_text's;
-//! here are the arguments, streams and files, and which status each outcome ends with.
+//! The program. `kx_main sim` runs a script over a world of nodes whose logs are held in memory;
+//! `kx_main dump FILE` prints the record batches that a file holds. The world is kx_core's, what a
+//! script's lines do kx_script's, and dumps are kx_text's; here are the arguments, streams and
+//! files, and which status each outcome ends with.
 #![tactic(auto)]
 
 use clap::error::ErrorKind as UsageFault;
