@@ -8,3 +8,4 @@ pub mod Numbers
 pub mod Taking
 pub mod Handing
 pub mod Standing
+pub mod Showing

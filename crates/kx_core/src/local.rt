@@ -1,11 +1,13 @@
 //! A world whose nodes keep their logs in memory, and what can be read of it.
-ghost use Rattle.std.specs.Prelude.{◌≡◌, ◌⊎◌, ◌<◌, [], pos, true, None, Ok, Some, IfOk};
+ghost use Rattle.std.specs.Prelude.{◌≡◌, ◌⊎◌, ◌<◌, ℕ, [], pos, true, None, Ok, Some, IfOk};
 ghost use Rattle.std.specs.Prelude.{MatchOption, MatchResult, Contains, length, map};
 ghost use Rattle.kx_broker.specs.Offsets.{StandsForGroups};
 ghost use Rattle.kx_broker.specs.Serving.{StandsFor};
 ghost use Rattle.kx_coord_node.specs.Stands.{Stands};
 ghost use Rattle.kx_core.specs.Internal.{AreServers};
 ghost use Rattle.kx_core.specs.Local.{IsLocal, between};
+ghost use Rattle.kx_core.specs.Promises.{KeepsPromises};
+ghost use Rattle.kx_core.specs.World.{ServesAt};
 ghost use Rattle.kx_machine.specs.Meaning.{AtCoordinator, AtPartition};
 ghost use Rattle.kx_message.specs.Ranges.{data_partitions, offsets_partition};
 ghost use Rattle.kx_message.specs.declared.code.ErrorCode.TheVariants.{UnknownTopicOrPartition};
@@ -79,6 +81,7 @@ fn servers(
     count: PartitionCount,
 ) -> Result<Vec<PartitionMachine<LocalStore>>, AllocError>
     ensures count { IfOk result (λ servers. length servers.items ≡ count) }
+    ensures few { IfOk result (λ servers. length servers.items < offsets_partition) }
     ensures each { IfOk result (λ servers. AreServers servers.items) }
 {
     let mut servers = Vec::with_capacity(alloc, count.get())?;
@@ -108,7 +111,46 @@ fn offsets(alloc: Global) -> Result<OffsetsMachine<LocalStore>, AllocError>
     }
 }
 
-impl World<CoordinatorMachine<LocalStore>, PartitionMachine<LocalStore>, OffsetsMachine<LocalStore>> {
+// A world of these nodes, whose logs are empty.
+fn begun(
+    alloc: Global,
+    coordinator: CoordinatorMachine<LocalStore>,
+    partitions: Vec<PartitionMachine<LocalStore>>,
+    offsets: OffsetsMachine<LocalStore>,
+) -> LocalWorld
+    requires coordinator { Stands (AtCoordinator new_coordinator) coordinator }
+    requires few { length partitions.items < offsets_partition }
+    requires each { AreServers partitions.items }
+    requires offsets { StandsForGroups (AtPartition offsets_partition empty_partition) offsets }
+    ensures { IsLocal result (start (length partitions.items)) }
+{
+    World::of(alloc, coordinator, partitions, offsets)
+}
+
+// A page of a data partition's log, borrowed from its server.
+fn page_of(
+    server: &PartitionMachine<LocalStore>,
+    from: i64,
+    max: u32,
+    committed: bool,
+) -> Result<FetchPage<'_>, FetchFault>
+    ensures answer { (w : model.World) (number : ℕ) → ServesAt StandsFor w number server.now
+        → MatchResult result
+        (λ page. answer_to (log_at w number) from max committed ≡ Ok page)
+        (FetchRefuses (answer_to (log_at w number) from max committed)) }
+    ensures visible { (w : model.World) (number : ℕ) → KeepsPromises w
+        → ServesAt StandsFor w number server.now → committed ≡ true
+        → IfOk result (λ page. committed_of page
+        ≡ between page.from page.next (visible (entries_at w number) (commits (notes w)))) }
+{
+    server.partition().fetch(from, max, committed)
+}
+
+impl World<
+    CoordinatorMachine<LocalStore>,
+    PartitionMachine<LocalStore>,
+    OffsetsMachine<LocalStore>,
+> {
     /// A world in which nothing has happened: the coordinator, so many data partitions and the
     /// offsets partition, with empty logs in memory.
     ///
@@ -121,7 +163,7 @@ impl World<CoordinatorMachine<LocalStore>, PartitionMachine<LocalStore>, Offsets
         let coordinator = coordinator(alloc)?;
         let partitions = servers(alloc, config.partitions)?;
         let offsets = offsets(alloc)?;
-        Ok(World::of(alloc, coordinator, partitions, offsets))
+        Ok(begun(alloc, coordinator, partitions, offsets))
     }
 
     /// A page of a data partition, borrowed from its log: from the batch that holds the offset
@@ -148,11 +190,11 @@ impl World<CoordinatorMachine<LocalStore>, PartitionMachine<LocalStore>, Offsets
         // Of committed records it has exactly what is visible, by decision.
         ensures visible { (w : model.World) → IsLocal self.now w → committed ≡ true
             → IfOk result (λ page. committed_of page
-            ≡ between from page.next (visible (entries_at w partition) (commits (notes w)))) }
+            ≡ between page.from page.next (visible (entries_at w partition) (commits (notes w)))) }
     {
         schedules_keep_promises();
         match self.partition(partition) {
-            Some(server) => server.partition().fetch(from, max, committed),
+            Some(server) => page_of(server, from, max, committed),
             None => Err(FetchFault::Refused(ErrorCode::UnknownTopicOrPartition)),
         }
     }
@@ -189,7 +231,9 @@ impl World<CoordinatorMachine<LocalStore>, PartitionMachine<LocalStore>, Offsets
             → FollowsDecisions w group partition }
     {
         schedules_keep_promises();
-        self.offsets().groups().offset_fetch(group, partition, stable)
+        self.offsets()
+            .groups()
+            .offset_fetch(group, partition, stable)
     }
 
     /// A group's generation, 0 to 2^31 - 1: how often its membership has changed.
