@@ -1,6 +1,6 @@
 //! A world whose nodes keep their logs in memory, and what can be read of it.
 ghost use Rattle.std.specs.Prelude.{◌≡◌, ◌⊎◌, ◌<◌, ℕ, [], pos, true, None, Ok, Some, IfOk};
-ghost use Rattle.std.specs.Prelude.{MatchOption, MatchResult, Contains, length, map};
+ghost use Rattle.std.specs.Prelude.{IsNone, MatchOption, MatchResult, Contains, length, map};
 ghost use Rattle.kx_broker.specs.Offsets.{StandsForGroups};
 ghost use Rattle.kx_broker.specs.Serving.{StandsFor};
 ghost use Rattle.kx_coord_node.specs.Stands.{Stands};
@@ -156,7 +156,7 @@ impl World<
     ///
     /// # Errors
     ///
-    /// Only for want of memory.
+    /// For want of memory.
     pub fn new(alloc: Global, config: Config) -> Result<LocalWorld, AllocError>
         ensures { IfOk result (λ world. IsLocal world (start config.partitions)) }
     {
@@ -187,6 +187,10 @@ impl World<
             (λ fault. FetchRefuses (answer_to (log_at w partition) from max committed) fault
             ⊎ ((data_partition_at w partition ≡ None)
             × (fault ≡ Refused UnknownTopicOrPartition))) }
+        // Where there is no such partition, that is told.
+        ensures missing { (w : model.World) → IsLocal self.now w
+            → data_partition_at w partition ≡ None → MatchResult result (λ page. ⊥)
+            (λ fault. fault ≡ Refused UnknownTopicOrPartition) }
         // Of committed records it has exactly what is visible, by decision.
         ensures visible { (w : model.World) → IsLocal self.now w → committed ≡ true
             → IfOk result (λ page. committed_of page
@@ -206,6 +210,8 @@ impl World<
         ensures offset { (w : model.World) → IsLocal self.now w → MatchOption result
             (data_partition_at w partition ≡ None)
             (λ offset. offset ≡ pos (last_stable_offset (entries_at w partition))) }
+        ensures missing { (w : model.World) → IsLocal self.now w
+            → data_partition_at w partition ≡ None → IsNone result }
         ensures owed { (w : model.World) → IsLocal self.now w → (opened : Placed Sequenced)
             → Contains (open_transactions (entries_at w partition)) opened
             → owed (notes w) partition opened.item.id opened.item.epoch ≡ true }

@@ -73,7 +73,8 @@ impl<C: Failing, P: Failing, O: Failing> World<C, P, O> {
     ///
     /// # Errors
     ///
-    /// Only for want of memory; then the world is as before.
+    /// Only for want of memory, or of numbers for messages behind the first 2^62; then the world
+    /// stands for what it stood for.
     pub fn happen(&mut self, event: &Event) -> Result<Happened, AllocError>
         ensures step { (w : model.World) → IsRun C.stands P.stands O.stands self.old w
             → MatchResult result
@@ -98,7 +99,8 @@ impl<C: Failing, P: Failing, O: Failing> World<C, P, O> {
     ///
     /// # Errors
     ///
-    /// Only for want of memory; then the world is as before.
+    /// Only for want of memory, or of numbers for messages behind the first 2^62; then the world
+    /// stands for what it stood for.
     pub fn step(&mut self, event: &Event) -> Result<Note, AllocError>
         ensures step { (w : model.World) → IsRun C.stands P.stands O.stands self.old w
             → MatchResult result
@@ -116,7 +118,7 @@ impl<C: Failing, P: Failing, O: Failing> World<C, P, O> {
     ///
     /// # Errors
     ///
-    /// Only for want of memory; then those before the event for which it was wanted have happened.
+    /// As [`step`](World::step); then those before the event that found none have happened.
     pub fn run(&mut self, events: &[Event]) -> Result<(), RunFault>
         ensures run { (w : model.World) → IsRun C.stands P.stands O.stands self.old w
             → RunsUp w events.now (IsRun C.stands P.stands O.stands self.new) result }

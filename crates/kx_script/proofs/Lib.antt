@@ -6,3 +6,4 @@ pub mod Lines
 pub mod Carrying
 mod Rules
 mod Worked
+pub mod Worlds
