@@ -1,13 +1,12 @@
 -- A data partition that is named is there.
-use Rattle.std.proofs.Common.{◌≡◌, ◌<◌, ◌==◌, ◌×◌, ◌⊎◌, ℕ, Bool, true, false, cond, Option, None, refl}
-use Rattle.std.proofs.Common.{Result, Ok, Err, MatchResult, length, nat_lt, arith, inl, inr, sym, ap}
+use Rattle.std.proofs.Common.{◌≡◌, ◌<◌, ◌==◌, ◌⊎◌, ℕ, Bool, true, false, cond, None, refl}
+use Rattle.std.proofs.Common.{Result, Ok, Err, MatchResult, length, arith, inl, inr, sym, ap}
 use Rattle.std.proofs.Common.{◌∙◌}
 use Rattle.std.specs.Prelude.{slice_get}
 use Rattle.std.proofs.lemmas.Bool.Decides.{Decides-eqb, Decides-ltb}
 use Rattle.kx_core.proofs.Standing.{past_none}
 use Rattle.kx_message.specs.Ranges.{offsets_partition}
 use Rattle.kx_model.specs.Page.{Fetched}
-use Rattle.kx_model.specs.PartitionNode.{Partition}
 use Rattle.kx_model.specs.World.{World, data_partition_at}
 use Rattle.kx_partition.specs.declared.fault.FetchFault.{FetchFault}
 use Rattle.kx_script.specs.Session.{has_partition}
@@ -24,13 +23,13 @@ is_there w number false e few lt none =
     absurd (omega (arith, past_none w.partitions number (sym one ∙ none), lt))
 
 -- so a fetch of it isn't refused for want of the partition
-pub refusal : {P : Fetched → Type 0} {Q R : FetchFault → Type 0} (w : World) (number : ℕ)
+pub refusal : (P : Fetched → Type 0) (Q R : FetchFault → Type 0) (w : World) (number : ℕ)
     (r : Result Fetched FetchFault) → length w.partitions < offsets_partition
     → has_partition w number ≡ true
     → MatchResult r P (λ f. Q f ⊎ ((data_partition_at w number ≡ None) × R f))
     → MatchResult r P Q
-refusal w number (Ok page) few there h = h
-refusal w number (Err f) few there (inl h) = h
-refusal w number (Err f) few there (inr h) =
+refusal P Q R w number (Ok page) few there h = h
+refusal P Q R w number (Err f) few there (inl h) = h
+refusal P Q R w number (Err f) few there (inr h) =
     absurd (is_there w number (number == offsets_partition) refl few
     ((Decides-ltb number (length w.partitions)).0 there) h.0)

@@ -1,6 +1,6 @@
 -- A world of nodes under a script: which of their appends are to fail, which event a line is, and
 -- what it leaves.
-use Rattle.std.specs.Prelude.{ℕ, List, length, drop, Bool, true, false, not, ◌&&◌, ◌||◌}
+use Rattle.std.specs.Prelude.{ℕ, List, length, drop, Bool, true, false, ◌&&◌, ◌||◌}
 use Rattle.std.specs.Prelude.{Option, Some, None, is_some, option_map, replicate, slice_get}
 use Rattle.std.specs.Prelude.{slice_index_or, slice_set, ◌==◌, nat_lt, if◌then◌else◌}
 use Rattle.kx_core.specs.World.{place_of, store_fails}

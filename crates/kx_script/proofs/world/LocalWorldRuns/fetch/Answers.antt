@@ -5,5 +5,5 @@ use Rattle.kx_script.proofs.world.LocalWorldRuns.fetch.Goals as goal
 
 pub returns : goal.returns
 returns c = λ w h.
-    refusal w c.args.partition c.fetch.result h.nodes.few (c.requires w h)
+    refusal _ _ _ w c.args.partition c.fetch.result h.nodes.few (c.requires w h)
     (rw (to_z-of_z w64 c.args.from c.ranges.from) at c.fetch.ensures.answer w h)
