@@ -1,21 +1,42 @@
 //! Scripts in which an append fails and leaves a part of its bytes.
 use crate::lines::on_one_line;
 use kx_cases::{Runs, StepFault, known, value};
-use kx_core::{Config, Event, LocalWorld};
+use kx_core::{Config, Event, LocalWorld, PartitionCount};
 use kx_machine::StoreMode;
 use kx_message::Node;
 use kx_script::{Marks, Order, Running, fetch, happen, order_in, rows, write_dash, write_message};
+use kx_text::ScriptFault;
 use std::alloc::Global;
 
 // The world that a line makes.
 fn world_in(alloc: Global, line: &str) -> Result<Running<LocalWorld>, StepFault> {
-    let Some(Order::World(partitions)) = order_in(line.as_bytes()) else {
+    let Some(count) = line.strip_prefix("world ") else {
+        return Err(StepFault::Unknown);
+    };
+    let Some(partitions) = PartitionCount::new(value(count)?) else {
         return Err(StepFault::Unknown);
     };
     Ok(Running {
         world: LocalWorld::new(alloc, Config { partitions })?,
         marks: Marks::none(),
     })
+}
+
+// Carries an order out, and writes its answer; false where it isn't one of a sweep.
+fn perform(
+    alloc: Global,
+    running: &mut Running<LocalWorld>,
+    order: Order<'_>,
+    writer: &mut Vec<u8>,
+) -> Result<bool, ScriptFault> {
+    match order {
+        Order::World(_) | Order::Fail(_, _) | Order::Offset(_, _, _) => Ok(false),
+        Order::Happen(what) => happen(alloc, running, what, writer),
+        Order::Fetch(partition, from, mode, max) => {
+            fetch(alloc, running, partition, from, mode, max, writer)
+        }
+        Order::Rows => rows(running, writer),
+    }
 }
 
 // Carries a line out, and writes its answer.
@@ -25,15 +46,10 @@ fn carry_out(
     line: &str,
     writer: &mut Vec<u8>,
 ) -> Result<(), StepFault> {
-    let done = match order_in(line.as_bytes()) {
-        Some(Order::Happen(what)) => happen(alloc, running, what, writer),
-        Some(Order::Fetch(partition, from, mode, max)) => {
-            fetch(alloc, running, partition, from, mode, max, writer)
-        }
-        Some(Order::Rows) => rows(running, writer),
-        _ => Ok(false),
+    let Some(order) = order_in(line.as_bytes()) else {
+        return Err(StepFault::Unknown);
     };
-    match done {
+    match perform(alloc, running, order, writer) {
         Ok(true) => Ok(()),
         _ => Err(StepFault::Unknown),
     }
