@@ -7,6 +7,7 @@ use kx_message::Node;
 use kx_script::{Marks, Order, Running, fetch, happen, order_in, rows, write_dash, write_message};
 use kx_text::ScriptFault;
 use std::alloc::Global;
+use std::str::Split;
 
 // The world that a line makes.
 fn world_in(alloc: Global, line: &str) -> Result<Running<LocalWorld>, StepFault> {
@@ -95,20 +96,33 @@ fn tear(
     write_from(world, first, &to, writer)
 }
 
+// Carries lines out, the line `tear K` so that it leaves so many bytes; what was written before
+// that one is dropped.
+fn tear_in<'a>(
+    alloc: Global,
+    running: &mut Running<LocalWorld>,
+    lines: Split<'a, char>,
+    keep: u64,
+    writer: &mut Vec<u8>,
+) -> Result<(), StepFault> {
+    for line in lines {
+        match line.strip_prefix("tear ") {
+            Some(number) => {
+                writer.clear();
+                tear(&mut running.world, value(number)?, keep, writer)?;
+            }
+            None => carry_out(alloc, running, line, writer)?,
+        }
+    }
+    Ok(())
+}
+
 // What a script writes from its line `tear K` on, where that leaves so many bytes.
 fn torn(alloc: Global, script: &str, keep: u64) -> Result<Vec<u8>, StepFault> {
     let mut lines = script.split('\n');
     let mut running = world_in(alloc, lines.next().unwrap_or(""))?;
     let mut written = Vec::new(alloc);
-    for line in lines {
-        match line.strip_prefix("tear ") {
-            Some(number) => {
-                written.clear();
-                tear(&mut running.world, value(number)?, keep, &mut written)?;
-            }
-            None => carry_out(alloc, &mut running, line, &mut written)?,
-        }
-    }
+    tear_in(alloc, &mut running, lines, keep, &mut written)?;
     Ok(written)
 }
 
