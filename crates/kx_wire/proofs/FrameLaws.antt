@@ -73,7 +73,19 @@ frame_again m rest h =
     ∙ number_again n (kind_of m ∷ (t ++ rest)) (omega arith) (omega arith)
     ∙ length_again m rest h.ranges
 
--- ---- what is read is spelled so
+------ a frame tells its message
+
+whole_is : (a b : Message) (rest : List ℕ) → Whole a rest ≡ Whole b rest → a ≡ b
+whole_is a b rest e = cc
+
+pub frames_apart : (a b : Message) → IsSendable a → IsSendable b → frame_text a ≡ frame_text b
+    → a ≡ b
+frames_apart a b first second same =
+    whole_is a b [] (sym (frame_again a [] first)
+    ∙ ap (λ (text : List ℕ). frame_at (text ++ [])) same
+    ∙ frame_again b [] second)
+
+------ what is read is spelled so
 
 pub bad_not_whole : (f : FrameFault) (m : Message) (rest : List ℕ) → Bad f ≡ Whole m rest → ⊥
 bad_not_whole f m rest e = absurd cc

@@ -248,6 +248,11 @@ pub fn frames_are_read()
         → frame_at bytes ≡ Whole m rest → IsSendable m × (bytes ≡ frame_text m ++ rest) }
 {}
 
+/// A law: no two messages that can be sent have the same frame, so a frame is a key of its message.
+pub fn frames_tell_messages_apart()
+    ensures { (a b : Message) → IsSendable a → IsSendable b → frame_text a ≡ frame_text b → a ≡ b }
+{}
+
 /// A law: the frames of messages that can be sent, fed in any pieces, come as these messages, and
 /// nothing fails but for want of memory.
 pub fn streams_come_as_their_messages()

@@ -6,7 +6,8 @@
 pub use fault::FrameFault;
 pub use fields::Fields;
 pub use frames::{
-    Frames, frames_are_read, less_than_a_frame_is_held, streams_come_as_their_messages,
+    Frames, frames_are_read, frames_tell_messages_apart, less_than_a_frame_is_held,
+    streams_come_as_their_messages,
 };
 pub use kx_message::{
     AbortedTxn, AbortedTxns, AddPartition, AddReply, Bytes, Caller, ClientId, EndReply, EndTxn,
