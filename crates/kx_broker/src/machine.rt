@@ -14,7 +14,7 @@ ghost use Rattle.kx_partition.specs.Opening.{RebuildFaults, Rebuilds};
 
 use crate::fetch::{fetch, refused_fetch};
 use crate::restart::Restarted;
-use kx_log::{FaultStore, OpenFault, Steady, Store};
+use kx_log::{FaultStore, LogSlices, OpenFault, Steady, Store};
 use kx_machine::{Closing, Failing, Input, Machine, Messages, Note, StoreMode, Taken};
 use kx_message::{ErrorCode, Fetch, Message, PartitionId};
 use kx_partition::Partition;
@@ -208,6 +208,14 @@ impl<S: Store> Machine for PartitionMachine<S> {
 
     fn failures(&self) -> u64 {
         PartitionMachine::failures(self)
+    }
+
+    fn log_end(&self) -> i64 {
+        self.partition.end()
+    }
+
+    fn batches_from(&self, from: i64, max: u32) -> LogSlices<'_> {
+        self.partition.slice(from, i64::MAX, max)
     }
 }
 

@@ -15,7 +15,7 @@ ghost use Rattle.kx_partition.specs.Opening.{RebuildFaults};
 use crate::restart::Restarted;
 use crate::waiting::ParkedCommits;
 use kx_group::Groups;
-use kx_log::{FaultStore, OpenFault, Steady, Store};
+use kx_log::{FaultStore, LogSlices, OpenFault, Steady, Store};
 use kx_machine::{Closing, Failing, Input, Machine, Messages, Note, StoreMode, Taken};
 use kx_message::Message;
 use kx_partition::Partition;
@@ -213,6 +213,14 @@ impl<S: Store> Machine for OffsetsMachine<S> {
 
     fn failures(&self) -> u64 {
         OffsetsMachine::failures(self)
+    }
+
+    fn log_end(&self) -> i64 {
+        self.groups.partition().end()
+    }
+
+    fn batches_from(&self, from: i64, max: u32) -> LogSlices<'_> {
+        self.groups.partition().slice(from, i64::MAX, max)
     }
 }
 

@@ -10,7 +10,7 @@ ghost use Rattle.kx_model.specs.Step.{Comes, Expires, Reminds, Restarts};
 ghost use Rattle.kx_txnlog.specs.Opening.{Holds};
 
 use kx_coord::{Coordinator, RestartFault};
-use kx_log::{FaultStore, OpenFault, Steady, Store};
+use kx_log::{FaultStore, LogSlices, OpenFault, Steady, Store};
 use kx_machine::{Closing, Failing, Input, Machine, Messages, Note, StoreMode, Taken};
 use kx_message::{AddPartition, EndTxn, InitProducerId, MarkerReply, Message};
 use std::alloc::{AllocError, Global};
@@ -259,6 +259,14 @@ impl<S: Store> Machine for CoordinatorMachine<S> {
 
     fn failures(&self) -> u64 {
         CoordinatorMachine::failures(self)
+    }
+
+    fn log_end(&self) -> i64 {
+        0
+    }
+
+    fn batches_from(&self, _from: i64, _max: u32) -> LogSlices<'_> {
+        LogSlices::none()
     }
 }
 

@@ -6,6 +6,7 @@ ghost use Rattle.kx_model.specs.Client.{Does, command, new_client};
 ghost use Rattle.kx_model.specs.Replies.{take_reply};
 
 use kx_client::{ClientFault, ProducerClient};
+use kx_log::LogSlices;
 use kx_machine::{Command, Input, Machine, Messages, Note, Taken};
 use kx_message::{ClientId, Message, Outcome, Timeout, TxnId};
 use std::alloc::{AllocError, Global};
@@ -170,5 +171,13 @@ impl Machine for ClientMachine {
 
     fn failures(&self) -> u64 {
         0
+    }
+
+    fn log_end(&self) -> i64 {
+        0
+    }
+
+    fn batches_from(&self, _from: i64, _max: u32) -> LogSlices<'_> {
+        LogSlices::none()
     }
 }

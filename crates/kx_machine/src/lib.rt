@@ -4,11 +4,13 @@
 #![tactic(auto)]
 
 mod input;
+mod logs;
 mod machine;
 mod messages;
 mod taken;
 
 pub use input::{Command, Input};
+pub use logs::steps_only_add;
 pub use machine::{Failing, Machine, Making, StoreMode};
 pub use messages::Messages;
 pub use taken::{Closing, Note, Taken};

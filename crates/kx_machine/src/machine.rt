@@ -1,6 +1,7 @@
 //! What every node does.
 use crate::input::Input;
 use crate::taken::Taken;
+use kx_log::LogSlices;
 use kx_message::{ClientId, Message, PartitionId, Timeout, TxnId};
 use std::alloc::AllocError;
 
@@ -33,9 +34,13 @@ pub enum StoreMode {
 /// A node of the system: it takes one input at a time, changes what it keeps, and hands messages
 /// out (KIP-98, "Data Flow").
 pub trait Machine: Drop {
-    ghost use Rattle.std.specs.Prelude.{MatchResult};
+    ghost use Rattle.std.specs.Prelude.{◌≡◌, pos, MatchResult};
+    ghost use Rattle.kx_log.specs.Slices.{sliced};
+    ghost use Rattle.kx_machine.specs.Logs.{batches_of};
     ghost use Rattle.kx_machine.specs.Meaning.{IsTaken, NodeState, input_of};
     ghost use Rattle.kx_model.specs.Disk.{Store};
+    ghost use Rattle.kx_model.specs.Log.{end, entries};
+    ghost use Rattle.kx_model.specs.Produce.{greatest_offset};
     ghost use Rattle.kx_model.specs.Step.{Comes};
 
     // the node of the definitions for which it stands
@@ -67,6 +72,19 @@ pub trait Machine: Drop {
 
     /// How often its store's device failed.
     fn failures(&self) -> u64;
+
+    /// The offset behind the last record batch of its log, 0 to 2^63 - 1. A node that keeps no log
+    /// of record batches, as the coordinator and a client, is at 0.
+    fn log_end(&self) -> i64
+        ensures { (state : NodeState) → stands state self.now
+            → result ≡ pos (end (entries (batches_of state))) };
+
+    /// The record batches of its log, lent: from the one that holds an offset on, as many as have
+    /// at most `max` bytes in all, and at least one where there is one. So a log is copied further,
+    /// each time from the end of the copy on.
+    fn batches_from(&self, from: i64, max: u32) -> LogSlices<'_>
+        ensures { (state : NodeState) → stands state self.now
+            → result ≡ sliced (batches_of state) from (pos greatest_offset) max };
 }
 
 /// A machine on a store that is made to fail.

@@ -6,7 +6,7 @@ use std::alloc::{AllocError, Global};
 use std::marker::Model;
 
 /// Messages in the order in which they are handed out.
-#[derive(Drop)]
+#[derive(PartialEq, Eq, Drop)]
 pub struct Messages {
     items: Vec<Message>,
 }

@@ -17,7 +17,7 @@ pub use kx_message::{
     Timeout, TxnId, TxnOffsetCommit, ValueFault, WriteMarker, code, message, outcome, payload,
     replies, requests,
 };
-pub use writing::{put_frame, put_held, put_name};
+pub use writing::{frame_of, put_frame, put_held, put_name};
 
 mod fault;
 mod fields;
