@@ -73,18 +73,6 @@ frame_again m rest h =
     ∙ number_again n (kind_of m ∷ (t ++ rest)) (omega arith) (omega arith)
     ∙ length_again m rest h.ranges
 
------- a frame tells its message
-
-whole_is : (a b : Message) (rest : List ℕ) → Whole a rest ≡ Whole b rest → a ≡ b
-whole_is a b rest e = cc
-
-pub frames_apart : (a b : Message) → IsSendable a → IsSendable b → frame_text a ≡ frame_text b
-    → a ≡ b
-frames_apart a b first second same =
-    whole_is a b [] (sym (frame_again a [] first)
-    ∙ ap (λ (text : List ℕ). frame_at (text ++ [])) same
-    ∙ frame_again b [] second)
-
 ------ what is read is spelled so
 
 pub bad_not_whole : (f : FrameFault) (m : Message) (rest : List ℕ) → Bad f ≡ Whole m rest → ⊥
@@ -95,6 +83,14 @@ more_not_whole m rest e = absurd cc
 
 pub whole_is : (m n : Message) (r s : List ℕ) → Whole m r ≡ Whole n s → (m ≡ n) × (r ≡ s)
 whole_is m n r s e = (cc, cc)
+
+-- a frame tells its message
+pub frames_apart : (a b : Message) → IsSendable a → IsSendable b → frame_text a ≡ frame_text b
+    → a ≡ b
+frames_apart a b first second same =
+    let read = sym (frame_again a [] first)
+    ∙ ap (λ (text : List ℕ). frame_at (text ++ [])) same ∙ frame_again b [] second in
+    (whole_is a b [] [] read).0
 
 fields_take : (o : Option Message) (r : List ℕ) (m : Message) (rest : List ℕ)
     → of_fields o r ≡ Whole m rest → (o ≡ Some m) × (r ≡ rest)
