@@ -6,7 +6,7 @@ use std::alloc::{AllocError, Global};
 use std::marker::Model;
 
 /// Messages in the order in which they are handed out.
-#[derive(PartialEq, Eq, Drop)]
+#[derive(Drop)]
 pub struct Messages {
     items: Vec<Message>,
 }

@@ -31,7 +31,7 @@ pub enum Note {
 }
 
 /// What a node answers to one input.
-#[derive(PartialEq, Eq, Drop)]
+#[derive(Drop)]
 pub struct Taken {
     /// The messages that it hands out.
     pub messages: Messages,

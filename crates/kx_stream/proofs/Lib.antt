@@ -1,0 +1,4 @@
+mod Pieces
+mod Sending
+mod Serving
+mod Streams

@@ -1,0 +1,4 @@
+pub mod Faults
+pub mod Sending
+pub mod Serving
+pub mod Stream
