@@ -1,4 +1,4 @@
 mod Pieces
-mod Sending
-mod Serving
+mod Rows
 mod Streams
+mod Writing

@@ -13,8 +13,8 @@ use Rattle.kx_stream.specs.Serving.{Serves}
 use Rattle.kx_stream.specs.Stream.{AllServed, Breaks, Ends, PieceServed, Served}
 use Rattle.kx_stream.specs.declared.fault.StreamFault.{StreamFault}
 use Rattle.kx_stream.specs.declared.fault.StreamFault.TheVariants.{Read, Write, Frame}
-use Rattle.kx_stream.proofs.Sending.{frames-append}
-use Rattle.kx_stream.proofs.Serving.{serves_none}
+use Rattle.kx_stream.proofs.Writing.{frames-append}
+use Rattle.kx_stream.proofs.Rows.{serves_none}
 use Rattle.kx_wire.specs.Frames.{Bad, Fed, Front, More, Reads, Faulty, Over, Splits, Stands, Stream}
 use Rattle.kx_wire.specs.Frames.{Whole, frame_at}
 use Rattle.kx_wire.specs.declared.fault.FrameFault.{FrameFault}

@@ -15,8 +15,8 @@ use Rattle.kx_stream.specs.Stream.{Breaks, Ends, PieceServed, Served}
 use Rattle.kx_stream.specs.declared.fault.StreamFault.{StreamFault}
 use Rattle.kx_stream.specs.declared.fault.StreamFault.TheVariants.{Read, Write, Frame}
 use Rattle.kx_stream.proofs.Pieces.{all_both}
-use Rattle.kx_stream.proofs.Sending.{appends_both, cut_behind, frames-append}
-use Rattle.kx_stream.proofs.Serving.{serves_both, serves_none}
+use Rattle.kx_stream.proofs.Writing.{appends_both, cut_behind, frames-append}
+use Rattle.kx_stream.proofs.Rows.{serves_both, serves_none}
 use Rattle.kx_wire.specs.Frames.{More, Reads, Stream, frame_at}
 use Rattle.kx_wire.specs.declared.fault.FrameFault.{FrameFault}
 

@@ -1,5 +1,5 @@
 //! The stream itself.
-ghost use Rattle.std.specs.Prelude.{◌≡◌, ◌×◌, ◌≢◌, ℕ, List, [], OnOk};
+ghost use Rattle.std.specs.Prelude.{◌≡◌, ℕ, List, OnOk};
 ghost use Rattle.std.specs.Io.KnownBytes.{Consumes, IsAtEnd};
 ghost use Rattle.kx_stream.specs.Stream.{PieceServed, Served};
 ghost use Rattle.kx_wire.specs.Frames.{Reads};

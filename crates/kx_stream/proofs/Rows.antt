@@ -11,7 +11,7 @@ use Rattle.kx_stream.specs.Serving.{Answers, Serves}
 use Rattle.kx_stream.specs.Stream.{AllServed, OneServed}
 use Rattle.kx_stream.specs.declared.fault.StreamFault.{StreamFault}
 use Rattle.kx_stream.specs.declared.fault.StreamFault.TheVariants.{Read, Write, Frame}
-use Rattle.kx_stream.proofs.Sending.{appends_both, cut_behind}
+use Rattle.kx_stream.proofs.Writing.{appends_both, cut_behind}
 
 module _ {M : Type 0} (stands : NodeState → M → Type 0) (allows : M → Store → Type 0) where
 
