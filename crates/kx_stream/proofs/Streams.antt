@@ -4,7 +4,7 @@ use Rattle.std.proofs.Common.{◌∙◌, subst, append_assoc, inl, inr}
 use Rattle.std.specs.List.{AllByRecursion}
 use Rattle.std.specs.Prelude.{OnOk}
 use Rattle.std.specs.Io.KnownBytes.{Appends, Consumes}
-use Rattle.std.proofs.Io.KnownBytes.{Appends-nil, Consumes-nil, Consumes-trans}
+use Rattle.std.proofs.KnownBytes.{Appends-nil, Consumes-nil, Consumes-trans}
 use Rattle.kx_machine.specs.Meaning.{NodeState}
 use Rattle.kx_message.specs.Message.{IsSendable}
 use Rattle.kx_message.specs.declared.message.Message.{Message}

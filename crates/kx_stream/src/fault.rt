@@ -1,6 +1,7 @@
 //! Why a stream isn't served further.
 ghost use Rattle.std.specs.Prelude.{◌≡◌};
 ghost use Rattle.kx_stream.specs.Faults.{number_of};
+ghost use Rattle.kx_stream.specs.declared.fault.StreamFault.TheVariants.{Frame};
 ghost use Rattle.kx_wire.specs.declared.fault.FrameFault.TheVariants.{Memory};
 
 use kx_wire::FrameFault;
@@ -40,7 +41,7 @@ impl StreamFault {
 
 /// A fault of a frame.
 impl From<FrameFault> for StreamFault {
-    ghost from_gives = { λ frame fault. fault ≡ StreamFault.Frame frame };
+    ghost from_gives = { λ frame fault. fault ≡ Frame frame };
 
     fn from(fault: FrameFault) -> Self {
         StreamFault::Frame(fault)
@@ -49,7 +50,7 @@ impl From<FrameFault> for StreamFault {
 
 /// Want of memory, as a frame has it.
 impl From<AllocError> for StreamFault {
-    ghost from_gives = { λ refused fault. fault ≡ StreamFault.Frame Memory };
+    ghost from_gives = { λ refused fault. fault ≡ Frame Memory };
 
     fn from(_: AllocError) -> Self {
         StreamFault::Frame(FrameFault::Memory)
