@@ -1,6 +1,6 @@
 -- A piece of a stream, and what stands behind its messages.
 use Rattle.std.proofs.Common.{◌≡◌, ◌≢◌, ℕ, List, [], ◌∷◌, ◌++◌, Option, Result, Ok, Err, refl, sym}
-use Rattle.std.proofs.Common.{ap, ◌∙◌, subst, append_assoc, append-nil, inl, inr}
+use Rattle.std.proofs.Common.{ap, ◌∙◌, ◌⊎◌, subst, append_assoc, append-nil, inl, inr}
 use Rattle.std.specs.List.{AllByRecursion}
 use Rattle.std.specs.Io.KnownBytes.{Appends}
 use Rattle.std.proofs.KnownBytes.{Appends-nil}
@@ -20,11 +20,11 @@ use Rattle.kx_wire.specs.Frames.{Whole, frame_at}
 use Rattle.kx_wire.specs.declared.fault.FrameFault.{FrameFault}
 use Rattle.kx_wire.specs.declared.fault.FrameFault.TheVariants as fault
 
-err_is : {T E : Type 0} {a b : E} → Err {T} a ≡ Err b → a ≡ b
-err_is e = cc
+one_fault : {T E : Type 0} (r : Result T E) (a b : E) → r ≡ Err a → r ≡ Err b → a ≡ b
+one_fault r a b first second = cc
 
-ok_not_err : {T E : Type 0} {x : T} {a : E} → Ok x ≡ Err a → ⊥
-ok_not_err e = cc
+no_fault : {T E : Type 0} (r : Result T E) (x : T) (a : E) → r ≡ Ok x → r ≡ Err a → ⊥
+no_fault r x a first second = cc
 
 all_front : {A : Type 0} (P : A → Type 0) (xs ys : List A) → AllByRecursion P (xs ++ ys)
     → AllByRecursion P xs
@@ -38,34 +38,37 @@ all_both P (x ∷ xs) ys first second = (first.0, all_both P xs ys first.1 secon
 
 ------ what asking for nothing more tells
 
-abbrev Quiet : Stream → Result (List Message) FrameFault → Stream → Type 0
-Quiet mid answer new = (partial : List ℕ) → mid ≡ Reads partial → [] {ℕ} ≡ []
+abbrev Quiet : Stream → List ℕ → Result (List Message) FrameFault → Stream → Type 0
+Quiet mid piece answer new = (partial : List ℕ) → mid ≡ Reads partial → piece ≡ []
     → (answer ≡ Ok []) × (new ≡ mid)
 
 -- a fault is that of the frame that stands there
-pub is_told : (front : Front) (messages : List Message) (rest : List ℕ) (mid new : Stream)
+pub is_told : (front : Front) (messages : List Message) (rest piece : List ℕ) (mid new : Stream)
     (answer : Result (List Message) FrameFault) (f : FrameFault) → Stands front messages rest mid
-    → Fed mid [] answer new → Quiet mid answer new → answer ≡ Err f → front ≡ Bad f
-is_told (Whole m behind) messages rest mid new answer f stands fed quiet told = absurd stands
-is_told (Bad g) messages rest mid new answer f stands fed quiet told =
-    let faulty : Fed (Faulty g) [] answer new =
-    subst (λ (s : Stream). Fed s [] answer new) stands.1 fed in
-    ap (λ (x : FrameFault). Bad x) (err_is (sym faulty.0 ∙ told))
-is_told More messages rest mid new answer f stands fed quiet told =
-    absurd (ok_not_err (sym (quiet rest stands refl).0 ∙ told))
+    → Fed mid piece answer new → Quiet mid piece answer new → piece ≡ [] → answer ≡ Err f
+    → front ≡ Bad f
+is_told (Whole m behind) messages rest piece mid new answer f stands fed quiet none told =
+    absurd stands
+is_told (Bad g) messages rest piece mid new answer f stands fed quiet none told =
+    let faulty : Fed (Faulty g) piece answer new =
+    subst (λ (s : Stream). Fed s piece answer new) stands.1 fed in
+    ap (λ (x : FrameFault). Bad x) (one_fault answer g f faulty.0 told)
+is_told More messages rest piece mid new answer f stands fed quiet none told =
+    absurd (no_fault answer [] f (quiet rest stands none).0 told)
 
 -- without one, less than a frame stands there, and is held back
-pub is_quiet : (front : Front) (messages more : List Message) (rest : List ℕ) (mid new : Stream)
-    (answer : Result (List Message) FrameFault) → Stands front messages rest mid
-    → Fed mid [] answer new → Quiet mid answer new → answer ≡ Ok more
-    → (front ≡ More) × (new ≡ Reads rest)
-is_quiet (Whole m behind) messages more rest mid new answer stands fed quiet told = absurd stands
-is_quiet (Bad g) messages more rest mid new answer stands fed quiet told =
-    let faulty : Fed (Faulty g) [] answer new =
-    subst (λ (s : Stream). Fed s [] answer new) stands.1 fed in
-    absurd (ok_not_err (sym told ∙ faulty.0))
-is_quiet More messages more rest mid new answer stands fed quiet told =
-    (refl, (quiet rest stands refl).1 ∙ stands)
+pub is_quiet : (front : Front) (messages more : List Message) (rest piece : List ℕ)
+    (mid new : Stream) (answer : Result (List Message) FrameFault)
+    → Stands front messages rest mid → Fed mid piece answer new → Quiet mid piece answer new
+    → piece ≡ [] → answer ≡ Ok more → (front ≡ More) × (new ≡ Reads rest)
+is_quiet (Whole m behind) messages more rest piece mid new answer stands fed quiet none told =
+    absurd stands
+is_quiet (Bad g) messages more rest piece mid new answer stands fed quiet none told =
+    let faulty : Fed (Faulty g) piece answer new =
+    subst (λ (s : Stream). Fed s piece answer new) stands.1 fed in
+    absurd (no_fault answer more g told faulty.0)
+is_quiet More messages more rest piece mid new answer stands fed quiet none told =
+    (refl, (quiet rest stands none).1 ∙ stands)
 
 ------ a piece
 
@@ -131,7 +134,7 @@ module _ {M : Type 0} (stands : NodeState → M → Type 0) (allows : M → Stor
     held = tt;
   }
 
-  all_served : (bytes rest : List ℕ) (messages : List Message) (before after : M)
+  abbrev all_served : (bytes rest : List ℕ) (messages : List Message) (before after : M)
       (old new : Option (List ℕ)) (result : Result (Unit {0}) StreamFault)
       → Splits bytes messages rest
       → (all : AllServed stands allows messages before after old new (Ok tt))

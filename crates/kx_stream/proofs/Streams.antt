@@ -7,6 +7,7 @@ use Rattle.std.specs.Io.KnownBytes.{Appends, Consumes}
 use Rattle.std.proofs.KnownBytes.{Appends-nil, Consumes-nil, Consumes-trans}
 use Rattle.kx_machine.specs.Meaning.{NodeState}
 use Rattle.kx_message.specs.Message.{IsSendable}
+use Rattle.kx_message.specs.Reader.{unsigned}
 use Rattle.kx_message.specs.declared.message.Message.{Message}
 use Rattle.kx_model.specs.Disk.{Store}
 use Rattle.kx_stream.specs.Sending.{frames}
@@ -21,7 +22,7 @@ use Rattle.kx_wire.specs.Frames.{More, Reads, Stream, frame_at}
 use Rattle.kx_wire.specs.declared.fault.FrameFault.{FrameFault}
 
 nothing_is_less : frame_at [] ≡ More
-unfolding frame_at
+unfolding frame_at unsigned
 nothing_is_less = refl
 
 module _ {M : Type 0} (stands : NodeState → M → Type 0) (allows : M → Store → Type 0) where
