@@ -1,6 +1,10 @@
 -- Messages in a row, and what a machine hands out for them.
-use Rattle.std.proofs.Common.{◌≡◌, ℕ, List, [], ◌∷◌, ◌++◌, Option, Result, Ok, Err, refl, sym, ap}
-use Rattle.std.proofs.Common.{◌∙◌, subst, append_assoc, append-nil}
+use Rattle.std.proofs.Common.{◌≡◌, ◌≤◌, ℕ, List, [], ◌∷◌, ◌++◌, Option, Result, Ok, Err, refl, sym, ap}
+use Rattle.std.proofs.Common.{◌∙◌, ◌+◌, ◌<◌, suc, length, drop, subst, append_assoc, append-nil, arith}
+use Rattle.std.proofs.Common.{get_or}
+use Rattle.std.specs.Prelude.{take}
+use Rattle.std.proofs.Math.Seq.{take-suc}
+use Rattle.std.proofs.lemmas.List.{take-append-drop, take_all}
 use Rattle.std.specs.Io.KnownBytes.{Appends}
 use Rattle.std.proofs.KnownBytes.{Appends-nil}
 use Rattle.kx_machine.specs.Meaning.{NodeState}
@@ -12,6 +16,22 @@ use Rattle.kx_stream.specs.Stream.{AllServed, OneServed}
 use Rattle.kx_stream.specs.declared.fault.StreamFault.{StreamFault}
 use Rattle.kx_stream.specs.declared.fault.StreamFault.TheVariants.{Read, Write, Frame}
 use Rattle.kx_stream.proofs.Writing.{appends_both, cut_behind}
+
+-- those up to a place, with the one that stands there
+pub split_at : (all : List Message) (at : ℕ) (x : Message) → (at < length all)
+    → x ≡ get_or all at x
+    → (take (at + 1) all ≡ take at all ++ x ∷ [])
+    × (all ≡ (take at all ++ x ∷ []) ++ drop (at + 1) all)
+split_at all at x within is =
+    let next : at + 1 ≡ suc at = omega arith in
+    let longer : take (at + 1) all ≡ take at all ++ x ∷ [] =
+    ap (λ (n : ℕ). take n all) next ∙ take-suc all at x within
+    ∙ ap (λ (e : Message). take at all ++ e ∷ []) (sym is) in
+    (longer, sym (take-append-drop (at + 1) all)
+    ∙ ap (λ (l : List Message). l ++ drop (at + 1) all) longer)
+
+pub taken_all : (all : List Message) (at : ℕ) → length all ≤ at → take at all ≡ all
+taken_all all at enough = take_all at all enough
 
 module _ {M : Type 0} (stands : NodeState → M → Type 0) (allows : M → Store → Type 0) where
 
