@@ -29,8 +29,7 @@ returns-in_err-serve_all g c = λ partial e.
     let f = c.in_err-serve_all.field-0.0 in
     let p = err_from_is_err_and c.from_residual-in_err-serve_all.result
     c.from_residual-in_err-serve_all.ensures.1 in
-    let fed : Fed _ piece (Ok messages) c.feed.new.self =
-    subst (λ (s : Stream). Fed s piece (Ok messages) c.feed.new.self) e
+    let fed = subst (λ (s : Stream). Fed s piece (Ok messages) c.feed.new.self) e
     c.in_ok-messages.ensures.fed in
     let all = subst (λ (l : List Message). AllServed g.M.Machine.stands g.M.Machine.allows l
     c.args.machine.now c.serve_all.new.machine old new (Err f)) c.as_slice.ensures.value
