@@ -3,7 +3,7 @@ use Rattle.std.proofs.Common.{◌≡◌, ℕ, List, [], ◌∷◌, ◌++◌, Opt
 use Rattle.std.proofs.Common.{◌∙◌, subst, append_assoc, inl, inr}
 use Rattle.std.specs.List.{AllByRecursion}
 use Rattle.std.specs.Prelude.{OnOk}
-use Rattle.std.specs.Io.KnownBytes.{Appends, Consumes}
+use Rattle.std.specs.Io.KnownBytes.{Appends, Consumes, IsAtEnd}
 use Rattle.std.proofs.KnownBytes.{Appends-nil, Consumes-nil, Consumes-trans}
 use Rattle.kx_machine.specs.Meaning.{NodeState}
 use Rattle.kx_message.specs.Message.{IsSendable}
@@ -15,11 +15,12 @@ use Rattle.kx_stream.specs.Serving.{Serves}
 use Rattle.kx_stream.specs.Stream.{Breaks, Ends, PieceServed, Served}
 use Rattle.kx_stream.specs.declared.fault.StreamFault.{StreamFault}
 use Rattle.kx_stream.specs.declared.fault.StreamFault.TheVariants.{Read, Write, Frame}
-use Rattle.kx_stream.proofs.Pieces.{all_both}
+use Rattle.kx_stream.proofs.Pieces.{all_both, nothing_served}
 use Rattle.kx_stream.proofs.Writing.{appends_both, cut_behind, frames-append}
 use Rattle.kx_stream.proofs.Rows.{serves_both, serves_none}
 use Rattle.kx_wire.specs.Frames.{More, Reads, Stream, frame_at}
 use Rattle.kx_wire.specs.declared.fault.FrameFault.{FrameFault}
+use Rattle.kx_wire.specs.declared.fault.FrameFault.TheVariants as fault
 
 nothing_is_less : frame_at [] ≡ More
 unfolding frame_at unsigned
@@ -91,9 +92,62 @@ module _ {M : Type 0} (stands : NodeState → M → Type 0) (allows : M → Stor
             served.ends.1 more.ends;
       }, p.held)
 
-  -- a stream that ends where something was read
-  abbrev pub Ended : M → M → Option (List ℕ) → Option (List ℕ) → Option (List ℕ)
-      → Option (List ℕ) → Result (Unit {0}) StreamFault → Type 0
-  Ended before after input left old new result =
-      (read : List ℕ) × Consumes input left read
+  -- one more piece is served
+  pub along_more : (before mid after : M) (input now left old known new : Option (List ℕ))
+      (piece : List ℕ) (stream next : Stream) → Along before mid input now old known stream
+      → Consumes now left piece
+      → ((partial : List ℕ) → stream ≡ Reads partial
+      → PieceServed stands allows partial piece mid after next known new (Ok tt))
+      → Along before after input left old new next
+  along_more before mid after input now left old known new piece stream next along taken more =
+      let both = served_more before mid after old known new along.read piece next (Ok tt)
+      along.served (more along.served.behind along.held) in
+      record {
+        read = along.read ++ piece;
+        consumed = Consumes-trans input now left along.read piece along.consumed taken;
+        served = both.0;
+        held = both.1;
+      }
+
+  -- a piece ends it
+  pub ended : (before mid after : M) (input now left old known new : Option (List ℕ))
+      (piece : List ℕ) (stream next : Stream) (fault : StreamFault)
+      (result : Result (Unit {0}) StreamFault) → Along before mid input now old known stream
+      → Consumes now left piece
+      → ((partial : List ℕ) → stream ≡ Reads partial
+      → PieceServed stands allows partial piece mid after next known new (Err fault))
+      → result ≡ Err fault
+      → (read : List ℕ) × Consumes input left read × OnOk result (IsAtEnd left)
       × Served stands allows read before after old new result
+  ended before mid after input now left old known new piece stream next fault result along taken
+      more is =
+      let both = served_more before mid after old known new along.read piece next (Err fault)
+      along.served (more along.served.behind along.held) in
+      subst (λ (r : Result (Unit {0}) StreamFault). (read : List ℕ) × Consumes input left read
+      × OnOk r (IsAtEnd left) × Served stands allows read before after old new r) (sym is)
+      (along.read ++ piece,
+      Consumes-trans input now left along.read piece along.consumed taken, tt, both.0)
+
+  -- the reader fails
+  pub read_fails : (read : List ℕ) (before after : M) (old new : Option (List ℕ))
+      → Served stands allows read before after old new (Ok tt)
+      → Served stands allows read before after old new (Err Read)
+  read_fails read before after old new served = record {
+    messages = served.messages;
+    behind = served.behind;
+    parts = served.parts;
+    each = served.each;
+    handed = served.handed;
+    serves = served.serves;
+    ends = served.ends.1;
+  }
+
+  -- there is no memory to begin with
+  pub no_memory : (m : M) (input known : Option (List ℕ))
+      (result : Result (Unit {0}) StreamFault) → result ≡ Err (Frame fault.Memory)
+      → (read : List ℕ) × Consumes input input read × OnOk result (IsAtEnd input)
+      × Served stands allows read m m known known result
+  no_memory m input known result is =
+      subst (λ (r : Result (Unit {0}) StreamFault). (read : List ℕ) × Consumes input input read
+      × OnOk r (IsAtEnd input) × Served stands allows read m m known known r) (sym is)
+      ([], Consumes-nil input, tt, nothing_served stands allows [] m known fault.Memory (inr refl))
