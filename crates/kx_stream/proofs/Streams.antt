@@ -1,6 +1,6 @@
 -- A stream, piece by piece.
 use Rattle.std.proofs.Common.{◌≡◌, ℕ, List, [], ◌∷◌, ◌++◌, Option, Result, Ok, Err, refl, sym, ap}
-use Rattle.std.proofs.Common.{◌∙◌, subst, append_assoc, inl, inr}
+use Rattle.std.proofs.Common.{◌∙◌, subst, append_assoc, append-nil, inl, inr, take}
 use Rattle.std.specs.List.{AllByRecursion}
 use Rattle.std.specs.Prelude.{OnOk}
 use Rattle.std.specs.Io.KnownBytes.{Appends, Consumes, IsAtEnd}
@@ -25,6 +25,13 @@ use Rattle.kx_wire.specs.declared.fault.FrameFault.TheVariants as fault
 nothing_is_less : frame_at [] ≡ More
 unfolding frame_at unsigned
 nothing_is_less = refl
+
+-- a read that gave nothing
+pub gave_nothing : (a b c : Option (List ℕ)) (read buf : List ℕ) (count : ℕ) → Consumes a b read
+    → Consumes b c (take count buf) → count ≡ 0 → Consumes a c read
+gave_nothing a b c read buf count first second none =
+    let still = subst (λ (n : ℕ). Consumes b c (take n buf)) none second in
+    subst (Consumes a c) (append-nil read) (Consumes-trans a b c read [] first still)
 
 module _ {M : Type 0} (stands : NodeState → M → Type 0) (allows : M → Store → Type 0) where
 

@@ -1,13 +1,15 @@
 use Rattle.std.proofs.Common.{◌≡◌, ◌∙◌, ◌++◌, [], ℕ, List, Option, Result, Ok, Err, ap, subst, sym, refl}
-use Rattle.std.proofs.Common.{◌<◌, length, take, inl, inr, arith}
+use Rattle.std.proofs.Common.{length, take, drop, arith}
 use Rattle.std.specs.Prelude.{OnOk}
 use Rattle.std.specs.Io.KnownBytes.{Consumes, IsAtEnd}
-use Rattle.std.proofs.KnownBytes.{Appends-nil, Consumes-kept, Consumes-nil, Consumes-trans}
+use Rattle.std.proofs.KnownBytes.{Consumes-kept}
+use Rattle.std.proofs.lemmas.List.{take_at}
 use Rattle.std.proofs.lemmas.Result.{err_from_is_err_and}
 use Rattle.kx_stream.specs.Stream.{PieceServed, Served}
 use Rattle.kx_stream.specs.declared.fault.StreamFault.{StreamFault}
 use Rattle.kx_stream.specs.declared.fault.StreamFault.TheVariants.{Read}
-use Rattle.kx_stream.proofs.Streams.{Along, along_more, along_start, ended, no_memory, read_fails}
+use Rattle.kx_stream.proofs.Streams.{Along, along_more, along_start, ended, gave_nothing, no_memory}
+use Rattle.kx_stream.proofs.Streams.{read_fails}
 use Rattle.kx_wire.specs.Frames.{Reads}
 use Rattle.kx_stream.proofs.stream.serve_stream.Goals as goal
 
@@ -23,7 +25,7 @@ loop-init g c = (
   along_start g.M.Machine.stands g.M.Machine.allows c.args.machine.now
       (g.R.Read.remaining c.args.reader.now) (g.W.Write.contents c.args.writer.now)
       c.new-frames.result c.new-frames.ensures,
-  (let x : ⊥ = c.in_ok-piece.ensures.len in let y : ⊥ = c.in_ok-piece.piece.ok in x),
+  omega (arith, c.in_ok-piece.piece.ok.0, c.in_ok-piece.ensures.len),
 )
 
 pub returns-in_default : goal.returns-in_default
@@ -36,13 +38,49 @@ returns-in_default g c =
 pub returns-then-count-eq0 : goal.returns-then-count-eq0
 returns-then-count-eq0 g c =
     let along = c.loop.invariant.0 in
+    let bytes = c.in-Ok.ensures.bytes in
     (along.read,
-    (let x : ⊥ = c.in-Ok.ensures.bytes in let y : ⊥ = c.deref_mut.ensures.len in let z : ⊥ = c.read.auto.buf in let w : ⊥ = c.loop.piece.ok in x),
-    ?,
+    gave_nothing (g.R.Read.remaining c.args.reader.now) (g.R.Read.remaining c.loop.reader)
+    (g.R.Read.remaining c.read.new.self) along.read c.read.new.buf c.in-Ok.count along.consumed
+    bytes.0 c.if-count-eq0.true,
+    bytes.1 c.if-count-eq0.true (omega (arith, c.read.auto.buf, c.deref_mut.ensures.len,
+    c.loop.piece.ok.0, c.loop.invariant.1)),
     along.served)
 
 pub returns-in_err-serve_piece : goal.returns-in_err-serve_piece
-returns-in_err-serve_piece g c = ?
+returns-in_err-serve_piece g c =
+    let buf = c.read.new.buf in
+    let left = g.R.Read.remaining c.read.new.self in
+    let same = c.deref.ensures.value ∙ take_at buf _ c.loop.piece.len
+    (omega (arith, c.read.auto.buf, c.deref_mut.ensures.len)) in
+    let p = err_from_is_err_and c.from_residual-in_err-serve_piece.result
+    c.from_residual-in_err-serve_piece.ensures.1 in
+    ended g.M.Machine.stands g.M.Machine.allows c.args.machine.now c.loop.machine
+    c.serve_piece.new.machine (g.R.Read.remaining c.args.reader.now)
+    (g.R.Read.remaining c.loop.reader) left (g.W.Write.contents c.args.writer.now)
+    (g.W.Write.contents c.loop.writer) (g.W.Write.contents c.serve_piece.new.writer) _
+    c.loop.frames c.serve_piece.new.frames c.in_err-serve_piece.field-0.0
+    c.from_residual-in_err-serve_piece.result c.loop.invariant.0
+    (subst (λ (l : List ℕ). Consumes (g.R.Read.remaining c.loop.reader) left
+    (take c.in-Ok.count l)) (sym same) c.in-Ok.ensures.bytes.0)
+    c.in_err-serve_piece.ensures (p.1 ∙ ap Err p.2)
 
 pub loop-preserved : goal.loop-preserved
-loop-preserved g c = ?
+loop-preserved g c =
+    let buf = c.read.new.buf in
+    let left = g.R.Read.remaining c.read.new.self in
+    let whole = take_at buf (drop (length buf) c.loop.piece.items) c.loop.piece.len
+    (omega (arith, c.read.auto.buf, c.deref_mut.ensures.len)) in
+    let same = c.deref.ensures.value ∙ whole in
+    (
+      along_more g.M.Machine.stands g.M.Machine.allows c.args.machine.now c.loop.machine
+          c.serve_piece.new.machine (g.R.Read.remaining c.args.reader.now)
+          (g.R.Read.remaining c.loop.reader) left (g.W.Write.contents c.args.writer.now)
+          (g.W.Write.contents c.loop.writer) (g.W.Write.contents c.serve_piece.new.writer) _
+          c.loop.frames c.serve_piece.new.frames c.loop.invariant.0
+          (subst (λ (l : List ℕ). Consumes (g.R.Read.remaining c.loop.reader) left
+          (take c.in-Ok.count l)) (sym same) c.in-Ok.ensures.bytes.0)
+          c.in_ok-serve_piece.ensures,
+      omega (arith, ap length whole, c.read.auto.buf, c.deref_mut.ensures.len,
+          c.loop.piece.ok.0, c.loop.invariant.1),
+    )
