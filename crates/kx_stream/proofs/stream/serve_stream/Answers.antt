@@ -51,8 +51,9 @@ pub returns-in_err-serve_piece : goal.returns-in_err-serve_piece
 returns-in_err-serve_piece g c =
     let buf = c.read.new.buf in
     let left = g.R.Read.remaining c.read.new.self in
-    let same = c.deref.ensures.value ∙ take_at buf _ c.loop.piece.len
+    let whole = take_at buf (drop (length buf) c.loop.piece.items) c.loop.piece.len
     (omega (arith, c.read.auto.buf, c.deref_mut.ensures.len)) in
+    let same = c.deref.ensures.value ∙ whole in
     let p = err_from_is_err_and c.from_residual-in_err-serve_piece.result
     c.from_residual-in_err-serve_piece.ensures.1 in
     ended g.M.Machine.stands g.M.Machine.allows c.args.machine.now c.loop.machine
