@@ -11,6 +11,7 @@ use kx_cases_formats::{BatchCases, FrameCases, NumberCases, ValueCases};
 use kx_cases_groups::{GroupCases, GuardCases, OffsetCases};
 use kx_cases_logs::{AbortedCases, EntryCases, LogCases, OpenCases, ProducerCases, TxnLogCases};
 use kx_cases_nodes::{CoordinatorNode, Dumps, PartitionNode, Replies, Scripts, try_pair};
+use kx_cases_streams::StreamCases;
 use std::process::ExitCode;
 use std::rt::Files;
 use std::{env, fs, io};
@@ -66,6 +67,7 @@ fn try_nodes(rt: &(impl Print + AllocGlobal), front: &str, text: &str) -> io::Re
         "reply" => try_cases::<Replies>(rt, text),
         "script" => try_cases::<Scripts>(rt, text),
         "dump" => try_cases::<Dumps>(rt, text),
+        "streams" => try_cases::<StreamCases>(rt, text),
         _ => {
             println!(rt; "FAILED {front}")?;
             Ok(Tally {

@@ -73,7 +73,6 @@ is_quiet More messages more rest piece mid new answer stands fed quiet none told
 ------ a piece
 
 module _ {M : Type 0} (stands : NodeState → M → Type 0) (allows : M → Store → Type 0) where
-
   pub nothing_served : (bytes : List ℕ) (m : M) (known : Option (List ℕ)) (f : FrameFault)
       → (frame_at bytes ≡ Bad f) ⊎ (f ≡ fault.Memory)
       → Served stands allows bytes m m known known (Err (Frame f))

@@ -26,15 +26,16 @@ split_at all at x within is =
     let next : at + 1 ≡ suc at = omega arith in
     let longer : take (at + 1) all ≡ take at all ++ x ∷ [] =
     ap (λ (n : ℕ). take n all) next ∙ take-suc all at x within
-    ∙ ap (λ (e : Message). take at all ++ e ∷ []) (sym is) in
-    (longer, sym (take-append-drop (at + 1) all)
-    ∙ ap (λ (l : List Message). l ++ drop (at + 1) all) longer)
+    ∙ ap (λ (e : Message). take at all ++ e ∷ []) (sym is) in (
+      longer,
+      sym (take-append-drop (at + 1) all)
+          ∙ ap (λ (l : List Message). l ++ drop (at + 1) all) longer,
+    )
 
 pub taken_all : (all : List Message) (at : ℕ) → length all ≤ at → take at all ≡ all
 taken_all all at enough = take_all at all enough
 
 module _ {M : Type 0} (stands : NodeState → M → Type 0) (allows : M → Store → Type 0) where
-
   abbrev Serving : M → List Message → List Message → M → Type 0
   Serving = Serves stands allows
 

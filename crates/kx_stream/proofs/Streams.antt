@@ -34,7 +34,6 @@ gave_nothing a b c read buf count first second none =
     subst (Consumes a c) (append-nil read) (Consumes-trans a b c read [] first still)
 
 module _ {M : Type 0} (stands : NodeState → M → Type 0) (allows : M → Store → Type 0) where
-
   -- some of the stream was read, all that came of it is served and written, and the rest is held
   pub record Along (before after : M) (input left old new : Option (List ℕ)) (stream : Stream)
       : Type 0 where
@@ -81,23 +80,25 @@ module _ {M : Type 0} (stands : NodeState → M → Type 0) (allows : M → Stor
       → (more : Served stands allows (read ++ piece) before after old new result)
       × OnOk result (stream ≡ Reads more.behind)
   served_more before mid after old now new read piece stream result served p =
-      let more = p.served in
-      (record {
-        messages = served.messages ++ more.messages;
-        behind = more.behind;
-        parts = ap (λ (l : List ℕ). l ++ piece) served.parts
-            ∙ append_assoc (frames served.messages) served.behind piece
-            ∙ ap (λ (l : List ℕ). frames served.messages ++ l) more.parts
-            ∙ sym (append_assoc (frames served.messages) (frames more.messages) more.behind)
-            ∙ ap (λ (l : List ℕ). l ++ more.behind)
-            (sym (frames-append served.messages more.messages));
-        each = all_both IsSendable served.messages more.messages served.each more.each;
-        handed = served.handed ++ more.handed;
-        serves = serves_both stands allows before mid after served.messages more.messages
-            served.handed more.handed served.serves more.serves;
-        ends = ends_behind old now new more.behind served.handed more.handed result
-            served.ends.1 more.ends;
-      }, p.held)
+      let more = p.served in (
+        record {
+          messages = served.messages ++ more.messages;
+          behind = more.behind;
+          parts = ap (λ (l : List ℕ). l ++ piece) served.parts
+              ∙ append_assoc (frames served.messages) served.behind piece
+              ∙ ap (λ (l : List ℕ). frames served.messages ++ l) more.parts
+              ∙ sym (append_assoc (frames served.messages) (frames more.messages) more.behind)
+              ∙ ap (λ (l : List ℕ). l ++ more.behind)
+              (sym (frames-append served.messages more.messages));
+          each = all_both IsSendable served.messages more.messages served.each more.each;
+          handed = served.handed ++ more.handed;
+          serves = serves_both stands allows before mid after served.messages more.messages
+              served.handed more.handed served.serves more.serves;
+          ends = ends_behind old now new more.behind served.handed more.handed result
+              served.ends.1 more.ends;
+        },
+        p.held,
+      )
 
   -- one more piece is served
   pub along_more : (before mid after : M) (input now left old known new : Option (List ℕ))
@@ -131,9 +132,12 @@ module _ {M : Type 0} (stands : NodeState → M → Type 0) (allows : M → Stor
       let both = served_more before mid after old known new along.read piece next (Err fault)
       along.served (more along.served.behind along.held) in
       subst (λ (r : Result (Unit {0}) StreamFault). (read : List ℕ) × Consumes input left read
-      × OnOk r (IsAtEnd left) × Served stands allows read before after old new r) (sym is)
-      (along.read ++ piece,
-      Consumes-trans input now left along.read piece along.consumed taken, tt, both.0)
+      × OnOk r (IsAtEnd left) × Served stands allows read before after old new r) (sym is) (
+        along.read ++ piece,
+        Consumes-trans input now left along.read piece along.consumed taken,
+        tt,
+        both.0,
+      )
 
   -- the reader fails
   pub read_fails : (read : List ℕ) (before after : M) (old new : Option (List ℕ))

@@ -9,7 +9,6 @@ use Rattle.kx_model.specs.Step.{Comes}
 -- a machine is known by the nodes of the definitions for which it stands, and by what its store may
 -- do next
 module _ {M : Type 0} (stands : NodeState → M → Type 0) (allows : M → Store → Type 0) where
-
   -- it took the message by a step of the definitions, and handed these out
   pub record Takes (before : M) (message : Message) (handed : List Message) (after : M)
       : Type 0 where

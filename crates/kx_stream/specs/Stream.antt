@@ -31,7 +31,6 @@ Ends behind handed old new (Err Write) = Unit {0}
 Ends behind handed old new (Err (Frame fault)) = Breaks fault behind handed old new
 
 module _ {M : Type 0} (stands : NodeState → M → Type 0) (allows : M → Store → Type 0) where
-
   -- the bytes begin with the frames of messages, which the machine took, one after the other; what
   -- it handed out is written
   pub record Served (bytes : List ℕ) (before after : M) (old new : Option (List ℕ))

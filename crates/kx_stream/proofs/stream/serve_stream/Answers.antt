@@ -30,22 +30,31 @@ loop-init g c = (
 
 pub returns-in_default : goal.returns-in_default
 returns-in_default g c =
-    let along = c.loop.invariant.0 in
-    (along.read, Consumes-kept _ _ _ along.read along.consumed c.in_default.ensures.bytes, tt,
-    read_fails g.M.Machine.stands g.M.Machine.allows along.read c.args.machine.now c.loop.machine
-    (g.W.Write.contents c.args.writer.now) (g.W.Write.contents c.loop.writer) along.served)
+    let along = c.loop.invariant.0 in (
+      along.read,
+      Consumes-kept _ _ _ along.read along.consumed c.in_default.ensures.bytes,
+      tt,
+      read_fails g.M.Machine.stands g.M.Machine.allows along.read c.args.machine.now c.loop.machine
+          (g.W.Write.contents c.args.writer.now) (g.W.Write.contents c.loop.writer) along.served,
+    )
 
 pub returns-then-count-eq0 : goal.returns-then-count-eq0
 returns-then-count-eq0 g c =
     let along = c.loop.invariant.0 in
-    let bytes = c.in-Ok.ensures.bytes in
-    (along.read,
-    gave_nothing (g.R.Read.remaining c.args.reader.now) (g.R.Read.remaining c.loop.reader)
-    (g.R.Read.remaining c.read.new.self) along.read c.read.new.buf c.in-Ok.count along.consumed
-    bytes.0 c.if-count-eq0.true,
-    bytes.1 c.if-count-eq0.true (omega (arith, c.read.auto.buf, c.deref_mut.ensures.len,
-    c.loop.piece.ok.0, c.loop.invariant.1)),
-    along.served)
+    let bytes = c.in-Ok.ensures.bytes in (
+      along.read,
+      gave_nothing (g.R.Read.remaining c.args.reader.now) (g.R.Read.remaining c.loop.reader)
+          (g.R.Read.remaining c.read.new.self) along.read c.read.new.buf c.in-Ok.count along.consumed
+          bytes.0 c.if-count-eq0.true,
+      bytes.1 c.if-count-eq0.true (omega (
+        arith,
+        c.read.auto.buf,
+        c.deref_mut.ensures.len,
+        c.loop.piece.ok.0,
+        c.loop.invariant.1,
+      )),
+      along.served,
+    )
 
 pub returns-in_err-serve_piece : goal.returns-in_err-serve_piece
 returns-in_err-serve_piece g c =
@@ -72,8 +81,7 @@ loop-preserved g c =
     let left = g.R.Read.remaining c.read.new.self in
     let whole = take_at buf (drop (length buf) c.loop.piece.items) c.loop.piece.len
     (omega (arith, c.read.auto.buf, c.deref_mut.ensures.len)) in
-    let same = c.deref.ensures.value ∙ whole in
-    (
+    let same = c.deref.ensures.value ∙ whole in (
       along_more g.M.Machine.stands g.M.Machine.allows c.args.machine.now c.loop.machine
           c.serve_piece.new.machine (g.R.Read.remaining c.args.reader.now)
           (g.R.Read.remaining c.loop.reader) left (g.W.Write.contents c.args.writer.now)
@@ -82,6 +90,12 @@ loop-preserved g c =
           (subst (λ (l : List ℕ). Consumes (g.R.Read.remaining c.loop.reader) left
           (take c.in-Ok.count l)) (sym same) c.in-Ok.ensures.bytes.0)
           c.in_ok-serve_piece.ensures,
-      omega (arith, ap length whole, c.read.auto.buf, c.deref_mut.ensures.len,
-          c.loop.piece.ok.0, c.loop.invariant.1),
+      omega (
+        arith,
+        ap length whole,
+        c.read.auto.buf,
+        c.deref_mut.ensures.len,
+        c.loop.piece.ok.0,
+        c.loop.invariant.1,
+      ),
     )
