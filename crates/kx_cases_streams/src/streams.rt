@@ -41,7 +41,7 @@ const WHOLE: Ends = Ends {
 // The server of partition 0, whose log is empty.
 fn new_server(alloc: Global) -> Result<Server, StepFault> {
     let number = PartitionId::try_from(0).map_err(|_| StepFault::Unknown)?;
-    match PartitionMachine::new(alloc, number, MemStore::new(alloc)) {
+    match PartitionMachine::new(alloc, number, MemStore::new(Vec::new(alloc))) {
         Ok(server) => Ok(server),
         Err(_) => Err(StepFault::Unknown),
     }
