@@ -122,6 +122,7 @@ int main(int argc, char **argv)
     bench_produce();
     bench_growth();
     bench_pages();
+    bench_serve();
     bench_transactions();
     return 0;
 }

@@ -18,6 +18,9 @@ void bench_produce(void);
 void bench_growth(void);
 void bench_pages(void);
 
+/* serve.c: a stream of frames, through the server of a partition. */
+void bench_serve(void);
+
 /* txns.c: transactions of a coordinator. */
 void bench_transactions(void);
 
@@ -41,6 +44,7 @@ uint32_t kx_bench_crc32c(const uint8_t *bytes, size_t len);
 size_t kx_bench_read(const uint8_t *bytes, size_t len);
 int64_t kx_bench_produce(const uint8_t *text, size_t len, uint64_t count);
 int64_t kx_bench_pages(uint64_t transactions, uint64_t pages);
+int64_t kx_bench_serve(const uint8_t *stream, size_t len);
 int64_t kx_bench_transactions(uint64_t txns, uint64_t turns);
 
 #endif

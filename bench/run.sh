@@ -7,5 +7,5 @@ cd "$(dirname "$0")"
 work=$(mktemp -d)
 trap 'rm -rf "$work"' EXIT
 gcc -O2 -Wall -Wextra -o "$work/bench" bench.c batch.c crc.c \
-    heap.c logs.c txns.c ../crates/kx_bench/out/libkx_bench.a
+    heap.c logs.c serve.c txns.c ../crates/kx_bench/out/libkx_bench.a
 "$work/bench" "$work/batches"
