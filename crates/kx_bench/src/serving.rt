@@ -10,6 +10,7 @@ use std::io;
 use std::io::Write;
 
 // Counts the bytes that are written, and keeps none.
+#[derive(Drop)]
 struct Counting {
     count: u64,
 }

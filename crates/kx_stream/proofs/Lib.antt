@@ -1,4 +1,5 @@
 mod Pieces
+mod Replies
 mod Rows
 mod Streams
 mod Writing

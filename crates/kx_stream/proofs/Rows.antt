@@ -50,7 +50,8 @@ module _ {M : Type 0} (stands : NodeState → M → Type 0) (allows : M → Stor
   serves_both first mid last [] ys handed more none rest =
       subst (λ (l : List Message). Serving first ys (l ++ more) last) (sym none.0)
       (subst (λ m. Serving m ys more last) none.1 rest)
-  serves_both first mid last (x ∷ xs) ys handed more (next, one, others, answers, behind, parts) rest = (
+  serves_both first mid last (x ∷ xs) ys handed more (next, one, others, answers, behind, parts)
+      rest = (
     next,
     one,
     others ++ more,
@@ -66,7 +67,8 @@ module _ {M : Type 0} (stands : NodeState → M → Type 0) (allows : M → Stor
       (after, handed, [], answers, (refl, refl), sym (append-nil handed))
 
   -- these messages were served, and all that was handed out is written
-  pub record Far (front : List Message) (before after : M) (old new : Option (List ℕ)) : Type 0 where
+  pub record Far (front : List Message) (before after : M) (old new : Option (List ℕ))
+      : Type 0 where
     pub handed : List Message
     pub serves : Serving before front handed after
     pub written : Appends old new (frames handed)

@@ -20,7 +20,8 @@ frames-one x = flat_map-cons frame_text x [] ∙ append-nil (frame_text x)
 
 -- the writer took the frames of both
 pub appends_both : (old mid new : Option (List ℕ)) (xs ys : List Message)
-    → Appends old mid (frames xs) → Appends mid new (frames ys) → Appends old new (frames (xs ++ ys))
+    → Appends old mid (frames xs) → Appends mid new (frames ys)
+    → Appends old new (frames (xs ++ ys))
 appends_both old mid new xs ys first second =
     subst (Appends old new) (sym (frames-append xs ys))
     (Appends-trans old mid new (frames xs) (frames ys) first second)

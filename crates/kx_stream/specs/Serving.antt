@@ -23,7 +23,8 @@ module _ {M : Type 0} (stands : NodeState → M → Type 0) (allows : M → Stor
     pub still : (state : NodeState) → stands state before → stands state after
 
   abbrev pub Answers : M → Message → List Message → M → Type 0
-  Answers before message handed after = Takes before message handed after ⊎ Lacks before handed after
+  Answers before message handed after =
+      Takes before message handed after ⊎ Lacks before handed after
 
   -- messages in a row: what is handed out for each, one behind the other
   unfoldable pub Serves : M → List Message → List Message → M → Type 0

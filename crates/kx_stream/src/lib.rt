@@ -4,9 +4,11 @@
 #![tactic(auto)]
 
 mod fault;
+mod pages;
 mod sending;
 mod serving;
 mod stream;
 
 pub use fault::StreamFault;
+pub use pages::served_pages_are_read;
 pub use stream::serve_stream;

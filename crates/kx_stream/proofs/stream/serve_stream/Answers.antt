@@ -44,7 +44,8 @@ returns-then-count-eq0 g c =
     let bytes = c.in-Ok.ensures.bytes in (
       along.read,
       gave_nothing (g.R.Read.remaining c.args.reader.now) (g.R.Read.remaining c.loop.reader)
-          (g.R.Read.remaining c.read.new.self) along.read c.read.new.buf c.in-Ok.count along.consumed
+          (g.R.Read.remaining c.read.new.self) along.read c.read.new.buf c.in-Ok.count
+          along.consumed
           bytes.0 c.if-count-eq0.true,
       bytes.1 c.if-count-eq0.true (omega (
         arith,
