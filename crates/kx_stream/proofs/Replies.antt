@@ -33,7 +33,9 @@ row_step : (most : ℕ) (bytes : List ℕ) → 0 < length bytes → 0 < most
 unfolding row_from
 row_step most [] some room = absurd (omega arith)
 row_step zero (byte ∷ bytes) some room = absurd (omega arith)
-row_step (suc most) (byte ∷ bytes) some room = refl
+row_step (suc most) (byte ∷ bytes) some room =
+    let same : most ≡ suc most - 1 = omega arith in
+    ap (λ (n : ℕ). row_by (batch_at (byte ∷ bytes)) (row_from n)) same
 
 row_none : (most : ℕ) → row_from most [] ≡ Ok []
 unfolding row_from
