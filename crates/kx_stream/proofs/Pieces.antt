@@ -1,21 +1,20 @@
 -- A piece of a stream, and what stands behind its messages.
-use Rattle.std.proofs.Common.{◌≡◌, ◌≢◌, ℕ, List, [], ◌∷◌, ◌++◌, Option, Result, Ok, Err, refl, sym}
+use Rattle.std.proofs.Common.{◌≡◌, ℕ, List, [], ◌∷◌, ◌++◌, Option, Result, Ok, Err, refl, sym}
 use Rattle.std.proofs.Common.{ap, ◌∙◌, ◌⊎◌, subst, append_assoc, append-nil, inl, inr}
 use Rattle.std.specs.List.{AllByRecursion}
-use Rattle.std.specs.Io.KnownBytes.{Appends}
 use Rattle.std.proofs.KnownBytes.{Appends-nil}
 use Rattle.kx_machine.specs.Meaning.{NodeState}
 use Rattle.kx_message.specs.Message.{IsSendable}
 use Rattle.kx_message.specs.declared.message.Message.{Message}
 use Rattle.kx_model.specs.Disk.{Store}
-use Rattle.kx_stream.specs.Sending.{IsCut, Written, frames}
+use Rattle.kx_stream.specs.Sending.{Written, frames}
 use Rattle.kx_stream.specs.Serving.{Serves}
-use Rattle.kx_stream.specs.Stream.{AllServed, Breaks, Ends, PieceServed, Served}
+use Rattle.kx_stream.specs.Stream.{AllServed, Ends, PieceServed, Served}
 use Rattle.kx_stream.specs.declared.fault.StreamFault.{StreamFault}
 use Rattle.kx_stream.specs.declared.fault.StreamFault.TheVariants.{Read, Write, Frame}
 use Rattle.kx_stream.proofs.Writing.{frames-append}
 use Rattle.kx_stream.proofs.Rows.{serves_none}
-use Rattle.kx_wire.specs.Frames.{Bad, Fed, Front, More, Reads, Faulty, Over, Splits, Stands, Stream}
+use Rattle.kx_wire.specs.Frames.{Bad, Fed, Front, More, Reads, Faulty, Splits, Stands, Stream}
 use Rattle.kx_wire.specs.Frames.{Whole, frame_at}
 use Rattle.kx_wire.specs.declared.fault.FrameFault.{FrameFault}
 use Rattle.kx_wire.specs.declared.fault.FrameFault.TheVariants as fault

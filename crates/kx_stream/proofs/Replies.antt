@@ -1,7 +1,7 @@
 -- The page that a reply carries, read again.
 use Rattle.std.proofs.Common.{◌≡◌, ◌≤◌, ◌<◌, ◌-◌, ◌≤ℤ◌, ℕ, zero, suc, ℤ, pos, negsuc, Bool, true}
-use Rattle.std.proofs.Common.{false, cond, List, [], ◌∷◌, ◌++◌, length, map, Result, Ok, Err, refl}
-use Rattle.std.proofs.Common.{sym, ap, ◌∙◌, subst, arith, length-append}
+use Rattle.std.proofs.Common.{false, cond, List, [], ◌∷◌, length, map, Result, Ok, Err, refl}
+use Rattle.std.proofs.Common.{ap, ◌∙◌, subst, arith, length-append}
 use Rattle.std.specs.Prelude.{All, int_le, nat_lt}
 use Rattle.std.proofs.lemmas.Int.{ints}
 use Rattle.std.proofs.lemmas.List.Elements.{All-head, All-tail}
@@ -9,7 +9,7 @@ use Rattle.kx_batch.specs.Batch.{Spelled, batch_at}
 use Rattle.kx_batch.specs.declared.fault.BatchFault.{BatchFault}
 use Rattle.kx_batch.specs.declared.fault.BatchFault.TheVariants.{Records}
 use Rattle.kx_batch.proofs.Whole.{batch_again}
-use Rattle.kx_log.specs.Log.{IsLog, IsStored, texts}
+use Rattle.kx_log.specs.Log.{IsLog, texts}
 use Rattle.kx_log.specs.Row.{IsShowable, in_front, row_by, row_from, row_in}
 use Rattle.kx_log.proofs.Segments.{long}
 use Rattle.kx_message.specs.declared.code.ErrorCode.{ErrorCode}

@@ -1,5 +1,5 @@
 -- Messages in a row, and what a machine hands out for them.
-use Rattle.std.proofs.Common.{◌≡◌, ◌≤◌, ℕ, List, [], ◌∷◌, ◌++◌, Option, Result, Ok, Err, refl, sym, ap}
+use Rattle.std.proofs.Common.{◌≡◌, ◌≤◌, ℕ, List, [], ◌∷◌, ◌++◌, Option, Ok, Err, refl, sym, ap}
 use Rattle.std.proofs.Common.{◌∙◌, ◌+◌, ◌<◌, suc, length, drop, subst, append_assoc, append-nil, arith}
 use Rattle.std.proofs.Common.{get_or}
 use Rattle.std.specs.Prelude.{take}
@@ -52,13 +52,13 @@ module _ {M : Type 0} (stands : NodeState → M → Type 0) (allows : M → Stor
       (subst (λ m. Serving m ys more last) none.1 rest)
   serves_both first mid last (x ∷ xs) ys handed more (next, one, others, answers, behind, parts)
       rest = (
-    next,
-    one,
-    others ++ more,
-    answers,
-    serves_both next mid last xs ys others more behind rest,
-    ap (λ (l : List Message). l ++ more) parts ∙ append_assoc one others more,
-  )
+        next,
+        one,
+        others ++ more,
+        answers,
+        serves_both next mid last xs ys others more behind rest,
+        ap (λ (l : List Message). l ++ more) parts ∙ append_assoc one others more,
+      )
 
   pub serves_one : (before after : M) (x : Message) (handed : List Message)
       → Answers stands allows before x handed after → Serving before (x ∷ []) handed after

@@ -1,7 +1,6 @@
 -- A stream, piece by piece.
-use Rattle.std.proofs.Common.{◌≡◌, ℕ, List, [], ◌∷◌, ◌++◌, Option, Result, Ok, Err, refl, sym, ap}
+use Rattle.std.proofs.Common.{◌≡◌, ℕ, List, [], ◌++◌, Option, Result, Ok, Err, refl, sym, ap}
 use Rattle.std.proofs.Common.{◌∙◌, subst, append_assoc, append-nil, inl, inr, take}
-use Rattle.std.specs.List.{AllByRecursion}
 use Rattle.std.specs.Prelude.{OnOk}
 use Rattle.std.specs.Io.KnownBytes.{Appends, Consumes, IsAtEnd}
 use Rattle.std.proofs.KnownBytes.{Appends-nil, Consumes-nil, Consumes-trans}
@@ -11,15 +10,13 @@ use Rattle.kx_message.specs.Reader.{unsigned}
 use Rattle.kx_message.specs.declared.message.Message.{Message}
 use Rattle.kx_model.specs.Disk.{Store}
 use Rattle.kx_stream.specs.Sending.{frames}
-use Rattle.kx_stream.specs.Serving.{Serves}
-use Rattle.kx_stream.specs.Stream.{Breaks, Ends, PieceServed, Served}
+use Rattle.kx_stream.specs.Stream.{Ends, PieceServed, Served}
 use Rattle.kx_stream.specs.declared.fault.StreamFault.{StreamFault}
 use Rattle.kx_stream.specs.declared.fault.StreamFault.TheVariants.{Read, Write, Frame}
 use Rattle.kx_stream.proofs.Pieces.{all_both, nothing_served}
 use Rattle.kx_stream.proofs.Writing.{appends_both, cut_behind, frames-append}
 use Rattle.kx_stream.proofs.Rows.{serves_both, serves_none}
 use Rattle.kx_wire.specs.Frames.{More, Reads, Stream, frame_at}
-use Rattle.kx_wire.specs.declared.fault.FrameFault.{FrameFault}
 use Rattle.kx_wire.specs.declared.fault.FrameFault.TheVariants as fault
 
 nothing_is_less : frame_at [] ≡ More

@@ -1,11 +1,8 @@
-use Rattle.std.proofs.Common.{◌≡◌, ◌∙◌, ◌++◌, ◌∷◌, [], ap, subst, sym, arith, suc, ◌+◌, ℕ, List, Err}
+use Rattle.std.proofs.Common.{◌∙◌, ap, subst, sym, Err}
 use Rattle.std.proofs.Common.{Result}
 use Rattle.std.specs.Prelude.{take}
-use Rattle.std.specs.Io.KnownBytes.{Appends}
-use Rattle.std.proofs.Math.Seq.{take-suc}
-use Rattle.std.proofs.lemmas.List.{take-append-drop, take_all}
 use Rattle.std.proofs.lemmas.Result.{err_from_is_err_and}
-use Rattle.kx_stream.specs.Sending.{Written, frames}
+use Rattle.kx_stream.specs.Sending.{Written}
 use Rattle.kx_stream.specs.declared.fault.StreamFault.{StreamFault}
 use Rattle.kx_stream.proofs.Rows.{split_at}
 use Rattle.kx_stream.proofs.Writing.{sends_fail}

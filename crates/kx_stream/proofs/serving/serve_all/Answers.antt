@@ -1,4 +1,4 @@
-use Rattle.std.proofs.Common.{◌≡◌, ◌∙◌, ◌++◌, ◌∷◌, [], ap, subst, sym, arith, suc, ◌+◌, ℕ, List, Err}
+use Rattle.std.proofs.Common.{◌∙◌, ap, subst, sym, List, Err}
 use Rattle.std.proofs.Common.{Result}
 use Rattle.std.specs.Prelude.{take}
 use Rattle.std.proofs.lemmas.Result.{err_from_is_err_and}

@@ -1,4 +1,4 @@
-use Rattle.std.proofs.Common.{◌≡◌, ◌∙◌, [], List, Result, Ok, Err, ap, subst, sym, refl}
+use Rattle.std.proofs.Common.{◌∙◌, List, Result, Ok, Err, ap, subst, sym, refl}
 use Rattle.std.proofs.lemmas.Result.{err_from_is_err_and}
 use Rattle.kx_message.specs.declared.message.Message.{Message}
 use Rattle.kx_stream.specs.Stream.{AllServed, PieceServed}

@@ -1,16 +1,11 @@
-use Rattle.std.proofs.Common.{◌≡◌, ◌∙◌, ◌++◌, [], ℕ, List, Option, Result, Ok, Err, ap, subst, sym, refl}
+use Rattle.std.proofs.Common.{◌∙◌, ℕ, List, Err, ap, subst, sym}
 use Rattle.std.proofs.Common.{length, take, drop, arith}
-use Rattle.std.specs.Prelude.{OnOk}
-use Rattle.std.specs.Io.KnownBytes.{Consumes, IsAtEnd}
+use Rattle.std.specs.Io.KnownBytes.{Consumes}
 use Rattle.std.proofs.KnownBytes.{Consumes-kept}
 use Rattle.std.proofs.lemmas.List.{take_at}
 use Rattle.std.proofs.lemmas.Result.{err_from_is_err_and}
-use Rattle.kx_stream.specs.Stream.{PieceServed, Served}
-use Rattle.kx_stream.specs.declared.fault.StreamFault.{StreamFault}
-use Rattle.kx_stream.specs.declared.fault.StreamFault.TheVariants.{Read}
-use Rattle.kx_stream.proofs.Streams.{Along, along_more, along_start, ended, gave_nothing, no_memory}
+use Rattle.kx_stream.proofs.Streams.{along_more, along_start, ended, gave_nothing, no_memory}
 use Rattle.kx_stream.proofs.Streams.{read_fails}
-use Rattle.kx_wire.specs.Frames.{Reads}
 use Rattle.kx_stream.proofs.stream.serve_stream.Goals as goal
 
 pub returns-in_err-piece : goal.returns-in_err-piece
