@@ -52,7 +52,8 @@ row_reads most (s ∷ log) all enough =
     let read = batch_again s.batch s.text (texts log) head.stored.bytes head.stored.spells in
     let more = row_reads (most - 1) log (All-tail IsShowable s log all)
     (omega (arith, enough, sizes, size)) in
-    row_step most (texts (s ∷ log)) (omega (arith, sizes, size)) (omega (arith, enough, sizes, size))
+    row_step most (texts (s ∷ log)) (omega (arith, sizes, size))
+    (omega (arith, enough, sizes, size))
     ∙ ap (λ (r : Result (Spelled × List ℕ) BatchFault). row_by r (row_from (most - 1))) read
     ∙ ap (λ (b : Bool). cond b (in_front s (row_from (most - 1) (texts log))) (Err Records))
     (is_within (last_offset s) (pos greatest_offset) _ head.offsets refl)
@@ -73,7 +74,8 @@ page_again log caller number from room committed h =
     (row_again p.batches
     (sliced_showable log (pos from) (pos (upper_of (entries log) committed)) room h))
 
-one_page : (p q : Page) (test : Bool) (code : ErrorCode) → cond test (Err code) (Ok p) ≡ Ok q → p ≡ q
+one_page : (p q : Page) (test : Bool) (code : ErrorCode) → cond test (Err code) (Ok p) ≡ Ok q
+    → p ≡ q
 one_page p q true code is = absurd cc
 one_page p q false code is = cc
 
@@ -83,6 +85,7 @@ pub served_is_read : (log : List Stored) (caller : Caller) (number : ℕ) (from 
 unfolding fetched
 served_is_read log caller number (negsuc n) room committed shown h is = absurd cc
 served_is_read log caller number (pos from) room committed shown h is =
-    let same = one_page (page log from room committed) shown (nat_lt (end (entries log)) from) _ is in
+    let same = one_page (page log from room committed) shown (nat_lt (end (entries log)) from) _
+    is in
     subst (λ (p : Page). page_in (pos from) (fetch_reply caller number (Ok p))
     ≡ Ok (fetched_of p)) same (page_again log caller number from room committed h)

@@ -1,7 +1,7 @@
 -- Messages in a row, and what a machine hands out for them.
 use Rattle.std.proofs.Common.{◌≡◌, ◌≤◌, ℕ, List, [], ◌∷◌, ◌++◌, Option, Ok, Err, refl, sym, ap}
-use Rattle.std.proofs.Common.{◌∙◌, ◌+◌, ◌<◌, suc, length, drop, subst, append_assoc, append-nil, arith}
-use Rattle.std.proofs.Common.{get_or}
+use Rattle.std.proofs.Common.{◌∙◌, ◌+◌, ◌<◌, suc, length, drop, subst, append_assoc, append-nil}
+use Rattle.std.proofs.Common.{arith, get_or}
 use Rattle.std.specs.Prelude.{take}
 use Rattle.std.proofs.Math.Seq.{take-suc}
 use Rattle.std.proofs.lemmas.List.{take-append-drop, take_all}
