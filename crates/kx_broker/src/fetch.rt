@@ -13,11 +13,20 @@ use kx_message::{AbortedTxns, Bytes, ErrorCode, Fetch, FetchReply, Message};
 use kx_partition::{FetchFault, FetchPage, Partition};
 use std::alloc::{AllocError, Global};
 
-// The texts of batches, one after the other.
-fn texts_of(alloc: Global, batches: Batches<'_>) -> Result<Bytes, AllocError>
+// How many bytes batches take.
+fn len_of(batches: Batches<'_>) -> usize {
+    let mut len: usize = 0;
+    for batch in batches {
+        len = len.saturating_add(batch.text().len());
+    }
+    len
+}
+
+// The texts of batches, one after the other, for which room of `len` bytes is asked first.
+fn texts_of(alloc: Global, batches: Batches<'_>, len: usize) -> Result<Bytes, AllocError>
     ensures { IfOk result (λ bytes. bytes ≡ flat_map (λ s. s.text) batches.entry) }
 {
-    let mut bytes = Vec::new(alloc);
+    let mut bytes = Vec::with_capacity(alloc, len)?;
     for batch in batches {
         bytes.extend_from_slice(batch.text())?;
     }
@@ -31,7 +40,7 @@ fn page_reply(alloc: Global, it: &Fetch, page: FetchPage<'_>) -> Result<Message,
         page.entry.next page.entry.stable page.entry.end page.entry.aborted
         (flat_map (λ s. s.text) page.entry.batches)) }
 {
-    let batches = texts_of(alloc, page.batches())?;
+    let batches = texts_of(alloc, page.batches(), len_of(page.batches()))?;
     let next = page.next();
     let lso = page.last_stable_offset();
     let end = page.end();

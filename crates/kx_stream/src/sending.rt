@@ -3,7 +3,7 @@ ghost use Rattle.std.specs.Prelude.{◌≡◌, MatchResult, IsOk};
 ghost use Rattle.kx_stream.specs.Sending.{Sends, Written};
 
 use crate::fault::StreamFault;
-use kx_wire::{FrameFault, Message, frame_of};
+use kx_wire::{FrameFault, Message, frame_head, record_batches};
 use std::alloc::Global;
 use std::io;
 use std::io::Write;
@@ -18,15 +18,16 @@ fn written(done: io::Result<()>) -> Result<(), StreamFault>
     }
 }
 
-// Writes the frame of a message.
+// Writes the frame of a message. The record batches that it carries are written from where they lie.
 fn send<W: Write>(alloc: Global, writer: &mut W, message: &Message) -> Result<(), StreamFault>
     ensures { Sends message.now (W.contents writer.old) (W.contents writer.new) result }
 {
     if !message.fits() {
         return Err(StreamFault::Frame(FrameFault::TooLong));
     }
-    let frame = frame_of(alloc, message)?;
-    written(writer.write_all(frame.as_slice()))
+    let head = frame_head(alloc, message)?;
+    written(writer.write_all(head.as_slice()))?;
+    written(writer.write_all(record_batches(message)))
 }
 
 /// Writes the frames of messages, in order, each as soon as it is made.

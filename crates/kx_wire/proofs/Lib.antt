@@ -8,4 +8,5 @@ pub mod Messages
 pub mod FrameLaws
 pub mod Feeding
 pub mod Growing
+pub mod Heads
 pub mod Streams

@@ -17,7 +17,7 @@ pub use kx_message::{
     Timeout, TxnId, TxnOffsetCommit, ValueFault, WriteMarker, code, message, outcome, payload,
     replies, requests,
 };
-pub use writing::{frame_of, put_frame, put_held, put_name};
+pub use writing::{frame_head, frame_of, put_frame, put_held, put_name, record_batches};
 
 mod fault;
 mod fields;

@@ -1,5 +1,5 @@
 use Rattle.kx_wire.proofs.FrameLaws.{frame_again}
-use Rattle.kx_wire.proofs.writing.frame_of.Goals as goal
+use Rattle.kx_wire.proofs.writing.frame_head.Goals as goal
 
 pub returns-clause-reads : goal.returns-clause-reads
 returns-clause-reads c = λ rest.
