@@ -1,9 +1,8 @@
 -- Inputs, notes and steps in the words of the definitions.
-use Rattle.std.specs.Prelude.{◌≡◌, ℕ, ℤ, pos, negsuc, Bool, true, false, not, ◌&&◌, ◌||◌}
-use Rattle.std.specs.Prelude.{List, [], ◌∷◌, map, Option, is_some}
+use Rattle.std.specs.Prelude.{◌≡◌, ℕ, ℤ, Bool, true, false, not, ◌&&◌}
+use Rattle.std.specs.Prelude.{List, [], ◌∷◌, is_some}
 use Rattle.kx_client.specs.declared.fault.ClientFault.{ClientFault}
 use Rattle.kx_client.specs.declared.fault.ClientFault.TheVariants as fault
-use Rattle.kx_log.specs.Store.{StoreState}
 use Rattle.kx_machine.specs.declared.input.Command as running
 use Rattle.kx_machine.specs.declared.input.Command.TheVariants as told
 use Rattle.kx_machine.specs.declared.input.Input as given
@@ -20,7 +19,7 @@ use Rattle.kx_message.specs.declared.payload.PartitionOffset.{PartitionOffset}
 use Rattle.kx_model.specs.Client as model
 use Rattle.kx_model.specs.Client.{Client, new_client}
 use Rattle.kx_model.specs.CoordinatorNode.{Coordinator, new_coordinator}
-use Rattle.kx_model.specs.Disk.{Disk, Store}
+use Rattle.kx_model.specs.Disk.{Store}
 use Rattle.kx_model.specs.PartitionNode.{Partition, empty_partition}
 use Rattle.kx_model.specs.Step.{Input, Comes, Commands, Expires, Reminds, Drops, Puts, Restarts}
 use Rattle.kx_model.specs.Step.{StepNote, Done, Declined, PutAt, Coded, Unread, Unwritten}

@@ -1,6 +1,8 @@
 //! What a node is handed.
 ghost use Rattle.std.specs.Prelude.{◌≡◌};
+ghost use Rattle.std.specs.Bool.{Decides};
 
+use crate::same::{same_message, same_offsets, same_values};
 use kx_client::Values;
 use kx_message::{ClientId, GroupId, Message, Offsets, Outcome, PartitionId};
 use std::alloc::AllocError;
@@ -77,6 +79,43 @@ impl Clone for Input {
             Input::Drop(group, member) => Ok(Input::Drop(*group, *member)),
             Input::Put(values) => Ok(Input::Put(values.clone()?)),
             Input::Restart(now) => Ok(Input::Restart(*now)),
+        }
+    }
+}
+
+impl Command {
+    /// Whether both are the same command.
+    pub fn same(&self, other: &Command) -> bool
+        ensures { Decides result (self.now ≡ other.now) }
+    {
+        match (self, other) {
+            (Command::Init, Command::Init)
+            | (Command::Begin, Command::Begin)
+            | (Command::Leave, Command::Leave)
+            | (Command::Resend, Command::Resend) => true,
+            (Command::Send(p, a), Command::Send(q, b)) => p == q && same_values(a, b),
+            (Command::Join(a), Command::Join(b)) => a == b,
+            (Command::Offsets(a), Command::Offsets(b)) => same_offsets(a, b),
+            (Command::End(a), Command::End(b)) => a == b,
+            _ => false,
+        }
+    }
+}
+
+impl Input {
+    /// Whether both are the same input.
+    pub fn same(&self, other: &Input) -> bool
+        ensures { Decides result (self.now ≡ other.now) }
+    {
+        match (self, other) {
+            (Input::Deliver(a), Input::Deliver(b)) => same_message(a, b),
+            (Input::Command(a), Input::Command(b)) => a.same(b),
+            (Input::Expire(a), Input::Expire(b)) => a == b,
+            (Input::Remind, Input::Remind) => true,
+            (Input::Drop(g, a), Input::Drop(h, b)) => g == h && a == b,
+            (Input::Put(a), Input::Put(b)) => same_values(a, b),
+            (Input::Restart(a), Input::Restart(b)) => a == b,
+            _ => false,
         }
     }
 }

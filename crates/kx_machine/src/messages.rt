@@ -1,6 +1,8 @@
 //! The messages of a step.
 ghost use Rattle.std.specs.Prelude.{◌≡◌, [], ◌∷◌, IfOk};
+ghost use Rattle.std.specs.Bool.{Decides};
 
+use crate::same::same_message;
 use kx_message::Message;
 use std::alloc::{AllocError, Global};
 use std::marker::Model;
@@ -18,6 +20,16 @@ impl Model for Messages {
     ghost Value = { List Message };
 
     ghost view = { λ m. m.items.items };
+}
+
+/// A copy of the same messages, or want of memory.
+impl Clone for Messages {
+    ghost is_clone = { λ messages copy. copy ≡ messages };
+
+    fn clone(&self) -> Result<Self, AllocError> {
+        let items = self.items.clone()?;
+        Ok(Messages { items })
+    }
 }
 
 impl Messages {
@@ -55,6 +67,21 @@ impl Messages {
         ensures { result.now ≡ self.now }
     {
         self.items.as_slice()
+    }
+
+    /// Whether both are the same messages in the same order.
+    pub fn same(&self, other: &Messages) -> bool
+        ensures { Decides result (self.now ≡ other.now) }
+    {
+        if self.items.len() != other.items.len() {
+            return false;
+        }
+        for (at, message) in self.items.iter().enumerate() {
+            if !same_message(message, &other.items[at]) {
+                return false;
+            }
+        }
+        true
     }
 
     /// The messages.

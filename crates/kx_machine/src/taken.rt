@@ -1,4 +1,7 @@
 //! What a step answers.
+ghost use Rattle.std.specs.Prelude.{◌≡◌};
+ghost use Rattle.std.specs.Bool.{Decides};
+
 use crate::messages::Messages;
 use kx_client::ClientFault;
 use kx_message::ErrorCode;
@@ -31,7 +34,7 @@ pub enum Note {
 }
 
 /// What a node answers to one input.
-#[derive(Drop)]
+#[derive(Clone, Drop)]
 pub struct Taken {
     /// The messages that it hands out.
     pub messages: Messages,
@@ -42,4 +45,25 @@ pub struct Taken {
     /// Whether this step opened the node again and found the whole entry of an append that had
     /// failed.
     pub found: bool,
+}
+
+impl Note {
+    /// Whether both are the same.
+    pub fn same(self, other: Note) -> bool
+        ensures { Decides result (self ≡ other) }
+    {
+        self == other
+    }
+}
+
+impl Taken {
+    /// Whether both are the same answer.
+    pub fn same(&self, other: &Taken) -> bool
+        ensures { Decides result (self.now ≡ other.now) }
+    {
+        self.messages.same(&other.messages)
+            && self.note.same(other.note)
+            && self.failed == other.failed
+            && self.found == other.found
+    }
 }

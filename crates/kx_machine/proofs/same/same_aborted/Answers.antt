@@ -1,0 +1,7 @@
+use Rattle.std.proofs.lemmas.Slice.Eq.{slice_eq-Decides}
+use Rattle.kx_machine.proofs.Pairs.{aborted_is}
+use Rattle.kx_machine.proofs.same.same_aborted.Goals as goal
+
+pub returns : goal.returns
+returns c =
+    slice_eq-Decides aborted_is c.args.a.now c.args.b.now c.eq.result c.eq.ensures
