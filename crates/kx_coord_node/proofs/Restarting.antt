@@ -173,7 +173,8 @@ takes_open old new now handed t o is =
       stands = subst (λ (s : NodeStep Coordinator). RunsAs s.state new) (sym step) runs_now;
       answer = is
           ∙ ap (λ (ms : List Message). restarted ms note.Done false
-          (nat_lt 1 (length new.log.notes - length old.log.notes))) (o.handed ∙ ap all_markers notes)
+          (nat_lt 1 (length new.log.notes - length old.log.notes)))
+          (o.handed ∙ ap all_markers notes)
           ∙ ap (λ (found : Bool). restarted (all_markers log) note.Done false found)
           (ap (λ (ns : List Note). nat_lt 1 (length ns - length old.log.notes)) notes
           ∙ ap (λ (ns : List Note). nat_lt 1 (length log - length ns)) runs.notes
@@ -237,7 +238,8 @@ takes_unwritten old new now t b is =
           opened_so.store b.log.store.may) size.0 size.1;
       stands = subst (λ (s : NodeStep Coordinator). RunsAs s.state new) (sym step) runs_now;
       answer = is
-          ∙ ap (λ (found : Bool). restarted [] (note.Closed Write) true found) (ap (λ (ns : List Note). nat_lt 0 (length ns - length old.log.notes)) notes
+          ∙ ap (λ (found : Bool). restarted [] (note.Closed Write) true found)
+          (ap (λ (ns : List Note). nat_lt 0 (length ns - length old.log.notes)) notes
           ∙ ap (λ (ns : List Note). nat_lt 0 (length (reread co.disk) - length ns)) runs.notes
           ∙ found_behind co.disk.kept co.disk.hidden)
           ∙ sym (ap (answer_at co now) step);
@@ -317,7 +319,8 @@ takes_used_up old new now t out rest is =
       stands = subst (λ (x : NodeStep Coordinator). RunsAs x.state new) (sym step)
           (cut_to co old new out.notes runs out.opened rest);
       answer = is
-          ∙ ap (λ (failed : Bool). restarted [] note.UsedUp failed false) (sym (never_both co.disk.closed))
+          ∙ ap (λ (failed : Bool). restarted [] note.UsedUp failed false)
+          (sym (never_both co.disk.closed))
           ∙ sym (ap (answer_at co now) step);
     })
 

@@ -87,7 +87,8 @@ completed_by co old mid new row written w same rest =
     record {
       store = does.store;
       allowed = does.allowed;
-      stands = subst (λ (b : Bool). RunsAs (record after.0 { answered = answers_left co row b }) new)
+      stands = subst
+          (λ (b : Bool). RunsAs (record after.0 { answered = answers_left co row b }) new)
           (sym w.1) (answers_change after.0 mid new (answers_left co row written) does.stands same
           rest);
       handed_is = does.handed_is;

@@ -1,7 +1,7 @@
 -- Nodes that take what they are handed stand for a world of the definitions after it.
 use Rattle.std.proofs.Common.{◌≡◌, ◌≢◌, ◌<◌, ◌≤◌, ◌++◌, ◌==◌, ℕ, Bool, true, false, cond, List, []}
-use Rattle.std.proofs.Common.{◌∷◌, refl, sym, ap, ◌∙◌, subst, length, Option, Some, None, arith, inl}
-use Rattle.std.proofs.Common.{inr, nat_le, zero, suc, append-nil, not, ◌&&◌}
+use Rattle.std.proofs.Common.{◌∷◌, refl, sym, ap, ◌∙◌, subst, length, Option, Some, None, arith}
+use Rattle.std.proofs.Common.{inl, inr, nat_le, zero, suc, append-nil, not, ◌&&◌}
 use Rattle.std.specs.Prelude.{slice_get, slice_set, MatchResult, Result, Ok, Err}
 use Rattle.std.proofs.lemmas.Bool.{cases_lt}
 use Rattle.std.proofs.lemmas.Bool.Decides.{Decides-eqb, nat_tests}

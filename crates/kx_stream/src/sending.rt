@@ -18,7 +18,7 @@ fn written(done: io::Result<()>) -> Result<(), StreamFault>
     }
 }
 
-// Writes the frame of a message. The record batches that it carries are written from where they lie.
+// Writes the frame of a message; the record batches that it carries, from where they lie.
 fn send<W: Write>(alloc: Global, writer: &mut W, message: &Message) -> Result<(), StreamFault>
     ensures { Sends message.now (W.contents writer.old) (W.contents writer.new) result }
 {
