@@ -18,7 +18,7 @@ use Rattle.kx_message.specs.declared.outcome.Outcome.{Outcome}
 use Rattle.kx_message.specs.declared.outcome.Outcome.TheVariants.{Abort, Commit}
 use Rattle.kx_message.specs.declared.payload.PartitionOffset.{PartitionOffset}
 use Rattle.kx_model.specs.Client.{Begin, Client, Command, Commanded, Declines, Does, End}
-use Rattle.kx_model.specs.Client.{Fault, Init}
+use Rattle.kx_model.specs.Client.{Fault, FetchOffset, FetchPage, Init, Poll, page_room}
 use Rattle.kx_model.specs.Client.{JoinGroup, LeaveGroup, Place, Resend, Send, SendOffsets, Sequence}
 use Rattle.kx_model.specs.Client.{asks, client_batch, command, does, is_end, is_ending, is_init}
 use Rattle.kx_model.specs.Client.{leaves, refusals, sending, sends, sends_end, sends_offsets}
@@ -37,11 +37,11 @@ use Rattle.kx_laws.proofs.Membership.{filter_holds, no_element}
 ------ the checks of a command
 
 -- none of the checks is against it
-abbrev Passed : List (Bool × Fault) → Type 0
+abbrev pub Passed : List (Bool × Fault) → Type 0
 Passed [] = Unit {0}
 Passed (check ∷ checks) = (check.0 ≡ false) × Passed checks
 
-passes : (checks : List (Bool × Fault)) (done : Commanded) (after : Client)
+pub passes : (checks : List (Bool × Fault)) (done : Commanded) (after : Client)
     (messages : List Message) → unless checks done ≡ Does after messages
     → Passed checks × (done ≡ Does after messages)
 passes [] done after messages e = (tt, e)
@@ -56,7 +56,7 @@ passes (check ∷ checks) done after messages e =
     by true f e more = absurd cc
     by false f e more = let rest = more e in ((f, rest.0), rest.1)
 
-nothing_waits : {A : Type 0} (l : List A) → nat_lt 0 (length l) ≡ false → l ≡ []
+pub nothing_waits : {A : Type 0} (l : List A) → nat_lt 0 (length l) ≡ false → l ≡ []
 nothing_waits [] e = refl
 nothing_waits (x ∷ l) e = let some : 0 < length (x ∷ l) = omega arith in
     absurd (grind (arith, nat_tests))
@@ -495,6 +495,17 @@ module _ (sent : List Message) (c : Client) (k : Knows sent c)
       offsets_go offset more c.txn c.held c.place refl passed
   does_goes (End outcome) passed = ends_go outcome c.txn c.held refl passed
   does_goes Resend passed = repeats c.waiting waited
+  does_goes Poll passed = declined _
+  does_goes (FetchPage partition from) passed =
+      let m = the.Fetch (caller_of c) partition (pos from) page_room true in
+      asks_goes c m
+      (plain c m refl refl refl passed.0 refl refl refl refl refl refl
+      (λ l carries. elim carries [ ]) refl refl refl (λ e. absurd cc)) tt
+  does_goes (FetchOffset group partition) passed =
+      let m = the.OffsetFetch (caller_of c) group partition true in
+      asks_goes c m
+      (plain c m refl refl refl passed.0 refl refl refl refl refl refl
+      (λ l carries. elim carries [ ]) refl refl refl (λ e. absurd cc)) tt
 
   -- a command that isn't declined
   pub command_moves : (what : Command) (after : Client) (messages : List Message)

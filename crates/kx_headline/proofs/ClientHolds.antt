@@ -25,11 +25,12 @@ use Rattle.kx_message.specs.declared.payload.PartitionOffset.{PartitionOffset}
 use Rattle.kx_batch.specs.Record.{Record}
 use Rattle.kx_model.specs.Client.{Client, Command, Commanded, Declines, Does, Fault, Place, Init}
 use Rattle.kx_model.specs.Client.{Begin, Send, JoinGroup, LeaveGroup, SendOffsets, End, Resend}
+use Rattle.kx_model.specs.Client.{Poll, FetchPage, FetchOffset}
 use Rattle.kx_model.specs.Client.{asks, command, does, is_init, leaves, refusals, sends, sends_end}
 use Rattle.kx_model.specs.Client.{sends_offsets, value_records}
 use Rattle.kx_model.specs.Replies.{Meaning, Done, Waits, Aborts, Fails, holding, is_answer_to}
-use Rattle.kx_model.specs.Replies.{is_awaited, is_to_client, learns, meaning, offsets_meaning}
-use Rattle.kx_model.specs.Replies.{take_reply, told}
+use Rattle.kx_model.specs.Replies.{is_awaited, is_to_client, learns, meaning, offset_meaning}
+use Rattle.kx_model.specs.Replies.{offsets_meaning, take_reply, told}
 use Rattle.kx_model.specs.World.{World}
 use Rattle.kx_headline.proofs.EventDoes.{ClientTurn, commands, hears}
 use Rattle.kx_laws.proofs.Lists.{if_some_more}
@@ -157,6 +158,9 @@ module _ (sent : List Message) (c : Client) (own : HoldsOwn sent c) where
   does_goes (SendOffsets offset more) = offsets_go (offset ∷ more) c.txn c.held c.place
   does_goes (End outcome) = end_goes outcome c.txn c.held own.held
   does_goes Resend = doing c c.waiting refl refl own.waiting own.waiting
+  does_goes Poll = declining _
+  does_goes (FetchPage partition from) = asking c _ refl refl own.waiting tt
+  does_goes (FetchOffset group partition) = asking c _ refl refl own.waiting tt
 
   pub command_holds : (what : Command) (after : Client) (messages : List Message)
       → command c what ≡ Does after messages
@@ -277,6 +281,10 @@ module _ (sent : List Message) (c : Client) (own : HoldsOwn sent c) where
           learns_own (meaning it.code) answered (λ e. (holds, same))
       told_own (msg.OffsetsReply it) m to =
           learns_own (offsets_meaning it.code) answered (λ e. (holds, same))
+      told_own (msg.FetchReply it) m to =
+          learns_own (meaning it.code) answered (λ e. (holds, same))
+      told_own (msg.OffsetFetchReply it) m to =
+          learns_own (offset_meaning it.code) answered (λ e. (holds, same))
       told_own other m to = (own, refl)
 
   pub reply_holds : (m : Message) → Contains sent m

@@ -19,8 +19,8 @@ use Rattle.kx_message.specs.declared.message.Node.TheVariants as node
 use Rattle.kx_message.specs.declared.outcome.Outcome.{Outcome}
 use Rattle.kx_model.specs.Client.{Client, Place, is_end, is_init}
 use Rattle.kx_model.specs.Replies.{Aborts, Done, Fails, Meaning, Waits, correlation_of, holding}
-use Rattle.kx_model.specs.Replies.{is_answer_to, is_awaited, learns, meaning, offsets_meaning}
-use Rattle.kx_model.specs.Replies.{take_reply, told}
+use Rattle.kx_model.specs.Replies.{is_answer_to, is_awaited, learns, meaning, offset_meaning}
+use Rattle.kx_model.specs.Replies.{offsets_meaning, take_reply, told}
 use Rattle.kx_headline.proofs.ClientAsks.{is_a_batch}
 use Rattle.kx_headline.proofs.ClientHolds.{awaited_here}
 use Rattle.kx_headline.proofs.ClientRequests.{Answered, Carries, HasEnded, IsAwaited, IsIts, IsUpTo}
@@ -41,6 +41,10 @@ no_abort code.OutOfOrderSequenceNumber e = cc
 no_abort code.ConcurrentTransactions e = cc
 no_abort code.KafkaStorageError e = cc
 no_abort other e = cc
+
+offset_no_abort : (x : ErrorCode) → offset_meaning x ≡ Aborts → ⊥
+offset_no_abort code.UnstableOffsetCommit e = cc
+offset_no_abort other e = no_abort other e
 
 offsets_done : (x : ErrorCode) → offsets_meaning x ≡ Done → x ≡ code.NoError
 offsets_done code.UnknownMemberId e = absurd cc
@@ -550,6 +554,18 @@ module _ (sent : List Message) (c : Client) (k : Knows sent c)
       (λ e. let (y, w, is) = any_holds (is_answer_to m) c.waiting awaited in
       let p = answers_kind m y is in
       (k.offsets_inside y w (kind_offsets y (omega (arith, p.0))), λ f. omega (arith, f)))
+  told_knows (msg.FetchReply it) there to awaited =
+      let m = msg.FetchReply it in
+      learns_knows sent c k m (meaning it.code) (answered_client sent c k m)
+      (λ e. done_knows sent c k m c.place (λ f. omega (arith, f))
+      (no_batch m (λ f. omega (arith, f)) (λ f. omega (arith, f))))
+      (λ e. absurd (no_abort it.code e))
+  told_knows (msg.OffsetFetchReply it) there to awaited =
+      let m = msg.OffsetFetchReply it in
+      learns_knows sent c k m (offset_meaning it.code) (answered_client sent c k m)
+      (λ e. done_knows sent c k m c.place (λ f. omega (arith, f))
+      (no_batch m (λ f. omega (arith, f)) (λ f. omega (arith, f))))
+      (λ e. absurd (offset_no_abort it.code e))
   told_knows other there to awaited = k
 
   pub reply_knows : (m : Message) → Contains sent m → Knows sent (take_reply c m)

@@ -32,6 +32,8 @@ sender (msg.TxnOffsetCommit it) =
     Some it.caller.client
 sender (msg.Join it) = Some it.caller.client
 sender (msg.Leave it) = Some it.caller.client
+sender (msg.Fetch it) = Some it.caller.client
+sender (msg.OffsetFetch it) = Some it.caller.client
 sender m = None
 
 abbrev pub is_offsets : Message → Bool

@@ -35,10 +35,10 @@ use Rattle.kx_headline.proofs.StoredOnce.{ClientsKeep, IsAnswered, stored_once}
 ------ a request by its batch
 
 -- what is data to the rules has a producer's id, epoch and sequence
-record Numbers (id epoch first : ℤ) (d : Sequenced) : Type 0 where
-  id_is : id ≡ pos d.id
-  epoch_is : epoch ≡ pos d.epoch
-  first_is : first ≡ pos d.first
+pub record Numbers (id epoch first : ℤ) (d : Sequenced) : Type 0 where
+  pub id_is : id ≡ pos d.id
+  pub epoch_is : epoch ≡ pos d.epoch
+  pub first_is : first ≡ pos d.first
 
 data_numbers : (id epoch first : ℤ) (v : Batch) (d : Sequenced)
     → data_of id epoch first v ≡ Data d → Numbers id epoch first d
@@ -57,7 +57,7 @@ control_numbers (pos id) (pos epoch) said v d e = cc
 control_numbers (negsuc id) epoch said v d e = cc
 control_numbers (pos id) (negsuc epoch) said v d e = cc
 
-numbers_of : (v : Batch) (d : Sequenced) → entry_in v ≡ Data d
+pub numbers_of : (v : Batch) (d : Sequenced) → entry_in v ≡ Data d
     → Numbers v.producer_id v.producer_epoch v.base_sequence d
 unfolding entry_in
 numbers_of v d e = by (end_marker_of v) e

@@ -17,6 +17,12 @@ pub with_no_error : {A B : Type 0} (c : ErrorCode) → (A → B) → WithNoError
 with_no_error code.NoError f a = f a
 with_no_error other f a = tt
 
+-- a code that says nothing of a group's members
+abbrev pub OfNoGroup : ErrorCode → Type 0
+OfNoGroup code.IllegalGeneration = ⊥
+OfNoGroup code.UnknownMemberId = ⊥
+OfNoGroup other = ⊤
+
 -- what is said of the pair that a client is handed
 abbrev pub OfGiven : ErrorCode → Option Held → (Held → Type 0) → Type 0
 OfGiven code.NoError (Some held) A = A held

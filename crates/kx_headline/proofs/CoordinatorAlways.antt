@@ -50,6 +50,8 @@ clients_say sent log m SentKinds.produce = tt
 clients_say sent log m SentKinds.commit = tt
 clients_say sent log m SentKinds.join = tt
 clients_say sent log m SentKinds.leave = tt
+clients_say sent log m SentKinds.fetches = tt
+clients_say sent log m SentKinds.fetches_offset = tt
 
 -- what the coordinator does in its turn
 pub turn_does : (w : World) (s : Coordinated) → CoordinatorOk w.sent w.coordinator

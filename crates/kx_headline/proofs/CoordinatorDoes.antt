@@ -4,7 +4,7 @@
 use Rattle.std.proofs.Common.{◌≡◌, ◌⊎◌, ℕ, ℤ, pos, max, Bool, true}
 use Rattle.std.proofs.Common.{false}
 use Rattle.std.proofs.Common.{not, ◌&&◌, ◌||◌, cond, List, [], ◌∷◌, ◌++◌, filter, flat_map}
-use Rattle.std.proofs.Common.{Option}
+use Rattle.std.proofs.Common.{Option, ◌==◌, nat_lt}
 use Rattle.std.proofs.Common.{Some, None, Contains, All, refl, subst}
 use Rattle.std.proofs.Common.{IfSome, arith, bytes_eq}
 use Rattle.std.proofs.Common.{inl, inr, ◌+ℤ◌}
@@ -23,10 +23,11 @@ use Rattle.kx_message.specs.declared.message.Held.{Held}
 use Rattle.kx_message.specs.declared.message.Message.{Message}
 use Rattle.kx_message.specs.declared.message.Message.TheVariants as msg
 use Rattle.kx_message.specs.Messages as the
+use Rattle.kx_message.specs.Ranges.{spent_epoch}
 use Rattle.kx_message.specs.declared.outcome.Outcome.{Outcome}
 use Rattle.kx_model.specs.Coordinator.{Row, Note, CoordinatorEpoch, Allot, Written, State, Empty}
 use Rattle.kx_model.specs.Coordinator.{Ongoing, Prepare, Complete, coordinator_epoch, ends, next_id}
-use Rattle.kx_model.specs.Coordinator.{rows}
+use Rattle.kx_model.specs.Coordinator.{is, lists, row_of, rows}
 use Rattle.kx_model.specs.CoordinatorNode.{Coordinator, Coordinated, Reply}
 use Rattle.kx_model.specs.CoordinatorNode.{coordinator_restarts, coordinator_takes, expires}
 use Rattle.kx_model.specs.CoordinatorNode.{expires_row, has_no_id, is_appended, notes_of}
@@ -38,8 +39,12 @@ use Rattle.kx_model.specs.Markers.{Answered, Settled, Ignored, Noted, Completes}
 use Rattle.kx_model.specs.Markers.{expire, greatest_epoch, is_answered, marker_message}
 use Rattle.kx_model.specs.Markers.{markers_after, markers_in, markers_of}
 use Rattle.kx_model.specs.Markers.{reopen, settle, without_row}
-use Rattle.kx_model.specs.Requests.{Answer, add, end_txn, init, own_pair}
-use Rattle.kx_headline.proofs.Codes.{WithNoError, with_no_error, OfGiven, of_given, OfNext, of_next}
+use Rattle.kx_model.specs.Requests.{Answer, add, add_at, add_in, end_txn, init, is_old, is_own}
+use Rattle.kx_model.specs.Requests.{is_prepared, or_answer, own_pair, refused_first, refuses}
+use Rattle.kx_model.specs.Requests.{repeats, with_added}
+use Rattle.kx_model.specs.Requests as requests
+use Rattle.kx_headline.proofs.Codes.{OfGiven, OfNext, OfNoGroup, WithNoError, of_given, of_next}
+use Rattle.kx_headline.proofs.Codes.{with_no_error}
 use Rattle.kx_headline.proofs.CoordinatorFollows
 use Rattle.kx_headline.proofs.CoordinatorFollows.{Follows}
 use Rattle.kx_headline.proofs.CoordinatorGrows.{Next, Grows, none, more, History, grows_later}
@@ -90,7 +95,7 @@ abbrev pub Says : List Message → List Note → Message → Type 0
 Says sent log (msg.WriteMarker it) =
     Marks log it.partition it.held it.coordinator_epoch it.outcome
 Says sent log (msg.AddReply it) =
-    WithNoError it.code (Listed log it.partition it.held.id it.held.epoch)
+    WithNoError it.code (Listed log it.partition it.held.id it.held.epoch) × OfNoGroup it.code
 Says sent log (msg.InitReply it) = OfGiven it.code it.held (Has log it.caller.client)
 Says sent log (msg.EndReply it) =
     OfNext it.code it.held (GivesNext sent log it.caller)
@@ -144,15 +149,17 @@ says_later sent later log log' up on (msg.WriteMarker it) s = record {
   listed = s.listed;
   in_range = s.in_range;
 }
-says_later sent later log log' up on (msg.AddReply it) said =
-    with_no_error it.code (λ s. record {
-      row = s.row;
-      written = on (Written s.row) s.written;
-      its_id = s.its_id;
-      its_epoch = s.its_epoch;
-      going = s.going;
-      listed = s.listed;
-    }) said
+says_later sent later log log' up on (msg.AddReply it) said = (
+  with_no_error it.code (λ s. record {
+    row = s.row;
+    written = on (Written s.row) s.written;
+    its_id = s.its_id;
+    its_epoch = s.its_epoch;
+    going = s.going;
+    listed = s.listed;
+  }) said.0,
+  said.1,
+)
 says_later sent later log log' up on (msg.InitReply it) said =
     of_given it.code it.held (has_later log log' on it.caller.client) said
 says_later sent later log log' up on (msg.EndReply it) said =
@@ -393,14 +400,55 @@ module _ (sent : List Message) (co : Coordinator) (ok : CoordinatorOk sent co) w
   init_out caller entry c held h =
       record { says = tt; kind = init_reply; is_new = tt; addressed = refl }
 
+  add_in_code : (clock : ℕ) (r : Row) (held : Held) (partition : ℕ) (st : State)
+      → OfNoGroup (add_in clock r held partition st).code
+  add_in_code clock r held partition Empty = tt
+  add_in_code clock r held partition Ongoing =
+      cond_both (lists partition r) (repeats held)
+      (requests.writes (with_added r r.start partition))
+      (λ (a : Answer). OfNoGroup a.code) (λ e. tt) (λ e. tt)
+  add_in_code clock r held partition (Prepare outcome) = tt
+  add_in_code clock r held partition (Complete outcome) = tt
+
+  -- none of its codes speaks of a group
+  add_code : (log : List Note) (clock : ℕ) (txn : List ℕ) (held : Held) (partition : ℕ)
+      → OfNoGroup (add log clock txn held partition).code
+  add_code log clock txn held partition = at (row_of log txn)
+    where
+      first : (r : Row) (answer : Answer) → OfNoGroup answer.code
+          → OfNoGroup (or_answer (refused_first r held) answer).code
+      first r answer h =
+          let spent = held.epoch == spent_epoch || (is_own r held && nat_lt r.epoch held.epoch) in
+          let rest = cond spent (Some code.InvalidProducerEpoch) None in
+          let mapping = cond (not (is_own r held || is r.previous held.id))
+          (Some code.InvalidProducerIdMapping) rest in
+          cond_both (is_prepared r.state && is r.next held.id) (Some code.ConcurrentTransactions)
+          mapping (λ o. OfNoGroup (or_answer o answer).code) (λ e. tt)
+          (λ e. cond_both (not (is_own r held || is r.previous held.id))
+          (Some code.InvalidProducerIdMapping) rest (λ o. OfNoGroup (or_answer o answer).code)
+          (λ e. tt)
+          (λ e. cond_both spent
+          (Some code.InvalidProducerEpoch) None (λ o. OfNoGroup (or_answer o answer).code)
+          (λ e. tt) (λ e. h)))
+
+      at : (o : Option Row) → OfNoGroup (add_at clock o held partition).code
+      at None = tt
+      at (Some r) =
+          let last = add_in clock r held partition r.state in
+          first r (cond (is_old r held) (refuses code.ProducerFenced) last)
+          (cond_both (is_old r held) (refuses code.ProducerFenced) last
+          (λ (a : Answer). OfNoGroup a.code) (λ e. tt)
+          (λ e. add_in_code clock r held partition r.state))
+
   add_out : (partition : ℕ) (txn : List ℕ) (held : Held) (entry : Option Note) (c : ErrorCode)
+      → OfNoGroup c
       → (c ≡ code.NoError → Listed (log_after (notes_of co) entry) partition held.id held.epoch)
       → Out 0 sent (notes_of co) (log_after (notes_of co) entry)
       (the.AddReply partition txn held c)
-  add_out partition txn held entry code.NoError h =
-      record { says = h refl; kind = add_reply; is_new = tt; addressed = tt }
-  add_out partition txn held entry c h = record {
-    says = tt;
+  add_out partition txn held entry code.NoError o h =
+      record { says = (h refl, tt); kind = add_reply; is_new = tt; addressed = tt }
+  add_out partition txn held entry c o h = record {
+    says = (tt, o);
     kind = add_reply;
     is_new = tt;
     addressed = tt;
@@ -457,8 +505,9 @@ module _ (sent : List Message) (co : Coordinator) (ok : CoordinatorOk sent co) w
       (λ note after. Listed (log_after (notes_of co) note) partition held.id held.epoch) a
       (λ code after. the.AddReply partition txn held code)
       (add_does sent (notes_of co) co.clock held partition txn m)
-      (λ h. add_out partition txn held a.note a.code h)
-      (record { says = tt; kind = add_reply; is_new = tt; addressed = tt })
+      (λ h. add_out partition txn held a.note a.code
+      (add_code (notes_of co) co.clock txn held partition) h)
+      (record { says = (tt, tt); kind = add_reply; is_new = tt; addressed = tt })
 
   end_request_does : (store : Store) (caller : Caller) (txn : List ℕ) (held : Held)
       (outcome : Outcome) → Contains sent (the.EndTxn caller txn held outcome)

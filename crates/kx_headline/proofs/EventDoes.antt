@@ -81,7 +81,7 @@ pub data Turn (w : World) : World → Type 0 where
 
 ------ each event is a turn
 
-its_number : (w : World) (number : ℕ) (c : Client) → client_at w number ≡ Some c
+pub its_number : (w : World) (number : ℕ) (c : Client) → client_at w number ≡ Some c
     → client_at w c.number ≡ Some c
 its_number w number c e =
     let (there, same) = find_tells (λ c. c.number == number) w.clients c e in
@@ -90,7 +90,7 @@ its_number w number c e =
 
 -- what is handed to a node: a message that was handed out, or anything else whose names, numbers
 -- and bytes are in their ranges
-abbrev IsHanded : World → Input → Type 0
+abbrev pub IsHanded : World → Input → Type 0
 IsHanded w (Comes m) = Contains w.sent m
 IsHanded w input = IsInput input
 
@@ -113,7 +113,7 @@ module _ (w : World) where
   coordinator_is store (Puts value more) fits =
       coordinators w.clock (w.coordinator, []) CoordinatorTurn.passes
 
-  partition_turns : (number : ℕ) (p : Partition) (store : Store) (input : Input)
+  pub partition_turns : (number : ℕ) (p : Partition) (store : Store) (input : Input)
       → IsHanded w input
       → let s = partition_step number p store input in
       PartitionTurn w number p (s.state, s.messages)
@@ -148,7 +148,7 @@ module _ (w : World) where
   commanded_turns c what fits (Declines fault) e = ClientTurn.passes
   commanded_turns c what fits (Does after messages) e = commands what after messages fits e
 
-  client_turns : (c : Client) (input : Input) → IsHanded w input
+  pub client_turns : (c : Client) (input : Input) → IsHanded w input
       → let s = client_step c input in ClientTurn w c s.state s.messages
   client_turns c (Comes m) there = hears m there
   client_turns c (Commands what) fits = commanded_turns c what fits (command c what) refl

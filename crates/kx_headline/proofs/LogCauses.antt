@@ -19,7 +19,7 @@ use Rattle.kx_model.specs.PartitionNode.{marker_of}
 use Rattle.kx_model.specs.Produce.{Appends, Next, judge, judge_entry, judge_marker, judge_text}
 use Rattle.kx_model.specs.Producers.{is_of}
 use Rattle.kx_model.specs.Transactions.{is_open, unclosed}
-use Rattle.kx_model.specs.Verification.{Request, pair_in, pair_of}
+use Rattle.kx_model.specs.Verification.{Request, judge_request, pair_in, pair_of}
 use Rattle.kx_model.proofs.Logs.{entries-push}
 use Rattle.kx_laws.proofs.GrownLogs.{no_batch_is_marker, same_marker, KindOf, control_kind}
 use Rattle.kx_laws.proofs.GrownLogs.{data_kind, plain_kind, batch_is}
@@ -56,6 +56,7 @@ module _ (sent : List Message) (number : ℕ) where
     pub allowed : IsListed sent number request verified
     pub entry : entry_in (batch_of request.text) ≡ Data d
     pub verdict : judge (entries before) verified d ≡ Next
+    pub judged : judge_request (entries before) verified request ≡ Next
 
   -- the message that a marker came by
   pub record MarkerCause (before : List Stored) (m : Marker) : Type 0 where
@@ -121,6 +122,7 @@ module _ (sent : List Message) (number : ℕ) where
               allowed = l;
               entry = entry;
               verdict = verdict_of before verified r.text d e entry;
+              judged = j;
             }
         by text same (ended txn held coordinator outcome h j) =
             let m = marker_of held coordinator outcome in

@@ -54,9 +54,9 @@ open_owed w stands reached p built opened c =
         let a = transactional_is_added w.sent p (markers_fit w stands) (log_at w p) opened.item
         built there s.transactional in
         let held : Held = record { id = opened.item.id; epoch = opened.item.epoch } in
-        All-contains (Says w.sent (notes w)) w.sent
+        (All-contains (Says w.sent (notes w)) w.sent
         (the.AddReply p a.txn held NoError) stands.says
-        a.handed
+        a.handed).0
 
     closed : IsAnswered w.sent p opened.item.id (opened.item.epoch + 1) → ⊥
     closed done =

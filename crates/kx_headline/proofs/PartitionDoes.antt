@@ -42,7 +42,8 @@ use Rattle.kx_model.specs.Page.{Page, fetched}
 use Rattle.kx_model.specs.Produce.{Appends, Answers, MarkerVerdict, Verdict, Next, Duplicate}
 use Rattle.kx_model.specs.Produce.{Unverified, Refused, judge_marker, judge_text, stored_at}
 use Rattle.kx_model.specs.Produce.{text_of}
-use Rattle.kx_model.specs.Verification.{Parked, Request, is_for, is_full, judge_request, pair_of}
+use Rattle.kx_model.specs.Verification.{Parked, Request, Target, ToGroup, ToPartition, is_for}
+use Rattle.kx_model.specs.Verification.{is_full, judge_request, pair_of}
 use Rattle.kx_model.specs.Verification.{parked_for, partition_of, passed_on, reply_to, request_of}
 use Rattle.kx_model.specs.Verification.{same_request, with_parked, without}
 use Rattle.kx_model.proofs.NodeSteps.{grows_on, same}
@@ -74,12 +75,17 @@ pub made_without_producer : (records : List Record)
 unfolding whole_text fields_text signed_text unsigned_text
 made_without_producer records = refl
 
+-- the request is a commit of offsets
+abbrev pub OfGroup : Target → Type 0
+OfGroup (ToPartition partition) = ⊥
+OfGroup (ToGroup group member generation) = Unit {0}
+
 -- of a partition with its number, and the message that comes, if the event is that
 module _ (number : ℕ) (p : Partition) (input : Option Message) where
   -- a request that came now, or was parked before
   pub data Origin (r : Request) : Type 0 where
     came : (m : Message) → input ≡ Some m → request_of m ≡ Some r → partition_of r.target ≡ number
-        → Origin r
+        → (number ≡ offsets_partition → OfGroup r.target) → Origin r
     waited : (x : Parked) → Contains p.parked x → x.request ≡ r → Origin r
 
   -- how a request is judged: as it comes, or on the coordinator's yes to its pair
@@ -237,20 +243,20 @@ module _ (number : ℕ) (p : Partition) (input : Option Message) where
 
   parks_does : (q : Partition) (m : Message) (r : Request) (txn : Option (List ℕ))
       (held : Option Held) → State q → input ≡ Some m → request_of m ≡ Some r
-      → partition_of r.target ≡ number → r.txn ≡ txn → pair_of r ≡ held
-      → Does q (parks number q r txn held)
-  parks_does q m r None held st i e n t h =
+      → partition_of r.target ≡ number → (number ≡ offsets_partition → OfGroup r.target)
+      → r.txn ≡ txn → pair_of r ≡ held → Does q (parks number q r txn held)
+  parks_does q m r None held st i e n g t h =
       says q (reply_to r code.InvalidTxnState (negsuc 0)) st
-      (refused r code.InvalidTxnState (came m i e n) (λ e. cc))
-  parks_does q m r (Some txn) None st i e n t h =
+      (refused r code.InvalidTxnState (came m i e n g) (λ e. cc))
+  parks_does q m r (Some txn) None st i e n g t h =
       says q (reply_to r code.InvalidTxnState (negsuc 0)) st
-      (refused r code.InvalidTxnState (came m i e n) (λ e. cc))
-  parks_does q m r (Some txn) (Some held) st i e n t h =
+      (refused r code.InvalidTxnState (came m i e n g) (λ e. cc))
+  parks_does q m r (Some txn) (Some held) st i e n g t h =
       let full = is_full q.parked held r in
       let there = list_any (λ x. same_request x.request r) q.parked in
       let x : Parked = record { held = held; request = r } in
       let one_more = All-push Waits q.parked x st.parked
-      (record { origin = came m i e n; paired = h }) in
+      (record { origin = came m i e n g; paired = h }) in
       record {
         state = record {
           log = st.log;
@@ -266,7 +272,7 @@ module _ (number : ℕ) (p : Partition) (input : Option Message) where
             (the.AddPartition txn held number))
             (cond_both full (reply_to r code.ConcurrentTransactions (negsuc 0))
             (the.AddPartition txn held number) (Out q.disk.kept)
-            (λ b. refused r code.ConcurrentTransactions (came m i e n) (λ e. cc))
+            (λ b. refused r code.ConcurrentTransactions (came m i e n g) (λ e. cc))
             (λ b. asks m r txn held i e n t h));
       }
 
@@ -275,7 +281,7 @@ module _ (number : ℕ) (p : Partition) (input : Option Message) where
       → State q → Origin r → Judged r verified → judge_request (entries_of q) verified r ≡ v
       → Tells verified v
       → (verified ≡ false → (m : Message) × (input ≡ Some m) × (request_of m ≡ Some r)
-      × (partition_of r.target ≡ number))
+      × (partition_of r.target ≡ number) × (number ≡ offsets_partition → OfGroup r.target))
       → Does q (answers_request number q store r v)
   answers_does q store r verified Next st o j e tells here =
       let log = q.disk.kept in
@@ -294,16 +300,17 @@ module _ (number : ℕ) (p : Partition) (input : Option Message) where
       (again r offset q.disk.kept verified o st.log (same q.disk.kept) e)
   answers_does q store r verified Unverified st o j e tells here =
       let h = here tells in
-      parks_does q h.0 r r.txn (pair_of r) st h.1 h.2 h.3 refl refl
+      parks_does q h.0 r r.txn (pair_of r) st h.1 h.2 h.3 h.4 refl refl
   answers_does q store r verified (Refused c) st o j e tells here =
       says q (reply_to r c (negsuc 0)) st (refused r c o tells)
 
   on_request_does : (q : Partition) (store : Store) (m : Message) (r : Request) → State q
       → input ≡ Some m → request_of m ≡ Some r → partition_of r.target ≡ number
+      → (number ≡ offsets_partition → OfGroup r.target)
       → Does q (on_request number q store (Some r))
-  on_request_does q store m r st i e n =
-      answers_does q store r false (judge_request (entries_of q) false r) st (came m i e n)
-      at_first refl (request_tells (entries_of q) false r) (λ f. (m, i, e, n))
+  on_request_does q store m r st i e n g =
+      answers_does q store r false (judge_request (entries_of q) false r) st (came m i e n g)
+      at_first refl (request_tells (entries_of q) false r) (λ f. (m, i, e, n, g))
 
   ------ a reply of the coordinator
 
@@ -530,16 +537,17 @@ module _ (number : ℕ) (p : Partition) (store : Store) (paired : All IsPaired p
           (reads (fetch_reply caller number (Err c)) tt)
   takes_does m = silent number p (Some m) p (before m)
 
-  data_takes_does : (m : Message) → DoesWith m (data_takes number p store m)
-  data_takes_does (msg.Produce it) =
+  data_takes_does : number ≢ offsets_partition → (m : Message)
+      → DoesWith m (data_takes number p store m)
+  data_takes_does not_offsets (msg.Produce it) =
       let m = msg.Produce it in
       cond_both (it.partition == number) _ _ (DoesWith m)
       (λ e. on_request_does number p (Some m) p store m _ (before m) refl refl
-      (grind (arith, nat_tests, e)))
+      (grind (arith, nat_tests, e)) (λ same. absurd (not_offsets same)))
       (λ e. says number p (Some m) p (the.ProduceReply it.caller it.partition
       code.UnknownTopicOrPartition (negsuc 0)) (before m)
       (elsewhere it.caller it.partition))
-  data_takes_does m = takes_does m
+  data_takes_does not_offsets m = takes_does m
 
 module _ (p : Partition) (store : Store) (paired : All IsPaired p.parked) where
   abbrev OffsetsDoes : Message → Served → Type 0
@@ -558,6 +566,7 @@ module _ (p : Partition) (store : Store) (paired : All IsPaired p.parked) where
       let m =
       msg.TxnOffsetCommit it in
       on_request_does offsets_partition p (Some m) p store m _ (at_offsets m) refl refl refl
+      (λ same. tt)
   offsets_takes_does (msg.Join it) =
       let m = msg.Join it in
       let t = changed p store (judge_join (entries_of p) it.group it.caller.client) in
@@ -597,4 +606,4 @@ node_does number p store m paired =
     (λ e. let is : offsets_partition ≡ number = grind (arith, nat_tests, e) in
     subst (λ n. Does n p (Some m) p (offsets_takes p store m)) is
     (offsets_takes_does p store paired m))
-    (λ e. data_takes_does number p store paired m)
+    (λ e. data_takes_does number p store paired (λ same. grind (arith, nat_tests, e, same)) m)

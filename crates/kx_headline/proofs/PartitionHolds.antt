@@ -12,6 +12,7 @@ use Rattle.kx_message.specs.declared.code.ErrorCode.TheVariants.{UnknownMemberId
 use Rattle.kx_message.specs.declared.message.Held.{Held}
 use Rattle.kx_message.specs.declared.message.Message.{Message}
 use Rattle.kx_message.specs.Messages as the
+use Rattle.kx_message.specs.Ranges.{offsets_partition}
 use Rattle.kx_message.specs.declared.outcome.Outcome.{Outcome}
 use Rattle.kx_model.specs.Log.{Entry, MarkerFits, Stored, entries}
 use Rattle.kx_model.specs.PartitionNode.{Partition, marker_of}
@@ -22,7 +23,7 @@ use Rattle.kx_model.specs.Verification.{Parked, Request, judge_request, pair_of,
 use Rattle.kx_model.specs.Verification.{Target, ToGroup, ToPartition, judge_target, request_of}
 use Rattle.kx_laws.specs.Grown.{IsGrown, Unwritten}
 use Rattle.kx_laws.proofs.GrownLogs.{grown_by_batch, grown_by_marker}
-use Rattle.kx_headline.proofs.PartitionDoes.{HasNoProducer, IsPaired, behind}
+use Rattle.kx_headline.proofs.PartitionDoes.{HasNoProducer, IsPaired, OfGroup, behind}
 use Rattle.kx_headline.proofs.PartitionDoes as does
 use Rattle.kx_laws.proofs.StoredTexts.{Accepts}
 
@@ -34,6 +35,8 @@ module _ (sent : List Message) (number : ℕ) where
     pub handed : Contains sent message
     pub is : request_of message ≡ Some r
     pub here : partition_of r.target ≡ number
+    -- what goes to the offsets partition is a commit of offsets
+    pub commits : number ≡ offsets_partition → OfGroup r.target
 
   -- what is judged as verified has the coordinator's yes to its pair
   pub data IsListed (r : Request) : Bool → Type 0 where
@@ -81,6 +84,7 @@ module _ (sent later : List Message) (number : ℕ)
     handed = more w.message w.handed;
     is = w.is;
     here = w.here;
+    commits = w.commits;
   }
 
   listed_later : (r : Request) (verified : Bool) → IsListed sent number r verified
@@ -135,8 +139,8 @@ module _ (sent : List Message) (number : ℕ) (p : Partition) (input : Option Me
       by o (message n c) e = let same : n ≡ m = cc in subst (Contains sent) same c
 
   pub origin_asked : (r : Request) → does.Origin number p input r → WasAsked sent number r
-  origin_asked r (does.came m i e n) =
-      record { message = m; handed = handed_out m i; is = e; here = n }
+  origin_asked r (does.came m i e n g) =
+      record { message = m; handed = handed_out m i; is = e; here = n; commits = g }
   origin_asked r (does.waited x c e) =
       subst (WasAsked sent number) e
       (All-contains (Waiting sent number) p.parked x holds.parked c).request

@@ -73,10 +73,10 @@ pub record PartitionsStand (w : World) : Type 0 where
 module _ (w : World) (number : ℕ) (p : Partition) (fit : MarkersFit w.sent)
     (before : PartitionHolds w.sent number p) where
   -- what a partition is after its turn, and what its messages promise
-  record TurnHolds (s : Served) : Type 0 where
-    after : PartitionHolds w.sent number s.0
-    grows : GrowsTo p.disk.kept s.0.disk.kept
-    promises : All (Promises w.sent number s.0.disk.kept) s.1
+  pub record TurnHolds (s : Served) : Type 0 where
+    pub after : PartitionHolds w.sent number s.0
+    pub grows : GrowsTo p.disk.kept s.0.disk.kept
+    pub promises : All (Promises w.sent number s.0.disk.kept) s.1
 
   paired : All IsPaired p.parked
   paired = All-weaker (Waiting w.sent number) IsPaired (λ x h. h.paired) p.parked before.parked
@@ -84,7 +84,7 @@ module _ (w : World) (number : ℕ) (p : Partition) (fit : MarkersFit w.sent)
   as_it_was : State number p None p
   as_it_was = was number p None paired
 
-  turn_holds : (s : Served) → PartitionTurn w number p s → TurnHolds s
+  pub turn_holds : (s : Served) → PartitionTurn w number p s → TurnHolds s
   turn_holds s (PartitionTurn.takes store m c) =
       let d = node_does number p store m paired in
       let served = node_takes number p store m in
@@ -180,6 +180,8 @@ clients_promise w m SentKinds.produce = tt
 clients_promise w m SentKinds.commit = tt
 clients_promise w m SentKinds.join = tt
 clients_promise w m SentKinds.leave = tt
+clients_promise w m SentKinds.fetches = tt
+clients_promise w m SentKinds.fetches_offset = tt
 
 ------ each turn
 
@@ -294,7 +296,7 @@ module _ (w : World) (h : PartitionsStand w) where
             t.promises);
       }
 
-partitions_next : (w later : World) → PartitionsStand w → Turn w later → PartitionsStand later
+pub partitions_next : (w later : World) → PartitionsStand w → Turn w later → PartitionsStand later
 partitions_next w later h nobodys = h
 partitions_next w later h (coordinators clock s turn) =
     let d = turn_does w s h.coordinator.coordinator turn in
@@ -336,7 +338,7 @@ start_at zero q number = tt
 start_at (suc count) zero number = at_start number
 start_at (suc count) (suc q) number = start_at count q number
 
-partitions_first : (count : ℕ) → PartitionsStand (start count)
+pub partitions_first : (count : ℕ) → PartitionsStand (start count)
 partitions_first count = record {
   coordinator = stands_first count;
   holds = λ q.

@@ -154,10 +154,10 @@ module _ (w : World) (stands : CoordinatorStands w) where
 ------ what nobody's client sent
 
 -- a message of no client
-abbrev OfNobody : Message → Type 0
+abbrev pub OfNobody : Message → Type 0
 OfNobody m = sender m ≡ None
 
-partitions_send : (m : Message) → IsPartitions m → OfNobody m
+pub partitions_send : (m : Message) → IsPartitions m → OfNobody m
 partitions_send m SentKinds.adding = refl
 partitions_send m SentKinds.marked = refl
 partitions_send m SentKinds.produced = refl
@@ -167,7 +167,7 @@ partitions_send m SentKinds.left = refl
 partitions_send m SentKinds.offsets_stand = refl
 partitions_send m SentKinds.offset_there = refl
 
-coordinator_sends : (m : Message) → CoordinatorDoes.IsCoordinators m → OfNobody m
+pub coordinator_sends : (m : Message) → CoordinatorDoes.IsCoordinators m → OfNobody m
 coordinator_sends m CoordinatorDoes.marker = refl
 coordinator_sends m CoordinatorDoes.add_reply = refl
 coordinator_sends m CoordinatorDoes.init_reply = refl
@@ -332,7 +332,7 @@ module _ (w : World) (h : RequestsStand w) where
         same a b e = cc
 
   -- a client moves by its turn
-  turn_moves : (c after : Client) (messages : List Message) → Knows w.sent c
+  pub turn_moves : (c after : Client) (messages : List Message) → Knows w.sent c
       → HoldsOwn w.sent c → (after.number ≡ c.number) → ClientTurn w c after messages
       → Moved w.sent c after messages
   turn_moves c after messages k mine number (commands what d ms fits e) =

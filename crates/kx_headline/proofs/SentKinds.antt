@@ -26,6 +26,7 @@ use Rattle.kx_message.specs.declared.payload.PartitionOffset.{PartitionOffset}
 use Rattle.kx_batch.specs.Record.{Record}
 use Rattle.kx_model.specs.Client.{Client, Command, Commanded, Declines, Does, Fault, Place, Init}
 use Rattle.kx_model.specs.Client.{Begin, Send, JoinGroup, LeaveGroup, SendOffsets, End, Resend}
+use Rattle.kx_model.specs.Client.{Poll, FetchPage, FetchOffset}
 use Rattle.kx_model.specs.Client.{asks, command, does, is_init, leaves, refusals}
 use Rattle.kx_model.specs.Client.{sends, sends_end, sends_offsets, unless}
 use Rattle.kx_model.specs.Client.{value_records}
@@ -39,7 +40,8 @@ use Rattle.kx_model.specs.PartitionNode.{offsets_takes, on_add_reply, on_request
 use Rattle.kx_model.specs.PartitionNode.{partition_takes, resumes}
 use Rattle.kx_model.specs.Produce.{Verdict, Next, Duplicate, Unverified, Refused}
 use Rattle.kx_model.specs.Replies.{Meaning, Done, Waits, Aborts, Fails, is_answer_to, is_awaited}
-use Rattle.kx_model.specs.Replies.{holding, learns, meaning, offsets_meaning, take_reply, told}
+use Rattle.kx_model.specs.Replies.{holding, learns, meaning, offset_meaning, offsets_meaning}
+use Rattle.kx_model.specs.Replies.{take_reply, told}
 use Rattle.kx_model.specs.Verification.{Parked, Request, Target, ToGroup, ToPartition, is_full}
 use Rattle.kx_model.specs.Verification.{judge_request, pair_of, parked_for, reply_for, reply_to}
 use Rattle.kx_model.specs.Verification.{request_of, without}
@@ -205,6 +207,10 @@ pub data IsClients : Message → Type 0 where
       → IsClients (the.Join caller group)
   leave : {caller : Caller} {group : List ℕ}
       → IsClients (the.Leave caller group)
+  fetches : {caller : Caller} {partition : ℕ} {from : ℤ} {max : ℕ} {committed : Bool}
+      → IsClients (the.Fetch caller partition from max committed)
+  fetches_offset : {caller : Caller} {group : List ℕ} {partition : ℕ} {stable : Bool}
+      → IsClients (the.OffsetFetch caller group partition stable)
 
 abbrev pub WaitsForOwn : Client → Type 0
 WaitsForOwn c = All IsClients c.waiting
@@ -262,6 +268,9 @@ does_sends c LeaveGroup h = leave_sends c c.place h
 does_sends c (SendOffsets offset more) h = offsets_send c (offset ∷ more) c.txn c.held c.place h
 does_sends c (End outcome) h = end_sends c outcome c.txn c.held h
 does_sends c Resend h = those c c.waiting h h
+does_sends c Poll h = none _
+does_sends c (FetchPage partition from) h = asks_sends c _ h fetches
+does_sends c (FetchOffset group partition) h = asks_sends c _ h fetches_offset
 
 -- what a command does is what it does once nothing is against it
 pub unless_does : (checks : List (Bool × Fault)) (done : Commanded) (after : Client)
@@ -321,6 +330,10 @@ told_waits c answered (msg.LeaveReply it) a b =
     learns_waits (meaning it.code) c answered answered a b b
 told_waits c answered (msg.OffsetsReply it) a b =
     learns_waits (offsets_meaning it.code) c answered answered a b b
+told_waits c answered (msg.FetchReply it) a b =
+    learns_waits (meaning it.code) c answered answered a b b
+told_waits c answered (msg.OffsetFetchReply it) a b =
+    learns_waits (offset_meaning it.code) c answered answered a b b
 told_waits c answered m a b = a
 
 reply_waits : (c : Client) (reply : Message) → WaitsForOwn c → WaitsForOwn (take_reply c reply)
