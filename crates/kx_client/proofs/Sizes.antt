@@ -1,8 +1,8 @@
 -- How many bytes the records of values take.
 use Rattle.std.proofs.Common.{◌≡◌, ◌+◌, ◌*◌, ◌/◌, ◌<◌, ◌≤◌, ℕ, zero, suc, pos, negsuc, List, []}
-use Rattle.std.proofs.Common.{◌∷◌, ◌++◌, length, map, Some, None, true, false, refl, sym, ap}
-use Rattle.std.proofs.Common.{◌∙◌, arith, append-nil, lit<, inl, inr, take}
-use Rattle.std.specs.Prelude.{is_some}
+use Rattle.std.proofs.Common.{◌∷◌, ◌++◌, length, map, Option, Some, None, true, false, refl, sym}
+use Rattle.std.proofs.Common.{ap, ◌∙◌, arith, append-nil, lit<, inl, inr, take}
+use Rattle.std.specs.Prelude.{MatchOption, is_some}
 use Rattle.std.specs.List.{enumerate_from}
 use Rattle.std.proofs.lemmas.Bool.{cases_lt, lt-ltb, le-ltb}
 use Rattle.std.proofs.lemmas.List.{length-append, length-take-le}
@@ -12,6 +12,7 @@ use Rattle.kx_batch.specs.Batch.{batch_limit}
 use Rattle.kx_batch.specs.Build.{body_text, pushed, record_text, records_text, with_pushed}
 use Rattle.kx_batch.specs.Build.{within_limit}
 use Rattle.kx_batch.specs.Record.{Record}
+use Rattle.kx_client.specs.Internal.{IsBatchLen}
 use Rattle.kx_model.specs.Client.{value_records}
 
 -- ---- numbers
@@ -207,3 +208,32 @@ one_pushed xs x ys fit =
     (length-value_records xs) ∙ sym (records_push xs x))
     ∙ some_within (value_records (xs ++ x ∷ []))
     (omega (arith, size_front (xs ++ x ∷ []) ys, within ((xs ++ x ∷ []) ++ ys) fit))
+
+-- values that pass the limit do with more behind them
+pub more_pass : (xs ys : List (List ℕ)) → is_some (within_limit (value_records xs)) ≡ false
+    → is_some (within_limit (value_records (xs ++ ys))) ≡ false
+more_pass xs ys over = elim (cases_lt batch_limit (61 + size xs)) [
+  | inl lt ↦ passes_limit xs ys lt
+  | inr le ↦ absurd (let fit = keeps_limit xs le in cc)
+]
+
+-- one more value fits where its record does
+module _ (xs : List (List ℕ)) (x : List ℕ) (len at : ℕ) (h : IsBatchLen len xs)
+    (behind : at ≡ length xs) where
+  grown_size : len + length (record_text (record_at at x)) ≡ 61 + size (xs ++ x ∷ [])
+  grown_size =
+      omega (
+        arith,
+        h.is,
+        size_push xs x,
+        ap (λ (n : ℕ). length (record_text (record_at n x))) behind,
+      )
+
+  pub one_fits : (grown : Option ℕ)
+      → MatchOption grown (batch_limit < len + length (record_text (record_at at x)))
+      (λ n. (n ≡ len + length (record_text (record_at at x))) × (n ≤ batch_limit) × (at < n))
+      → is_some grown ≡ is_some (within_limit (value_records (xs ++ x ∷ [])))
+  one_fits None over =
+      sym (too_long (value_records (xs ++ x ∷ [])) (omega (arith, over, grown_size)))
+  one_fits (Some n) fits =
+      sym (keeps_limit (xs ++ x ∷ []) (omega (arith, fits.0, fits.1, grown_size)))

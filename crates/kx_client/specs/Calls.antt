@@ -1,9 +1,10 @@
 -- What a client answers where it refuses a command.
-use Rattle.std.specs.Prelude.{◌≡◌, ℕ, List, [], ◌∷◌}
+use Rattle.std.specs.Prelude.{◌≡◌, ℕ, ℤ, pos, negsuc, List, [], ◌∷◌, if◌then◌else◌}
 use Rattle.kx_client.specs.declared.fault.ClientFault.{ClientFault}
 use Rattle.kx_client.specs.declared.fault.ClientFault.TheVariants as fault
 use Rattle.kx_model.specs.Client as model
 use Rattle.kx_model.specs.Client.{Client, Command, Commanded, Declines, Does, SendOffsets, command}
+use Rattle.kx_model.specs.Client.{FetchPage}
 use Rattle.kx_message.specs.declared.payload.PartitionOffset.{PartitionOffset}
 
 abbrev pub number_of : ClientFault → ℕ
@@ -38,3 +39,9 @@ IsRefused fault.Memory answer = IsAllowed answer
 abbrev pub commanded_offsets : Client → List PartitionOffset → Commanded
 commanded_offsets c [] = Declines model.NotReady
 commanded_offsets c (offset ∷ more) = command c (SendOffsets offset more)
+
+-- what a fetch of a page comes to; none begins below offset 0
+abbrev pub commanded_page : Client → ℕ → ℤ → Commanded
+commanded_page c partition (pos from) = command c (FetchPage partition from)
+commanded_page c partition (negsuc below) =
+    if c.failed then Declines model.Failed else Declines model.NotReady

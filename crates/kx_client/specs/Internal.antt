@@ -2,19 +2,26 @@
 use Rattle.std.specs.Prelude.{◌≡◌, ◌+◌, ◌≤◌, ◌<◌, ◌==◌, ◌++◌, [], ◌∷◌, ℕ, Bool, true, false}
 use Rattle.std.specs.Prelude.{not, List, map, filter, length, take, drop, Some, count_by}
 use Rattle.std.specs.Prelude.{slice_index}
-use Rattle.std.specs.Prelude.{if◌then◌else◌}
+use Rattle.std.specs.Prelude.{if◌then◌else◌, ◌^◌, pos}
 use Rattle.std.specs.List.{list_any}
 use Rattle.kx_message.specs.Ranges.{IsPartition, data_partitions, offsets_partition}
-use Rattle.kx_batch.specs.Build.{Draft}
+use Rattle.kx_batch.specs.Batch.{batch_limit}
+use Rattle.kx_batch.specs.Build.{Draft, records_text}
 use Rattle.kx_batch.specs.Record.{Record}
+use Rattle.kx_client.specs.Calls.{IsRefused, commanded_offsets}
+use Rattle.kx_client.specs.declared.begun.Before.{Before}
 use Rattle.kx_client.specs.declared.client.Place as declared
+use Rattle.kx_client.specs.declared.commands.CommitParts.{CommitParts}
 use Rattle.kx_client.specs.declared.fault.ClientFault.{ClientFault}
 use Rattle.kx_client.specs.declared.fault.ClientFault.TheVariants as fault
 use Rattle.kx_client.specs.declared.values.Values.{Values}
 use Rattle.kx_client.specs.declared.replies.Meaning.{Meaning}
 use Rattle.kx_client.specs.declared.replies.Meaning.TheVariants as code
 use Rattle.kx_message.specs.declared.message.Message.{Message}
-use Rattle.kx_model.specs.Client.{Client, Place, Sequence, carries_to, is_init, value_records}
+use Rattle.kx_message.specs.Messages as the
+use Rattle.kx_message.specs.declared.payload.PartitionOffset.{PartitionOffset}
+use Rattle.kx_model.specs.Client.{Client, Commanded, Place, Sequence, asks, caller_of, carries_to}
+use Rattle.kx_model.specs.Client.{is_init, is_window_full, sending, sequence_of, value_records}
 use Rattle.kx_model.specs.Client.{window}
 use Rattle.kx_model.specs.Replies as model
 use Rattle.kx_model.specs.Replies.{correlation_of, is_answer_to}
@@ -115,3 +122,36 @@ IsUnbuilt fit fault.UsedUp = ⊥
 IsUnbuilt fit fault.MustAbort = ⊥
 IsUnbuilt fit fault.TooLarge = fit ≡ false
 IsUnbuilt fit fault.Memory = fit ≡ true
+
+-- the batch of these values has so many bytes, and is within the limit
+pub record IsBatchLen (len : ℕ) (values : List (List ℕ)) : Type 0 where
+  pub is : len ≡ 61 + length (records_text (value_records values))
+  pub within : len ≤ batch_limit
+  pub places : length values ≤ len
+
+-- the rules refuse it for this fault, which isn't want of memory
+abbrev pub IsDeclined : ClientFault → Commanded → Type 0
+IsDeclined fault.Memory answer = ⊥
+IsDeclined other answer = IsRefused other answer
+
+-- the client with what was before a transaction began
+abbrev pub put_back : Before → Client → Client
+put_back before c = record c {
+  in_transaction = before.in_transaction;
+  sent_some = before.sent_some;
+  must_abort = before.must_abort;
+}
+
+-- the rules have nothing against a commit of these offsets, which is sent with these parts
+pub record IsCommitOf (c : Client) (offsets : List PartitionOffset) (parts : CommitParts)
+    : Type 0 where
+  pub asked : commanded_offsets c offsets
+      ≡ asks (sending c offsets_partition (length offsets))
+      (the.TxnOffsetCommit (caller_of c) parts.txn parts.place.group c.number
+      parts.place.generation parts.held (pos parts.numbers.first) offsets)
+  pub caller : parts.numbers.caller ≡ caller_of c
+  pub left : c.correlation < 2 ^ 32
+  pub window_open : is_window_full c offsets_partition ≡ false
+  pub first : parts.numbers.first < 2 ^ 31
+  pub next : parts.numbers.next
+      ≡ sequence_of c.sequences offsets_partition + length offsets

@@ -1,7 +1,7 @@
 //! What a client holds, and how it asks.
 ghost use Rattle.std.specs.Prelude.{◌≡◌, ◌+◌, ◌++◌, [], ◌∷◌, ◌≤◌, ◌<◌, ◌^◌, ◌==◌, ◌||◌, ◌&&◌, ℕ};
 ghost use Rattle.std.specs.Prelude.{Some, true, false, not, MatchOption, IfOk, OnErr, count_by};
-ghost use Rattle.std.specs.Prelude.{is_none, is_some};
+ghost use Rattle.std.specs.Prelude.{is_none, is_some, length, nat_lt};
 ghost use Rattle.std.specs.List.{list_any};
 ghost use Rattle.kx_model.specs.Client.{caller_of, carries_to, is_ending, is_init, is_outside};
 ghost use Rattle.kx_model.specs.Client.{is_spent, is_used_up, is_window_full, new_client};
@@ -110,6 +110,41 @@ impl ProducerClient {
         ensures { result ≡ self.now.number }
     {
         self.number
+    }
+
+    /// Whether it has a transactional id, so that it sends in transactions alone.
+    pub fn is_transactional(&self) -> bool
+        ensures { result ≡ is_some self.now.txn }
+    {
+        self.txn.is_some()
+    }
+
+    /// Whether it holds an id and an epoch.
+    pub fn has_id(&self) -> bool
+        ensures { result ≡ is_some self.now.held }
+    {
+        self.held.is_some()
+    }
+
+    /// Whether a request is unanswered.
+    pub fn is_waiting(&self) -> bool
+        ensures { result ≡ nat_lt 0 (length self.now.waiting) }
+    {
+        !self.waiting.is_empty()
+    }
+
+    /// Whether it is in a transaction. Until its end is answered, it is.
+    pub fn is_in_transaction(&self) -> bool
+        ensures { result ≡ self.now.in_transaction }
+    {
+        self.in_transaction
+    }
+
+    /// Whether it has failed for good, and refuses every command.
+    pub fn has_failed(&self) -> bool
+        ensures { result ≡ self.now.failed }
+    {
+        self.failed
     }
 
     // The client and the number of its next request, if one is left.

@@ -1,17 +1,28 @@
 //! A client's commands.
-ghost use Rattle.std.specs.Prelude.{◌≡◌, [], ◌∷◌, MatchResult};
+ghost use Rattle.std.specs.Prelude.{◌≡◌, ◌<◌, [], ◌∷◌, MatchResult, length};
 ghost use Rattle.std.specs.List.{cons_option};
 ghost use Rattle.kx_client.specs.Calls.{IsRefused, commanded_offsets};
+ghost use Rattle.kx_client.specs.Internal.{IsCommitOf, IsDeclined};
+ghost use Rattle.kx_client.specs.declared.fault.ClientFault.TheVariants.{Memory};
 ghost use Rattle.kx_model.specs.Client.{Begin, Does, End, Init, JoinGroup, LeaveGroup};
-ghost use Rattle.kx_model.specs.Client.{Resend, Send, command};
+ghost use Rattle.kx_model.specs.Client.{Resend, Send, SendOffsets, command};
 
-use crate::client::ProducerClient;
+use crate::client::{Numbers, Place, ProducerClient};
 use crate::fault::ClientFault;
 use crate::values::Values;
 use kx_message::{
-    EndTxn, GroupId, InitProducerId, Join, Leave, Message, Offsets, Outcome, PartitionId, Produce,
-    TxnOffsetCommit,
+    EndTxn, GroupId, Held, InitProducerId, Join, Leave, Message, Offsets, Outcome, PartitionId,
+    PartitionOffset, Produce, TxnId, TxnOffsetCommit,
 };
+
+// What a commit of offsets is sent with.
+#[derive(Clone, Copy)]
+pub(crate) struct CommitParts {
+    txn: TxnId,
+    held: Held,
+    place: Place,
+    numbers: Numbers,
+}
 
 impl ProducerClient {
     /// Asks the coordinator for an id and an epoch (KIP-98's InitProducerId). While the reply is
@@ -56,23 +67,11 @@ impl ProducerClient {
     /// [`NotTransactional`](ClientFault::NotTransactional) where it has no transactional id;
     /// [`NotReady`](ClientFault::NotReady) where it holds no id, is in a transaction, or the end of
     /// one is unanswered. Nothing is changed then.
-    #[tactic(auto, unfolding(kx_model::specs::Client::command))]
     pub fn begin(&mut self) -> Result<(), ClientFault>
         ensures { MatchResult result (λ _. command self.old Begin ≡ Does self.new [])
             (λ fault. IsRefused fault (command self.old Begin) × (self.new ≡ self.old)) }
     {
-        if self.failed {
-            return Err(ClientFault::Failed);
-        }
-        if self.txn.is_none() {
-            return Err(ClientFault::NotTransactional);
-        }
-        if self.held.is_none() || self.in_transaction || self.waiting.is_ending() {
-            return Err(ClientFault::NotReady);
-        }
-        self.in_transaction = true;
-        self.sent_some = false;
-        self.must_abort = false;
+        self.start()?;
         Ok(())
     }
 
@@ -188,24 +187,12 @@ impl ProducerClient {
         Ok(self.ask(Message::Leave(Leave { caller, group }))?)
     }
 
-    /// Sends offsets of the partitions that the group reads with the transaction, so that they are
-    /// committed exactly when it is (KIP-447's sendOffsetsToTransaction).
-    ///
-    /// # Errors
-    ///
-    /// The first that fits: [`Failed`](ClientFault::Failed) where the client has failed;
-    /// [`NotTransactional`](ClientFault::NotTransactional) where it has no transactional id;
-    /// [`NotReady`](ClientFault::NotReady) outside a transaction, while its end is unanswered, or
-    /// where no join was answered 0; [`MustAbort`](ClientFault::MustAbort) where offsets were
-    /// refused by the group; [`WindowFull`](ClientFault::WindowFull) where five commits of offsets
-    /// are unanswered; [`UsedUp`](ClientFault::UsedUp) where no number is left for the request, or
-    /// no sequence for each offset; [`Memory`](ClientFault::Memory). Nothing is changed then.
+    // What a commit of these offsets is sent with, if nothing is against it.
     #[tactic(auto, unfolding(kx_model::specs::Client::command))]
-    pub fn offsets(&mut self, offsets: Offsets) -> Result<Message, ClientFault>
-        ensures { MatchResult result
-            (λ sent. commanded_offsets self.old offsets ≡ Does self.new (sent ∷ []))
-            (λ fault. IsRefused fault (commanded_offsets self.old offsets)
-            × (self.new ≡ self.old)) }
+    fn commit_parts(&self, offsets: &[PartitionOffset]) -> Result<CommitParts, ClientFault>
+        requires { 0 < length offsets.now }
+        ensures { MatchResult result (λ parts. IsCommitOf self.now offsets.now parts)
+            (λ fault. IsDeclined fault (commanded_offsets self.now offsets.now)) }
     {
         if self.failed {
             return Err(ClientFault::Failed);
@@ -222,10 +209,34 @@ impl ProducerClient {
         if self.waiting.is_window_full(PartitionId::OFFSETS) {
             return Err(ClientFault::WindowFull);
         }
-        let count = offsets.as_slice().len();
-        let Some(numbers) = self.numbers(PartitionId::OFFSETS, count) else {
+        let Some(numbers) = self.numbers(PartitionId::OFFSETS, offsets.len()) else {
             return Err(ClientFault::UsedUp);
         };
+        Ok(CommitParts {
+            txn,
+            held,
+            place,
+            numbers,
+        })
+    }
+
+    // Sends these offsets with these parts.
+    fn commit_offsets(
+        &mut self,
+        parts: CommitParts,
+        offsets: Offsets,
+    ) -> Result<Message, ClientFault>
+        requires { IsCommitOf self.old offsets parts }
+        ensures { MatchResult result
+            (λ sent. commanded_offsets self.old offsets ≡ Does self.new (sent ∷ []))
+            (λ fault. (fault ≡ Memory) × (self.new ≡ self.old)) }
+    {
+        let CommitParts {
+            txn,
+            held,
+            place,
+            numbers,
+        } = parts;
         let request = Message::TxnOffsetCommit(TxnOffsetCommit {
             caller: numbers.caller,
             txn,
@@ -237,6 +248,52 @@ impl ProducerClient {
             offsets,
         });
         Ok(self.ask_with(request, PartitionId::OFFSETS, numbers.next)?)
+    }
+
+    /// Sends offsets of the partitions that the group reads with the transaction, so that they are
+    /// committed exactly when it is (KIP-447's sendOffsetsToTransaction).
+    ///
+    /// # Errors
+    ///
+    /// The first that fits: [`Failed`](ClientFault::Failed) where the client has failed;
+    /// [`NotTransactional`](ClientFault::NotTransactional) where it has no transactional id;
+    /// [`NotReady`](ClientFault::NotReady) outside a transaction, while its end is unanswered, or
+    /// where no join was answered 0; [`MustAbort`](ClientFault::MustAbort) where offsets were
+    /// refused by the group; [`WindowFull`](ClientFault::WindowFull) where five commits of offsets
+    /// are unanswered; [`UsedUp`](ClientFault::UsedUp) where no number is left for the request, or
+    /// no sequence for each offset; [`Memory`](ClientFault::Memory). Nothing is changed then.
+    pub fn offsets(&mut self, offsets: Offsets) -> Result<Message, ClientFault>
+        ensures { MatchResult result
+            (λ sent. commanded_offsets self.old offsets ≡ Does self.new (sent ∷ []))
+            (λ fault. IsRefused fault (commanded_offsets self.old offsets)
+            × (self.new ≡ self.old)) }
+    {
+        let parts = self.commit_parts(offsets.as_slice())?;
+        self.commit_offsets(parts, offsets)
+    }
+
+    /// Sends the offset of one partition that the group reads with the transaction, so that it is
+    /// committed exactly when the transaction is (KIP-447's sendOffsetsToTransaction). Memory is
+    /// asked for last.
+    ///
+    /// # Errors
+    ///
+    /// The first that fits: [`Failed`](ClientFault::Failed) where the client has failed;
+    /// [`NotTransactional`](ClientFault::NotTransactional) where it has no transactional id;
+    /// [`NotReady`](ClientFault::NotReady) outside a transaction, while its end is unanswered, or
+    /// where no join was answered 0; [`MustAbort`](ClientFault::MustAbort) where offsets were
+    /// refused by the group; [`WindowFull`](ClientFault::WindowFull) where five commits of offsets
+    /// are unanswered; [`UsedUp`](ClientFault::UsedUp) where no number is left for the request, or
+    /// no sequence for the offset; [`Memory`](ClientFault::Memory). Nothing is changed then.
+    pub fn offset(&mut self, offset: PartitionOffset) -> Result<Message, ClientFault>
+        ensures { MatchResult result
+            (λ sent. command self.old (SendOffsets offset []) ≡ Does self.new (sent ∷ []))
+            (λ fault. IsRefused fault (command self.old (SendOffsets offset []))
+            × (self.new ≡ self.old)) }
+    {
+        let parts = self.commit_parts(&[offset])?;
+        let offsets = Offsets::from_vec(Vec::from_slice(self.alloc, &[offset])?);
+        self.commit_offsets(parts, offsets)
     }
 
     /// Ends the transaction as a commit: asks the coordinator (KIP-98's EndTxn). Where nothing was

@@ -2,9 +2,11 @@
 //! that it hands out and keeps until they are answered, and what it makes of replies.
 #![tactic(auto)]
 
+mod begun;
 mod client;
 mod commands;
 mod fault;
+mod fetches;
 mod replies;
 mod sequences;
 mod values;

@@ -2,7 +2,7 @@
 ghost use Rattle.std.specs.Prelude.{◌≡◌, false, option_map};
 ghost use Rattle.kx_client.specs.Internal.{is_done, meant, without};
 ghost use Rattle.kx_model.specs.Replies.{holding, is_awaited, learns, meaning, placed_in};
-ghost use Rattle.kx_model.specs.Replies.{offsets_meaning, take_reply};
+ghost use Rattle.kx_model.specs.Replies.{offset_meaning, offsets_meaning, take_reply};
 
 use crate::client::{Place, ProducerClient};
 use kx_message::{ErrorCode, Held, JoinReply, Message, Node};
@@ -43,9 +43,21 @@ fn offsets_meaning(code: ErrorCode) -> Meaning
     }
 }
 
+// The same of an answer to a fetch of an offset: that the group has a commit of it pending is an
+// answer too.
+fn offset_meaning(code: ErrorCode) -> Meaning
+    ensures { meant result ≡ offset_meaning code }
+{
+    match code {
+        ErrorCode::UnstableOffsetCommit => Meaning::Done,
+        other => meaning_of(other),
+    }
+}
+
 impl ProducerClient {
-    // Whether the reply goes to this client and answers a request that waits.
-    fn awaits(&self, reply: &Message) -> bool
+    /// Whether a message that comes is a reply to this client, and a request of its kind and number
+    /// waits. No other message changes anything.
+    pub fn awaits(&self, reply: &Message) -> bool
         ensures { result ≡ is_awaited self.now reply.now }
     {
         reply.receiver() == Node::Client(self.number) && self.waiting.awaits(reply)
@@ -122,7 +134,9 @@ impl ProducerClient {
     /// [`KafkaStorageError`](ErrorCode::KafkaStorageError) leave it waiting, to be sent again.
     /// [`UnknownMemberId`](ErrorCode::UnknownMemberId) and
     /// [`IllegalGeneration`](ErrorCode::IllegalGeneration) on offsets answer it, and the
-    /// transaction has to be aborted. After any other code the client has failed for good.
+    /// transaction has to be aborted. [`UnstableOffsetCommit`](ErrorCode::UnstableOffsetCommit) on
+    /// a fetch of an offset answers it, and says no offset. After any other code the client has
+    /// failed for good.
     #[tactic(auto, unfolding(kx_model::specs::Replies::take_reply))]
     pub fn take(&mut self, reply: &Message)
         ensures { self.new ≡ take_reply self.old reply.now }
@@ -154,6 +168,12 @@ impl ProducerClient {
             }
             Message::OffsetsReply(it) => {
                 self.learn(offsets_meaning(it.code), reply);
+            }
+            Message::FetchReply(it) => {
+                self.learn(meaning_of(it.code), reply);
+            }
+            Message::OffsetFetchReply(it) => {
+                self.learn(offset_meaning(it.code), reply);
             }
             _ => {}
         }
