@@ -1,0 +1,6 @@
+pub mod ClientNumbers
+pub mod ChangedClients
+mod Printing
+mod SystemWorlds
+mod ToldCommands
+mod WorkedRuns
