@@ -1,0 +1,5 @@
+pub mod Chain
+pub mod Outputs
+pub mod Premises
+pub mod Visible
+pub mod Written
