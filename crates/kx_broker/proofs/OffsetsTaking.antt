@@ -8,7 +8,8 @@ use Rattle.kx_broker.specs.Serving.{MayDo, Restarts, Serves, Serving, has_failed
 use Rattle.kx_broker.specs.declared.restart.Restarted.TheVariants as restarted
 use Rattle.kx_broker.proofs.Stores.{any_allowed}
 use Rattle.kx_client.specs.declared.values.Values.{Values}
-use Rattle.kx_machine.specs.Meaning.{AtClient, AtCoordinator, AtPartition, IsTaken, NodeState}
+use Rattle.kx_machine.specs.Meaning.{AtClient, AtCoordinator, AtPartition, AtProcessor, IsTaken}
+use Rattle.kx_machine.specs.Meaning.{NodeState}
 use Rattle.kx_machine.specs.Meaning.{command_of, finds, input_of, node_step, taken_of}
 use Rattle.kx_machine.specs.declared.input.Command as running
 use Rattle.kx_machine.specs.declared.input.Input as given
@@ -169,6 +170,7 @@ pub at_partition : (old : Serving) (Goal : NodeState → Type 0)
     → (state : NodeState) → StandsForGroups state old → Goal state
 at_partition old Goal by (AtCoordinator co) stands = absurd stands
 at_partition old Goal by (AtClient client) stands = absurd stands
+at_partition old Goal by (AtProcessor processor) stands = absurd stands
 at_partition old Goal by (AtPartition number p) stands =
     subst (λ n. Goal (AtPartition n p)) (sym stands.0) (by p stands.1)
 

@@ -7,7 +7,8 @@ use Rattle.kx_broker.specs.Serving.{IsServed, MayDo, Puts, Restarts, Serves, Ser
 use Rattle.kx_broker.specs.Serving.{closes, has_failed}
 use Rattle.kx_broker.specs.declared.restart.Restarted.TheVariants as restarted
 use Rattle.kx_broker.proofs.Stores.{any_allowed}
-use Rattle.kx_machine.specs.Meaning.{AtClient, AtCoordinator, AtPartition, IsTaken, NodeState}
+use Rattle.kx_machine.specs.Meaning.{AtClient, AtCoordinator, AtPartition, AtProcessor, IsTaken}
+use Rattle.kx_machine.specs.Meaning.{NodeState}
 use Rattle.kx_machine.specs.Meaning.{finds, node_step}
 use Rattle.kx_machine.specs.Meaning.{command_of, input_of, taken_of}
 use Rattle.kx_machine.specs.declared.input.Command as running
@@ -199,6 +200,7 @@ module _ (old new : Serving) where
       (record { messages = messages; note = note.Done; failed = failed; found = false })
   delivered_any m messages failed serves same (AtCoordinator co) stands = absurd stands
   delivered_any m messages failed serves same (AtClient client) stands = absurd stands
+  delivered_any m messages failed serves same (AtProcessor processor) stands = absurd stands
   delivered_any m messages failed serves same (AtPartition number p) stands =
       delivered number p old new stands.0 m messages failed (serves number p stands.1) same
 
@@ -210,6 +212,7 @@ module _ (old new : Serving) where
       (record { messages = []; note = note.Put answer; failed = failed; found = false })
   put_any value more answer failed serves same (AtCoordinator co) stands = absurd stands
   put_any value more answer failed serves same (AtClient client) stands = absurd stands
+  put_any value more answer failed serves same (AtProcessor processor) stands = absurd stands
   put_any value more answer failed serves same (AtPartition number p) stands =
       was_put number p old new stands.0 value more answer failed (serves number p stands.1) same
 
@@ -221,6 +224,7 @@ module _ (old new : Serving) where
       (record { messages = []; note = note.Done; failed = failed; found = found })
   read_any now found failed serves same (AtCoordinator co) stands = absurd stands
   read_any now found failed serves same (AtClient client) stands = absurd stands
+  read_any now found failed serves same (AtProcessor processor) stands = absurd stands
   read_any now found failed serves same (AtPartition number p) stands =
       was_read number p old new stands.0 now found failed (serves number p stands.1) same
 
@@ -232,6 +236,7 @@ module _ (old new : Serving) where
       (record { messages = []; note = note.Closed Read; failed = failed; found = false })
   unread_any now failed serves same (AtCoordinator co) stands = absurd stands
   unread_any now failed serves same (AtClient client) stands = absurd stands
+  unread_any now failed serves same (AtProcessor processor) stands = absurd stands
   unread_any now failed serves same (AtPartition number p) stands =
       was_unread number p old new stands.0 now failed (serves number p stands.1) same
 
@@ -239,6 +244,7 @@ module _ (old new : Serving) where
       → (state : NodeState) → StandsFor state old → StandsFor state new
   still_any still (AtCoordinator co) stands = stands
   still_any still (AtClient client) stands = stands
+  still_any still (AtProcessor processor) stands = stands
   still_any still (AtPartition number p) stands = (stands.0, still number p stands.1)
 
 -- what isn't for a data partition
@@ -253,6 +259,7 @@ pub rests_any : (old : Serving) (asked : Input) → IsOther asked → (state : N
     (record { messages = []; note = note.Done; failed = false; found = false })
 rests_any old asked other (AtCoordinator co) stands = absurd stands
 rests_any old asked other (AtClient client) stands = absurd stands
+rests_any old asked other (AtProcessor processor) stands = absurd stands
 rests_any old asked (OtherCommand what) (AtPartition number p) stands =
     commanded number p old stands.0 stands.1 what
 rests_any old asked (OtherExpire now) (AtPartition number p) stands =

@@ -8,7 +8,7 @@ use Rattle.kx_log.specs.Log.{IsLog, texts}
 use Rattle.kx_log.specs.declared.fault.OpenFault.{OpenFault}
 use Rattle.kx_log.specs.LogState.{LogState}
 use Rattle.kx_log.specs.Store.{StoreState}
-use Rattle.kx_machine.specs.Meaning.{NodeState, AtCoordinator, AtPartition, AtClient}
+use Rattle.kx_machine.specs.Meaning.{NodeState, AtCoordinator, AtPartition, AtClient, AtProcessor}
 use Rattle.kx_message.specs.Ranges.{offsets_partition}
 use Rattle.kx_message.specs.declared.code.ErrorCode.{ErrorCode}
 use Rattle.kx_message.specs.declared.message.Held.{Held}
@@ -71,6 +71,7 @@ StandsForGroups (AtCoordinator co) server = ⊥
 StandsForGroups (AtPartition number p) server =
     (number ≡ offsets_partition) × KeepsOffsets p server
 StandsForGroups (AtClient c) server = ⊥
+StandsForGroups (AtProcessor p) server = ⊥
 
 ------ a step
 

@@ -10,7 +10,8 @@ use Rattle.kx_laws.specs.Grown.{IsGrown}
 use Rattle.kx_log.specs.Log.{IsLog, log_in}
 use Rattle.kx_log.specs.LogState.{LogState}
 use Rattle.kx_log.specs.Opening.{IsRight}
-use Rattle.kx_machine.specs.Meaning.{NodeState, AtCoordinator, AtPartition, AtClient, produced_of}
+use Rattle.kx_machine.specs.Meaning.{NodeState, AtCoordinator, AtPartition, AtClient}
+use Rattle.kx_machine.specs.Meaning.{AtProcessor, produced_of}
 use Rattle.kx_machine.specs.Stores.{Allows}
 use Rattle.kx_message.specs.Ranges.{offsets_partition}
 use Rattle.kx_message.specs.declared.message.Held.{Held}
@@ -93,6 +94,7 @@ StandsFor (AtCoordinator co) server = ⊥
 StandsFor (AtPartition number p) server =
     ((number == offsets_partition) ≡ false) × IsServed number p server
 StandsFor (AtClient c) server = ⊥
+StandsFor (AtProcessor p) server = ⊥
 
 -- what its store may do in the next step
 abbrev pub MayDo : Serving → Store → Type 0

@@ -7,7 +7,7 @@ use Rattle.std.proofs.lemmas.Bool.Decides.{nat_tests}
 use Rattle.std.proofs.lemmas.List.{append-nil}
 use Rattle.kx_log.specs.Opening.{OpenFailed}
 use Rattle.kx_log.specs.Store.{MayAppend, MayLeave, StoreState}
-use Rattle.kx_machine.specs.Meaning.{AtClient, AtCoordinator, AtPartition, of_kind}
+use Rattle.kx_machine.specs.Meaning.{AtClient, AtCoordinator, AtPartition, AtProcessor, of_kind}
 use Rattle.kx_machine.specs.Meaning.{taken_of}
 use Rattle.kx_machine.specs.declared.taken.Closing.TheVariants.{Read, Write}
 use Rattle.kx_machine.specs.declared.taken.Note as answer
@@ -334,3 +334,4 @@ keeps_cut old new (inr cut) (AtCoordinator co) runs =
     cut_to co old new cut.0.notes runs cut.0.opened cut.1
 keeps_cut old new (inr cut) (AtPartition number p) runs = absurd runs
 keeps_cut old new (inr cut) (AtClient c) runs = absurd runs
+keeps_cut old new (inr cut) (AtProcessor p) runs = absurd runs

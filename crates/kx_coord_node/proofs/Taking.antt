@@ -8,7 +8,7 @@ use Rattle.kx_message.specs.declared.requests.AddPartition.{AddPartition}
 use Rattle.kx_message.specs.declared.requests.EndTxn.{EndTxn}
 use Rattle.kx_message.specs.declared.requests.InitProducerId.{InitProducerId}
 use Rattle.kx_message.specs.declared.replies.MarkerReply.{MarkerReply}
-use Rattle.kx_machine.specs.Meaning.{AtCoordinator, AtPartition, AtClient, IsTaken}
+use Rattle.kx_machine.specs.Meaning.{AtCoordinator, AtPartition, AtClient, AtProcessor, IsTaken}
 use Rattle.kx_machine.specs.Meaning.{finds, of_kind, taken_of}
 use Rattle.kx_machine.specs.declared.taken.Note.TheVariants as note
 use Rattle.kx_machine.specs.declared.taken.Taken.{Taken}
@@ -37,6 +37,7 @@ pub at_coordinator : (input : Input) (old new : CoordinatorState) (t : Taken)
 at_coordinator input old new t by (AtCoordinator co) runs = by co runs
 at_coordinator input old new t by (AtPartition number p) runs = absurd runs
 at_coordinator input old new t by (AtClient c) runs = absurd runs
+at_coordinator input old new t by (AtProcessor p) runs = absurd runs
 
 pub never_both : (b : Bool) → (not b && b) ≡ false
 never_both true = refl

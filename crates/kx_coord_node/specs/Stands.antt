@@ -3,6 +3,7 @@ use Rattle.std.specs.Prelude.{◌≡◌, ℕ, List, None, false}
 use Rattle.kx_coord.specs.CoordinatorState.{CoordinatorState}
 use Rattle.kx_coord.specs.Noted.{SameAnswered}
 use Rattle.kx_machine.specs.Meaning.{NodeState, AtCoordinator, AtPartition, AtClient, IsTaken}
+use Rattle.kx_machine.specs.Meaning.{AtProcessor}
 use Rattle.kx_machine.specs.Stores.{Allows}
 use Rattle.kx_machine.specs.declared.taken.Taken.{Taken}
 use Rattle.kx_model.specs.Coordinator.{Note}
@@ -33,6 +34,7 @@ abbrev pub Stands : NodeState → CoordinatorState → Type 0
 Stands (AtCoordinator co) running = RunsAs co running
 Stands (AtPartition number p) running = ⊥
 Stands (AtClient c) running = ⊥
+Stands (AtProcessor p) running = ⊥
 
 -- what its store may do in the next step
 abbrev pub MayDo : CoordinatorState → Store → Type 0

@@ -3,7 +3,7 @@ use Rattle.std.proofs.Common.{◌≡◌, ℕ, List, Option, Some, get_or, sym, a
 use Rattle.std.specs.Prelude.{slice_get, slice_set}
 use Rattle.std.proofs.lemmas.Option.{get_or_from_slice_get}
 use Rattle.kx_core.specs.Clients.{AreRising, TakesAt, TakesBy, any_store, client_in}
-use Rattle.kx_core.proofs.Numbers.{number_kept}
+use Rattle.kx_core.proofs.Numbers.{step_number}
 use Rattle.kx_core.proofs.Rising.{found, replaced}
 use Rattle.kx_machine.specs.Meaning.{AtClient, IsTaken}
 use Rattle.kx_machine.specs.declared.taken.Taken.{Taken}
@@ -35,7 +35,7 @@ module _ (cs : List Client) (place number : ℕ) (c x : Client) (rising : AreRis
       let is_after : (client_step c input).state ≡ after =
       same_client (client_step c input).state after t.stands in
       let kept : after.number ≡ c.number =
-      ap (λ (d : Client). d.number) (sym is_after) ∙ number_kept c input in
+      ap (λ (d : Client). d.number) (sym is_after) ∙ step_number c input in
       let put = replaced cs place c after rising here kept in (
         put.1,
         subst (λ (o : Option Client). TakesBy cs (slice_set cs place after) input o (Some taken))

@@ -88,6 +88,9 @@ impl ClientMachine {
             },
             Command::End(Outcome::Abort) => Ok(only(room, self.client.abort()?)),
             Command::Resend => Ok(Messages::from_vec(self.client.resend()?)),
+            // Only a processor has a next request.
+            Command::Poll if self.client.has_failed() => Err(ClientFault::Failed),
+            Command::Poll => Err(ClientFault::NotReady),
         }
     }
 

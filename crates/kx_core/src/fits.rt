@@ -78,7 +78,12 @@ fn command_fits(command: &Command)
             let _group = group.as_bytes();
         }
         Command::Offsets(offsets) => offsets_fit(offsets.as_slice()),
-        Command::Init | Command::Begin | Command::Leave | Command::End(_) | Command::Resend => {}
+        Command::Init
+        | Command::Begin
+        | Command::Leave
+        | Command::End(_)
+        | Command::Resend
+        | Command::Poll => {}
     }
 }
 

@@ -26,6 +26,7 @@ use Rattle.kx_model.specs.Step.{StepNote, Done, Declined, PutAt, Coded, Unread, 
 use Rattle.kx_model.specs.Step.{RunsOut, NodeStep, coordinator_step, partition_step, client_step}
 use Rattle.kx_partition.specs.declared.answer.Produced.{Produced}
 use Rattle.kx_partition.specs.declared.answer.Produced.TheVariants as produced
+use Rattle.kx_system.specs.Processor.{Processor, processor_step}
 
 ------ inputs
 
@@ -44,6 +45,7 @@ command_of told.Leave = model.LeaveGroup
 command_of (told.Offsets offsets) = command_of_offsets offsets
 command_of (told.End outcome) = model.End outcome
 command_of told.Resend = model.Resend
+command_of told.Poll = model.Poll
 
 abbrev pub input_of : given.Input → Input
 input_of (input.Deliver message) = Comes message
@@ -87,6 +89,7 @@ pub data NodeState : Type 0 where
   AtCoordinator : (coordinator : Coordinator) → NodeState
   AtPartition : (number : ℕ) (partition : Partition) → NodeState
   AtClient : (client : Client) → NodeState
+  AtProcessor : (processor : Processor) → NodeState
 
 abbrev pub made_as : Making → NodeState
 made_as making.Coordinator = AtCoordinator new_coordinator
@@ -101,6 +104,7 @@ node_step (AtCoordinator co) store input = of_kind AtCoordinator (coordinator_st
 node_step (AtPartition number p) store input =
     of_kind (AtPartition number) (partition_step number p store input)
 node_step (AtClient c) store input = of_kind AtClient (client_step c input)
+node_step (AtProcessor p) store input = of_kind AtProcessor (processor_step p input)
 
 ------ what the store did
 
@@ -108,12 +112,14 @@ abbrev pub is_closed : NodeState → Bool
 is_closed (AtCoordinator co) = co.disk.closed
 is_closed (AtPartition number p) = p.disk.closed
 is_closed (AtClient c) = false
+is_closed (AtProcessor p) = false
 
 -- the whole entry of an append that failed stands behind its log
 abbrev pub hides : NodeState → Bool
 hides (AtCoordinator co) = is_some co.disk.hidden
 hides (AtPartition number p) = is_some p.disk.hidden
 hides (AtClient c) = false
+hides (AtProcessor p) = false
 
 -- an append failed, which closes the log, or a restart did
 abbrev pub fails : NodeState → NodeStep NodeState → StepNote → Bool

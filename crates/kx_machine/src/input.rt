@@ -26,6 +26,8 @@ pub enum Command {
     End(Outcome),
     /// Hands out again what is unanswered.
     Resend,
+    /// Hands out the next request of a processor. No other client has one.
+    Poll,
 }
 
 /// What a node is handed in one step.
@@ -62,6 +64,7 @@ impl Clone for Command {
             Command::Offsets(offsets) => Ok(Command::Offsets(offsets.clone()?)),
             Command::End(outcome) => Ok(Command::End(*outcome)),
             Command::Resend => Ok(Command::Resend),
+            Command::Poll => Ok(Command::Poll),
         }
     }
 }
@@ -92,7 +95,8 @@ impl Command {
             (Command::Init, Command::Init)
             | (Command::Begin, Command::Begin)
             | (Command::Leave, Command::Leave)
-            | (Command::Resend, Command::Resend) => true,
+            | (Command::Resend, Command::Resend)
+            | (Command::Poll, Command::Poll) => true,
             (Command::Send(p, a), Command::Send(q, b)) => p == q && same_values(a, b),
             (Command::Join(a), Command::Join(b)) => a == b,
             (Command::Offsets(a), Command::Offsets(b)) => same_offsets(a, b),

@@ -205,6 +205,7 @@ task_name word =
     else if bytes_eq word (codes "commit") then Some name.Commit
     else if bytes_eq word (codes "abort") then Some name.Abort
     else if bytes_eq word (codes "resend") then Some name.Resend
+    else if bytes_eq word (codes "poll") then Some name.Poll
     else if bytes_eq word (codes "join") then Some name.Join
     else if bytes_eq word (codes "leave") then Some name.Leave
     else if bytes_eq word (codes "offsets") then Some name.Offsets
@@ -241,6 +242,7 @@ order_as name.Send words = send_task words
 order_as name.Commit words = plain_task (task.End Commit) words
 order_as name.Abort words = plain_task (task.End Abort) words
 order_as name.Resend words = plain_task task.Resend words
+order_as name.Poll words = plain_task task.Poll words
 order_as name.Join words = join_task words
 order_as name.Leave words = plain_task task.Leave words
 order_as name.Offsets words = offsets_task words

@@ -17,6 +17,7 @@ command_of task.Leave = model.LeaveGroup
 command_of (task.Offset offset) = model.SendOffsets offset []
 command_of (task.End outcome) = model.End outcome
 command_of task.Resend = model.Resend
+command_of task.Poll = model.Poll
 
 -- what a node's store does, where its next append is to fail or not
 abbrev pub store_of : Option Left → Store

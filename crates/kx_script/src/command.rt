@@ -19,6 +19,7 @@ pub(crate) enum Name {
     Commit,
     Abort,
     Resend,
+    Poll,
     Join,
     Leave,
     Offsets,
@@ -334,6 +335,8 @@ fn task_name(word: &[u8]) -> Option<Name>
         Some(Name::Abort)
     } else if word == b"resend".as_slice() {
         Some(Name::Resend)
+    } else if word == b"poll".as_slice() {
+        Some(Name::Poll)
     } else if word == b"join".as_slice() {
         Some(Name::Join)
     } else if word == b"leave".as_slice() {
@@ -401,6 +404,7 @@ fn order_as<'a>(name: Name, words: Words<'a>) -> Option<Order<'a>>
         Name::Commit => plain_task(Task::End(Outcome::Commit), words),
         Name::Abort => plain_task(Task::End(Outcome::Abort), words),
         Name::Resend => plain_task(Task::Resend, words),
+        Name::Poll => plain_task(Task::Poll, words),
         Name::Join => join_task(words),
         Name::Leave => plain_task(Task::Leave, words),
         Name::Offsets => offsets_task(words),

@@ -58,6 +58,8 @@ pub enum Task<'a> {
     End(Outcome),
     /// Hands out again what is unanswered.
     Resend,
+    /// Hands out the next request of a processor; any other client refuses.
+    Poll,
 }
 
 /// What an append that fails leaves in the store.

@@ -69,9 +69,13 @@ fn has_named<N: Runs>(world: &N, task: &Task<'_>) -> bool
     match task {
         Task::Send(partition, _) => has_partition(world, *partition),
         Task::Offset(offset) => has_partition(world, offset.partition),
-        Task::Init | Task::Begin | Task::Join(_) | Task::Leave | Task::End(_) | Task::Resend => {
-            true
-        }
+        Task::Init
+        | Task::Begin
+        | Task::Join(_)
+        | Task::Leave
+        | Task::End(_)
+        | Task::Resend
+        | Task::Poll => true,
     }
 }
 

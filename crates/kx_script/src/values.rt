@@ -65,5 +65,6 @@ pub fn command_of(alloc: Global, task: Task<'_>) -> Result<Command, AllocError>
         Task::Offset(offset) => Ok(Command::Offsets(offsets_of(alloc, offset)?)),
         Task::End(outcome) => Ok(Command::End(outcome)),
         Task::Resend => Ok(Command::Resend),
+        Task::Poll => Ok(Command::Poll),
     }
 }
