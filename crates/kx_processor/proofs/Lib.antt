@@ -1,0 +1,5 @@
+mod LastBatch
+mod Lefts
+mod PageImages
+mod Steps
+mod Told

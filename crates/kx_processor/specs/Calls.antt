@@ -1,0 +1,30 @@
+-- What a processor answers where it refuses a command.
+use Rattle.std.specs.Prelude.{◌≡◌, []}
+use Rattle.kx_client.specs.declared.fault.ClientFault.{ClientFault}
+use Rattle.kx_client.specs.declared.fault.ClientFault.TheVariants as fault
+use Rattle.kx_model.specs.Client as model
+use Rattle.kx_model.specs.Client.{Command, Fault}
+use Rattle.kx_model.specs.Step.{Commands, Declined}
+use Rattle.kx_system.specs.Processor.{Processor, processor_step}
+
+-- the rules refuse it so, and the processor is then where they say
+abbrev pub Declines : Processor → Command → Fault → Processor → Type 0
+Declines before what refusal after = processor_step before (Commands what) ≡ record {
+  state = after;
+  messages = [];
+  note = Declined refusal;
+}
+
+-- the fault is the one that the rules have; for want of memory, which may come in its place, the
+-- processor is as before
+abbrev pub IsRefused : Processor → Command → ClientFault → Processor → Type 0
+IsRefused before what fault.NotReady after = Declines before what model.NotReady after
+IsRefused before what fault.InFlight after = Declines before what model.InFlight after
+IsRefused before what fault.WindowFull after = Declines before what model.WindowFull after
+IsRefused before what fault.Failed after = Declines before what model.Failed after
+IsRefused before what fault.NotTransactional after =
+    Declines before what model.NotTransactional after
+IsRefused before what fault.UsedUp after = Declines before what model.UsedUp after
+IsRefused before what fault.MustAbort after = Declines before what model.MustAbort after
+IsRefused before what fault.TooLarge after = Declines before what model.TooLarge after
+IsRefused before what fault.Memory after = after ≡ before

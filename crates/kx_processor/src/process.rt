@@ -1,0 +1,21 @@
+//! What a processor makes of records.
+use kx_batch::RecordView;
+use std::alloc::AllocError;
+
+/// What a processor does with each record that it reads.
+pub trait Process: Drop {
+    ghost use Rattle.std.specs.Prelude.{◌≡◌, IfOk};
+    ghost use Rattle.kx_system.specs.Processor.{Images};
+
+    // the image of each record
+    ghost image_of: { Self → Images };
+
+    /// The image of a record, which is a function of the record alone: the value of the one record
+    /// that is written for it.
+    ///
+    /// # Errors
+    ///
+    /// Only for want of memory.
+    fn image(&self, of: &RecordView<'_>) -> Result<Vec<u8>, AllocError>
+        ensures { IfOk result (λ image. image.items ≡ image_of self.now of.now) };
+}

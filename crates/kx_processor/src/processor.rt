@@ -1,0 +1,183 @@
+//! The processor: what it is told, and what it makes of replies.
+ghost use Rattle.std.specs.Prelude.{◌≡◌, ◌∷◌, [], IfOk, MatchResult, is_some};
+ghost use Rattle.kx_model.specs.Client as model;
+ghost use Rattle.kx_model.specs.Step.{Commands, serves};
+ghost use Rattle.kx_processor.specs.Calls.{IsRefused};
+ghost use Rattle.kx_processor.specs.Internal.{IsPaged};
+ghost use Rattle.kx_processor.specs.Running.{processing_of, processor_of};
+ghost use Rattle.kx_system.specs.Processor as pass;
+ghost use Rattle.kx_system.specs.Processor.{new_processing, processor_step, takes};
+
+use crate::inputs::Inputs;
+use crate::page::behind;
+use crate::process::Process;
+use crate::stage::{Stage, from_of};
+use kx_client::{ClientFault, ProducerClient};
+use kx_message::{ClientId, GroupId, Message};
+use kx_partition::{FetchPage, ReplyFault};
+use std::alloc::{AllocError, Global};
+use std::marker::Model;
+use std::mem;
+
+/// A client that consumes, processes and produces (KIP-98, KIP-447): a member of a group, with its
+/// input partitions and its process.
+#[derive(Drop)]
+pub struct Processor<P: Process> {
+    pub(crate) alloc: Global,
+    pub(crate) client: ProducerClient,
+    pub(crate) group: GroupId,
+    pub(crate) inputs: Inputs,
+    pub(crate) process: P,
+    pub(crate) stage: Stage,
+}
+
+impl<P: Process> Model for Processor<P> {
+    ghost use Rattle.kx_processor.specs.Internal.{stage_of};
+    ghost use Rattle.kx_processor.specs.Running.{Running};
+
+    ghost Value = { Running P };
+
+    ghost view = { λ p. record {
+      client = p.client;
+      group = p.group;
+      inputs = p.inputs;
+      process = p.process;
+      stage = stage_of p.stage;
+    } };
+}
+
+impl<P: Process> Processor<P> {
+    /// A processor that is about to begin its first pass: of a client, which should be as
+    /// [`ProducerClient::new`] made it, in a group, with its input partitions and its process. It
+    /// takes memory from `alloc` as pages come.
+    pub fn new(
+        alloc: Global,
+        client: ProducerClient,
+        group: GroupId,
+        inputs: Inputs,
+        process: P,
+    ) -> Self
+        ensures { processor_of P.image_of result ≡ record {
+          client = client;
+          processing = new_processing client.number group inputs (P.image_of process);
+        } }
+    {
+        Processor {
+            alloc,
+            client,
+            group,
+            inputs,
+            process,
+            stage: Stage::Joining,
+        }
+    }
+
+    /// Its client's number, any u32.
+    pub fn number(&self) -> ClientId
+        ensures { result ≡ self.now.client.number }
+    {
+        self.client.number()
+    }
+
+    /// Whether it has a transactional id, without which it writes nothing.
+    pub fn is_transactional(&self) -> bool
+        ensures { result ≡ is_some self.now.client.txn }
+    {
+        self.client.is_transactional()
+    }
+
+    /// Whether its client has failed, or it has stopped for good: it then refuses every command.
+    pub fn has_failed(&self) -> bool
+        ensures { result ≡ pass.has_failed (processor_of P.image_of self.now) }
+    {
+        self.client.has_failed() || self.stage.is_stopped()
+    }
+
+    /// Asks the coordinator for an id and an epoch, as [`ProducerClient::init`].
+    ///
+    /// # Errors
+    ///
+    /// Those of [`ProducerClient::init`]; [`Failed`](ClientFault::Failed) also where the processor
+    /// has stopped for good. Nothing is changed then.
+    pub fn init(&mut self) -> Result<Message, ClientFault>
+        ensures { MatchResult result
+            (λ sent. processor_step (processor_of P.image_of self.old) (Commands model.Init)
+            ≡ serves (processor_of P.image_of self.new) (sent ∷ []))
+            (λ fault. IsRefused (processor_of P.image_of self.old) model.Init fault
+            (processor_of P.image_of self.new) × (self.new ≡ self.old)) }
+    {
+        if self.has_failed() {
+            return Err(ClientFault::Failed);
+        }
+        self.client.init()
+    }
+
+    /// Hands out every unanswered request again, as [`ProducerClient::resend`].
+    ///
+    /// # Errors
+    ///
+    /// [`Failed`](ClientFault::Failed) where the processor has failed or stopped for good, and then
+    /// [`Memory`](ClientFault::Memory).
+    pub fn resend(&self) -> Result<Vec<Message>, ClientFault>
+        ensures { MatchResult result
+            (λ sent. processor_step (processor_of P.image_of self.now) (Commands model.Resend)
+            ≡ serves (processor_of P.image_of self.now) sent.items)
+            (λ fault. IsRefused (processor_of P.image_of self.now) model.Resend fault
+            (processor_of P.image_of self.now)) }
+    {
+        if self.has_failed() {
+            return Err(ClientFault::Failed);
+        }
+        self.client.resend()
+    }
+
+    // Where the page that a reply has leads, if it has one and a page is awaited.
+    fn paged(&self, reply: &Message) -> Result<Option<Stage>, AllocError>
+        ensures { IfOk result (λ paged.
+            IsPaged (processing_of P.image_of self.now) reply.now paged) }
+    {
+        let Stage::Fetching {
+            input,
+            left,
+            offset,
+        } = &self.stage
+        else {
+            return Ok(None);
+        };
+        match FetchPage::from_reply(self.alloc, from_of(*offset), reply) {
+            Ok(page) => Ok(Some(behind(&self.process, self.alloc, *input, *left, page)?)),
+            Err(ReplyFault::Memory) => Err(AllocError),
+            Err(ReplyFault::NoPage | ReplyFault::Bytes(_)) => Ok(None),
+        }
+    }
+
+    /// Takes a message that has come. It changes something only where it is a reply to this
+    /// processor's client and a request of its kind and number waits; then the client takes it, as
+    /// [`ProducerClient::take`] says, and the pass goes on.
+    ///
+    /// A page of records has its images made here.
+    /// [`IllegalGeneration`](kx_message::ErrorCode::IllegalGeneration) on an offset aborts the
+    /// transaction, and a new pass begins;
+    /// [`UnknownMemberId`](kx_message::ErrorCode::UnknownMemberId) aborts it, and the processor
+    /// stops for good. A page whose batches aren't right is asked for again.
+    ///
+    /// # Errors
+    ///
+    /// Only for want of memory, which is asked for only for a page; nothing is changed then, so
+    /// that the reply may come again.
+    pub fn take(&mut self, reply: &Message) -> Result<(), AllocError>
+        ensures { MatchResult result
+            (λ _. processor_of P.image_of self.new
+            ≡ takes (processor_of P.image_of self.old) reply.now)
+            (λ _. self.new ≡ self.old) }
+    {
+        if !self.client.awaits(reply) {
+            return Ok(());
+        }
+        let paged = self.paged(reply)?;
+        let stage = mem::replace(&mut self.stage, Stage::Stopped);
+        self.stage = stage.led(paged, self.inputs, reply);
+        self.client.take(reply);
+        Ok(())
+    }
+}
