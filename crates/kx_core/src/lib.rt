@@ -22,6 +22,6 @@ pub use count::PartitionCount;
 pub use event::{Event, Happened};
 pub use fault::RunFault;
 pub use local::{Config, LocalStore, LocalWorld};
-pub use promises::schedules_keep_promises;
+pub use promises::{schedules_keep_promises, systems_keep_promises};
 pub use sent::Sent;
 pub use world::World;

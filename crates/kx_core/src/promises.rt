@@ -2,12 +2,15 @@
 ghost use Rattle.std.specs.Prelude.{◌≡◌, ℕ, List};
 ghost use Rattle.kx_core.specs.Promises.{KeepsPromises};
 ghost use Rattle.kx_model.specs.World.{Event, IsSchedule, run, start};
+ghost use Rattle.kx_system.specs.System.{IsSystemSchedule, SystemEvent, run_system, start_system};
 
 use kx_headline::{
     batches_stand_once, ids_have_one_holder, markers_agree, nothing_fenced_commits,
     offsets_commit_with_their_transaction, open_transactions_are_owed_markers,
     readers_get_exactly_what_is_visible,
 };
+use kx_pipeline::schedules_of_systems_are_schedules;
+use kx_system::systems_run_as_worlds;
 
 /// Every schedule leads to a world that keeps the promises of exactly-once semantics (KIP-98,
 /// KIP-447, KIP-890). This does nothing when it runs.
@@ -22,4 +25,14 @@ pub fn schedules_keep_promises()
     nothing_fenced_commits();
     offsets_commit_with_their_transaction();
     open_transactions_are_owed_markers();
+}
+
+/// The same of systems some of whose clients are processors. This does nothing when it runs.
+pub fn systems_keep_promises()
+    ensures { (partitions : ℕ) (events : List SystemEvent) → IsSystemSchedule events
+        → KeepsPromises (run_system events (start_system partitions)).world }
+{
+    schedules_keep_promises();
+    schedules_of_systems_are_schedules();
+    systems_run_as_worlds();
 }
