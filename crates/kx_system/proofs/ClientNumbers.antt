@@ -63,7 +63,7 @@ module _ (c : Client) where
   does_kept (FetchPage partition from) = refl
   does_kept (FetchOffset group partition) = refl
 
-  unless_kept : (checks : List (Bool × Fault)) (done : Commanded) → Kept done
+  pub unless_kept : (checks : List (Bool × Fault)) (done : Commanded) → Kept done
       → Kept (unless checks done)
   unless_kept [] done h = h
   unless_kept (check ∷ checks) done h =
