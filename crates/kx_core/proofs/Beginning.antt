@@ -9,12 +9,14 @@ use Rattle.kx_broker.specs.Serving.{Serving, StandsFor}
 use Rattle.kx_coord.specs.CoordinatorState.{CoordinatorState}
 use Rattle.kx_coord_node.specs.Stands.{Stands}
 use Rattle.kx_core.specs.Internal.{AreServers}
-use Rattle.kx_core.specs.World.{StandFor}
+use Rattle.kx_core.specs.World.{StandForAll}
 use Rattle.kx_machine.specs.Meaning.{AtCoordinator, AtPartition}
 use Rattle.kx_message.specs.Ranges.{data_partitions, offsets_partition}
 use Rattle.kx_model.specs.CoordinatorNode.{new_coordinator}
 use Rattle.kx_model.specs.PartitionNode.{Partition, empty_partition}
-use Rattle.kx_model.specs.World.{World, data_partition_at, log_at, log_in, start}
+use Rattle.kx_model.specs.World.{World, data_partition_at, log_at, log_in}
+use Rattle.kx_system.specs.Processor.{Images}
+use Rattle.kx_system.specs.System.{start_system}
 
 ------ servers
 
@@ -66,29 +68,33 @@ length_replicate : {A : Type 0} (n : ℕ) (x : A) → length (replicate n x) ≡
 length_replicate zero x = refl
 length_replicate (suc n) x = omega (arith, length_replicate n x)
 
-pub starts : (coordinator : CoordinatorState) (servers : List Serving) (offsets : Serving)
+pub starts : {F : Type 0} (image_of : F → Images) (coordinator : CoordinatorState)
+    (servers : List Serving) (offsets : Serving)
     → Stands (AtCoordinator new_coordinator) coordinator → AreServers servers
     → length servers < offsets_partition
     → StandsForGroups (AtPartition offsets_partition empty_partition) offsets
-    → StandFor Stands StandsFor StandsForGroups (record {
+    → StandForAll Stands StandsFor StandsForGroups image_of (record {
       coordinator = coordinator;
       partitions = servers;
       offsets = offsets;
       clients = [];
       clock = 0;
-    }) (start (length servers))
-starts coordinator servers offsets stands are few groups = record {
-  coordinator = stands;
-  count = length_replicate (length servers) empty_partition;
-  few = subst (λ (n : ℕ). n < offsets_partition)
-      (sym (length_replicate (length servers) empty_partition)) few;
-  partitions = λ number p server is there.
-      subst (λ (q : Partition). StandsFor (AtPartition number q) server)
-      (sym (replicated (length servers) number empty_partition p is))
-      (are.each number server there);
-  offsets = groups;
-  clients = refl;
-  clock = refl;
+    }) (start_system (length servers))
+starts image_of coordinator servers offsets stands are few groups = record {
+  world = record {
+    coordinator = stands;
+    count = length_replicate (length servers) empty_partition;
+    few = subst (λ (n : ℕ). n < offsets_partition)
+        (sym (length_replicate (length servers) empty_partition)) few;
+    partitions = λ number p server is there.
+        subst (λ (q : Partition). StandsFor (AtPartition number q) server)
+        (sym (replicated (length servers) number empty_partition p is))
+        (are.each number server there);
+    offsets = groups;
+    clients = refl;
+    clock = refl;
+  };
+  processors = refl;
 }
 
 ------ readers

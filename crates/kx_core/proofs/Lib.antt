@@ -5,7 +5,8 @@ pub mod Happening
 pub mod Rising
 pub mod Running
 pub mod Numbers
-pub mod Taking
+pub mod Turns
+pub mod Systems
 pub mod Handing
 pub mod Standing
 pub mod Showing

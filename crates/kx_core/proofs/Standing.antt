@@ -1,13 +1,14 @@
 -- Nodes that take what they are handed stand for a world of the definitions after it.
 use Rattle.std.proofs.Common.{◌≡◌, ◌≢◌, ◌<◌, ◌≤◌, ◌++◌, ◌==◌, ℕ, Bool, true, false, cond, List, []}
-use Rattle.std.proofs.Common.{◌∷◌, refl, sym, ap, ◌∙◌, subst, length, Option, Some, None, arith}
+use Rattle.std.proofs.Common.{◌∷◌, refl, sym, ap, ◌∙◌, subst, length, Some, None, arith}
 use Rattle.std.proofs.Common.{inl, inr, nat_le, zero, suc, append-nil, not, ◌&&◌}
 use Rattle.std.specs.Prelude.{slice_get, slice_set, MatchResult, Result, Ok, Err}
 use Rattle.std.proofs.lemmas.Bool.{cases_lt}
 use Rattle.std.proofs.lemmas.Bool.Decides.{Decides-eqb, nat_tests}
 use Rattle.std.proofs.lemmas.Option.{slice_get_past}
 use Rattle.kx_batch.specs.Batch.{batch_limit}
-use Rattle.kx_core.specs.Clients.{TakesAt, TakesBy, client_in, with_one}
+use Rattle.kx_core.specs.Clients.{any_store, client_in, clients_in, with_one}
+use Rattle.kx_core.specs.declared.any_client.AnyClient.{AnyClient}
 use Rattle.kx_core.specs.World.{IsHanded, Nodes, StandFor, closed_in, fails_at, fails_by, is_closed}
 use Rattle.kx_machine.specs.Meaning as meaning
 use Rattle.kx_machine.specs.Meaning.{AtClient, AtCoordinator, AtPartition, IsTaken, NodeState}
@@ -69,7 +70,7 @@ fails_alike before s Unwritten = refl
 fails_alike before s RunsOut = refl
 
 -- a node says whether its store failed, by what became of it
-told : (before : NodeState) (store : Store) (input : Input) (taken : Taken)
+pub told : (before : NodeState) (store : Store) (input : Input) (taken : Taken)
     → taken ≡ taken_of before input (node_step before store input)
     → taken.failed ≡ fails_by (node_step before store input).note
     (not (meaning.is_closed before) && meaning.is_closed (node_step before store input).state)
@@ -202,13 +203,13 @@ handed_to_none w n store input apart is =
 
 ------ nodes
 
-module _ {C P O : Type 0} (Coordinates : NodeState → C → Type 0) (Serves : NodeState → P → Type 0)
+module _ {C P O F : Type 0} (Coordinates : NodeState → C → Type 0) (Serves : NodeState → P → Type 0)
     (Groups : NodeState → O → Type 0) where
-  abbrev Stand : Nodes C P O → World → Type 0
+  abbrev Stand : Nodes C P O F → World → Type 0
   Stand = StandFor Coordinates Serves Groups
 
   -- nothing changes, and nothing is handed out
-  pub rests : (nodes : Nodes C P O) (w : World) (to : Node) (m : StoreMode) (input : Input)
+  pub rests : (nodes : Nodes C P O F) (w : World) (to : Node) (m : StoreMode) (input : Input)
       (taken : Taken) → Stand nodes w
       → ((store : Store) → handed w to store input ≡ (w, Done))
       → taken.messages ≡ [] → taken.note ≡ noted.Done → taken.failed ≡ false
@@ -225,7 +226,7 @@ module _ {C P O : Type 0} (Coordinates : NodeState → C → Type 0) (Serves : N
             ∙ ap (fails_at w to) (sym (same store.0));
       }
 
-  pub by_coordinator : (nodes : Nodes C P O) (w : World) (m : StoreMode) (input : Input)
+  pub by_coordinator : (nodes : Nodes C P O F) (w : World) (m : StoreMode) (input : Input)
       (after : C) (clock : ℕ) (taken : Taken) → Stand nodes w
       → IsTaken (AtCoordinator w.coordinator) input (IsMode m) (λ s. Coordinates s after) taken
       → clock ≡ clock_after nodes.clock input
@@ -248,7 +249,7 @@ module _ {C P O : Type 0} (Coordinates : NodeState → C → Type 0) (Serves : N
     failed_is = told (AtCoordinator w.coordinator) t.store input taken t.answer;
   }
 
-  pub by_offsets : (nodes : Nodes C P O) (w : World) (m : StoreMode) (input : Input) (after : O)
+  pub by_offsets : (nodes : Nodes C P O F) (w : World) (m : StoreMode) (input : Input) (after : O)
       (taken : Taken) → Stand nodes w
       → IsTaken (AtPartition offsets_partition w.offsets) input (IsMode m) (λ s. Groups s after)
       taken
@@ -272,7 +273,7 @@ module _ {C P O : Type 0} (Coordinates : NodeState → C → Type 0) (Serves : N
         told (AtPartition offsets_partition w.offsets) t.store input taken t.answer;
   }
 
-  served : (nodes : Nodes C P O) (w : World) (number : ℕ) (p : Partition) (after : P)
+  served : (nodes : Nodes C P O F) (w : World) (number : ℕ) (p : Partition) (after : P)
       → Stand nodes w → Serves (AtPartition number p) after → (other : ℕ) (q : Partition)
       (server : P) → slice_get (slice_set w.partitions number p) other ≡ Some q
       → slice_get (slice_set nodes.partitions number after) other ≡ Some server
@@ -300,7 +301,7 @@ module _ {C P O : Type 0} (Coordinates : NodeState → C → Type 0) (Serves : N
           h.partitions other q server (sym (get_other w.partitions number other p apart) ∙ is)
           (sym (get_other nodes.partitions number other after apart) ∙ runs)
 
-  pub by_partition : (nodes : Nodes C P O) (w : World) (number : ℕ) (m : StoreMode)
+  pub by_partition : (nodes : Nodes C P O F) (w : World) (number : ℕ) (m : StoreMode)
       (input : Input) (p : Partition) (after : P) (taken : Taken) → Stand nodes w
       → number ≢ offsets_partition → slice_get w.partitions number ≡ Some p
       → IsTaken (AtPartition number p) input (IsMode m) (λ s. Serves s after) taken
@@ -334,7 +335,7 @@ module _ {C P O : Type 0} (Coordinates : NodeState → C → Type 0) (Serves : N
       }
 
   -- the same, where the place among the servers is named otherwise
-  pub by_server : (nodes : Nodes C P O) (w : World) (number place : ℕ) (m : StoreMode)
+  pub by_server : (nodes : Nodes C P O F) (w : World) (number place : ℕ) (m : StoreMode)
       (input : Input) (p : Partition) (after : P) (taken : Taken) → Stand nodes w
       → number ≢ offsets_partition → place ≡ number → slice_get w.partitions number ≡ Some p
       → IsTaken (AtPartition number p) input (IsMode m) (λ s. Serves s after) taken
@@ -346,7 +347,7 @@ module _ {C P O : Type 0} (Coordinates : NodeState → C → Type 0) (Serves : N
       (by_partition nodes w number m input p after taken h apart is t)
 
   -- a server still stands for the partition for which it stood
-  pub serves_still : (nodes : Nodes C P O) (w : World) (number place : ℕ) (p : Partition)
+  pub serves_still : (nodes : Nodes C P O F) (w : World) (number place : ℕ) (p : Partition)
       (after : P) → Stand nodes w → place ≡ number → slice_get w.partitions number ≡ Some p
       → Serves (AtPartition number p) after
       → Stand (record nodes { partitions = slice_set nodes.partitions place after }) w
@@ -365,7 +366,7 @@ module _ {C P O : Type 0} (Coordinates : NodeState → C → Type 0) (Serves : N
         clock = h.clock;
       })
 
-  pub by_no_partition : (nodes : Nodes C P O) (w : World) (number : ℕ) (m : StoreMode)
+  pub by_no_partition : (nodes : Nodes C P O F) (w : World) (number : ℕ) (m : StoreMode)
       (input : Input) (taken : Taken) → Stand nodes w → number ≢ offsets_partition
       → slice_get nodes.partitions number ≡ None → taken.messages ≡ []
       → taken.note ≡ noted.Done → taken.failed ≡ false
@@ -378,16 +379,13 @@ module _ {C P O : Type 0} (Coordinates : NodeState → C → Type 0) (Serves : N
 
   ------ clients
 
-  by_found : (nodes : Nodes C P O) (w : World) (number : ℕ) (m : StoreMode) (input : Input)
-      (new : List Client) (taken : Taken) (found : Option Client) → Stand nodes w
-      → client_in w.clients number ≡ found
-      → TakesBy nodes.clients new input found (Some taken)
+  pub by_client : (nodes : Nodes C P O F) (w : World) (number : ℕ) (m : StoreMode) (input : Input)
+      (c : Client) (after : NodeState) (new : List (AnyClient F)) (taken : Taken) → Stand nodes w
+      → client_in w.clients number ≡ Some c
+      → IsTaken (AtClient c) input any_store (λ s. s ≡ after) taken
+      → clients_in new ≡ with_one w.clients (client_step c input).state
       → IsHanded w (node.Client number) m input (Stand (record nodes { clients = new })) taken
-  by_found nodes w number m input new taken None h is takes = absurd takes
-  by_found nodes w number m input new taken (Some c) h is takes =
-      let s = client_step c input in
-      let t = takes.takes in
-      let same : s.state ≡ takes.after = cc (t.stands) in
+  by_client nodes w number m input c after new taken h is t new_is =
       let done : handed w (node.Client number) (a_store m).0 input
       ≡ at_client w input (Some c) = ap (at_client w input) is in record {
         store = (a_store m).0;
@@ -399,8 +397,7 @@ module _ {C P O : Type 0} (Coordinates : NodeState → C → Type 0) (Serves : N
               few = h.few;
               partitions = h.partitions;
               offsets = h.offsets;
-              clients = takes.new_is ∙ ap (λ (d : Client). with_one nodes.clients d) (sym same)
-                  ∙ ap (λ (ds : List Client). with_one ds s.state) h.clients;
+              clients = new_is;
               clock = h.clock;
             });
         sent = ap (λ (x : Stepped). x.0.sent) done
@@ -411,32 +408,10 @@ module _ {C P O : Type 0} (Coordinates : NodeState → C → Type 0) (Serves : N
             ∙ ap (fails_at w (node.Client number)) (sym done);
       }
 
-  pub by_client : (nodes : Nodes C P O) (w : World) (number : ℕ) (m : StoreMode) (input : Input)
-      (new : List Client) (taken : Taken) → Stand nodes w
-      → TakesAt nodes.clients new number input (Some taken)
-      → IsHanded w (node.Client number) m input (Stand (record nodes { clients = new })) taken
-  by_client nodes w number m input new taken h takes =
-      by_found nodes w number m input new taken (client_in nodes.clients number) h
-      (sym (ap (λ (cs : List Client). client_in cs number) h.clients)) takes
-
-  no_client : (nodes : Nodes C P O) (number : ℕ) (input : Input) (new : List Client)
-      (found : Option Client) → client_in nodes.clients number ≡ found
-      → TakesBy nodes.clients new input found None
-      → (client_in nodes.clients number ≡ None) × (new ≡ nodes.clients)
-  no_client nodes number input new None is takes = (is, takes)
-  no_client nodes number input new (Some c) is takes = absurd takes
-
-  pub by_no_client : (nodes : Nodes C P O) (w : World) (number : ℕ) (m : StoreMode)
-      (input : Input) (new : List Client) (taken : Taken) → Stand nodes w
-      → TakesAt nodes.clients new number input None → taken.messages ≡ []
-      → taken.note ≡ noted.Done → taken.failed ≡ false
-      → IsHanded w (node.Client number) m input (Stand (record nodes { clients = new })) taken
-  by_no_client nodes w number m input new taken h takes none done works =
-      let is = no_client nodes number input new (client_in nodes.clients number) refl takes in
-      let absent : client_in w.clients number ≡ None =
-      sym (ap (λ (cs : List Client). client_in cs number) h.clients) ∙ is.0 in
-      subst (λ (cs : List Client).
-      IsHanded w (node.Client number) m input (Stand (record nodes { clients = cs })) taken)
-      (sym is.1)
-      (rests nodes w (node.Client number) m input taken h
-      (λ store. ap (at_client w input) absent) none done works)
+  pub by_no_client : (nodes : Nodes C P O F) (w : World) (number : ℕ) (m : StoreMode)
+      (input : Input) (taken : Taken) → Stand nodes w → client_in w.clients number ≡ None
+      → taken.messages ≡ [] → taken.note ≡ noted.Done → taken.failed ≡ false
+      → IsHanded w (node.Client number) m input (Stand nodes) taken
+  by_no_client nodes w number m input taken h absent none done works =
+      rests nodes w (node.Client number) m input taken h
+      (λ store. ap (at_client w input) absent) none done works

@@ -1,13 +1,22 @@
--- What a client as a machine answers.
+-- What a client as a machine answers, and the clients of a system.
 use Rattle.std.specs.Prelude.{◌≡◌, ◌⊎◌, ◌<◌, ◌==◌, ℕ, List, [], ◌∷◌, map, find, Option, None}
 use Rattle.std.specs.Prelude.{Some, if◌then◌else◌}
+use Rattle.std.specs.List.{flat_map}
 use Rattle.kx_client.specs.declared.fault.ClientFault.{ClientFault}
 use Rattle.kx_client.specs.declared.fault.ClientFault.TheVariants.{Memory}
-use Rattle.kx_machine.specs.Meaning.{AtClient, IsTaken, fault_of}
+use Rattle.kx_core.specs.declared.any_client.AnyClient.{AnyClient}
+use Rattle.kx_core.specs.declared.any_client.AnyClient.TheVariants as any
+use Rattle.kx_machine.specs.Meaning.{NodeState, AtClient, AtCoordinator, AtPartition, AtProcessor}
+use Rattle.kx_machine.specs.Meaning.{IsTaken, fault_of}
 use Rattle.kx_machine.specs.declared.taken.Taken.{Taken}
 use Rattle.kx_model.specs.Client.{Client, Commanded, Declines, Fault}
 use Rattle.kx_model.specs.Disk.{Store}
 use Rattle.kx_model.specs.Step.{Input}
+use Rattle.kx_processor.specs.Running.{processing_of, processor_of}
+use Rattle.kx_system.specs.Processor.{Images, Processing}
+use Rattle.kx_system.specs.System.{with_processing}
+
+------ one client
 
 -- the fault is the one that the rules have; want of memory may come in its place
 abbrev pub IsDeclined : ClientFault → Commanded → Type 0
@@ -18,35 +27,89 @@ IsDeclined fault answer = (fault ≡ Memory)
 abbrev pub any_store : Store → Type 0
 any_store store = Unit {0}
 
--- numbers rise, from above this one
-abbrev pub AreAbove : ℕ → List Client → Type 0
-AreAbove low [] = Unit {0}
-AreAbove low (c ∷ clients) = (low < c.number) × AreAbove c.number clients
+abbrev pub client_of : {F : Type 0} → AnyClient F → Client
+client_of (any.Plain client) = client
+client_of (any.Processor running) = running.client
 
-abbrev pub AreRising : List Client → Type 0
+-- what it is beside its client, where it is a processor
+abbrev pub processing_in : {F : Type 0} → (F → Images) → AnyClient F → List Processing
+processing_in image_of (any.Plain client) = []
+processing_in image_of (any.Processor running) = processing_of image_of running ∷ []
+
+-- the node that it is
+abbrev pub state_of : {F : Type 0} → (F → Images) → AnyClient F → NodeState
+state_of image_of (any.Plain client) = AtClient client
+state_of image_of (any.Processor running) = AtProcessor (processor_of image_of running)
+
+------ all of them
+
+abbrev pub clients_in : {F : Type 0} → List (AnyClient F) → List Client
+clients_in all = map client_of all
+
+abbrev pub processors_in : {F : Type 0} → (F → Images) → List (AnyClient F) → List Processing
+processors_in image_of all = flat_map (processing_in image_of) all
+
+-- the clients of a system, and what the processors among them are beside
+pub record AllClients : Type 0 where
+  pub clients : List Client
+  pub processors : List Processing
+
+abbrev pub all_of : {F : Type 0} → (F → Images) → List (AnyClient F) → AllClients
+all_of image_of all =
+    record { clients = clients_in all; processors = processors_in image_of all }
+
+-- numbers rise, from above this one
+abbrev pub AreAbove : ℕ → List ℕ → Type 0
+AreAbove low [] = Unit {0}
+AreAbove low (number ∷ numbers) = (low < number) × AreAbove number numbers
+
+abbrev pub AreRising : List ℕ → Type 0
 AreRising [] = Unit {0}
-AreRising (c ∷ clients) = AreAbove c.number clients
+AreRising (number ∷ numbers) = AreAbove number numbers
 
 abbrev pub client_in : List Client → ℕ → Option Client
 client_in clients number = find (λ c. c.number == number) clients
+
+abbrev pub processor_in : List Processing → ℕ → Option Processing
+processor_in processors number = find (λ p. p.number == number) processors
+
+abbrev pub node_with : Option Client → Option Processing → Option NodeState
+node_with None processing = None
+node_with (Some client) None = Some (AtClient client)
+node_with (Some client) (Some processing) =
+    Some (AtProcessor (record { client = client; processing = processing }))
+
+-- the client of a number as a node
+abbrev pub node_at : AllClients → ℕ → Option NodeState
+node_at all number =
+    node_with (client_in all.clients number) (processor_in all.processors number)
 
 -- with this client in the place of the one of its number
 abbrev pub with_one : List Client → Client → List Client
 with_one clients c = map (λ d. if d.number == c.number then c else d) clients
 
+abbrev pub with_node : AllClients → NodeState → AllClients
+with_node all (AtClient client) = record all { clients = with_one all.clients client }
+with_node all (AtProcessor p) = record {
+  clients = with_one all.clients p.client;
+  processors = with_processing all.processors p.processing;
+}
+with_node all (AtCoordinator coordinator) = all
+with_node all (AtPartition number partition) = all
+
 -- the client took the input
-pub record TakesOne (old new : List Client) (c : Client) (input : Input) (taken : Taken)
+pub record TakesOne (old new : AllClients) (state : NodeState) (input : Input) (taken : Taken)
     : Type 0 where
-  pub after : Client
-  pub takes : IsTaken (AtClient c) input any_store (λ state. state ≡ AtClient after) taken
-  pub new_is : new ≡ with_one old after
+  pub after : NodeState
+  pub takes : IsTaken state input any_store (λ s. s ≡ after) taken
+  pub new_is : new ≡ with_node old after
 
 -- what comes of an input for the client of a number, if there is one
-abbrev pub TakesBy : List Client → List Client → Input → Option Client → Option Taken → Type 0
+abbrev pub TakesBy : AllClients → AllClients → Input → Option NodeState → Option Taken → Type 0
 TakesBy old new input None None = new ≡ old
 TakesBy old new input None (Some taken) = ⊥
-TakesBy old new input (Some c) None = ⊥
-TakesBy old new input (Some c) (Some taken) = TakesOne old new c input taken
+TakesBy old new input (Some state) None = ⊥
+TakesBy old new input (Some state) (Some taken) = TakesOne old new state input taken
 
-abbrev pub TakesAt : List Client → List Client → ℕ → Input → Option Taken → Type 0
-TakesAt old new number input taken = TakesBy old new input (client_in old number) taken
+abbrev pub TakesAt : AllClients → AllClients → ℕ → Input → Option Taken → Type 0
+TakesAt old new number input taken = TakesBy old new input (node_at old number) taken

@@ -1,6 +1,6 @@
--- What a world keeps, whatever happened: the exactly-once semantics that KIP-98 and KIP-447
--- promise, of one world.
-use Rattle.std.specs.Prelude.{◌≡◌, ◌≤◌, ℕ, ℤ, true, List, filter, Contains, Ok, Some}
+-- What a world keeps, whatever happened, and a system some of whose clients are processors: the
+-- exactly-once semantics that KIP-98 and KIP-447 promise.
+use Rattle.std.specs.Prelude.{◌≡◌, ◌≤◌, ◌<◌, ℕ, ℤ, true, List, filter, map, Contains, Ok, Some}
 use Rattle.std.specs.Prelude.{◌&&◌, int_le, int_lt}
 use Rattle.kx_batch.specs.Batch.{batch_of}
 use Rattle.kx_message.specs.declared.message.Held.{Held}
@@ -14,6 +14,11 @@ use Rattle.kx_model.specs.Reading.{committed_of, visible}
 use Rattle.kx_model.specs.Transactions.{open_transactions}
 use Rattle.kx_model.specs.Verification.{Request, request_of}
 use Rattle.kx_model.specs.World.{World, entries_at, holds, log_at, notes}
+use Rattle.kx_pipeline.specs.Chain.{IsChained}
+use Rattle.kx_pipeline.specs.Premises.{IsPipeline}
+use Rattle.kx_pipeline.specs.Written.{WritesImages, all_outputs, all_read, images_in}
+use Rattle.kx_system.specs.Processor.{Images}
+use Rattle.kx_system.specs.System.{System}
 
 pub record KeepsPromises (w : World) : Type 0 where
   -- no two partitions hold opposite markers of one transaction
@@ -40,3 +45,18 @@ pub record KeepsPromises (w : World) : Type 0 where
   pub open_is_owed : (p : ℕ) (opened : Placed Sequenced)
       → Contains (open_transactions (entries_at w p)) opened
       → owed (notes w) p opened.item.id opened.item.epoch ≡ true
+
+-- of a group whose members are processors of one kind, each input partition that they read
+pub record ReadsOnce (s : System) (group : List ℕ) (q inputs : ℕ) (image : Images) : Type 0 where
+  -- the ranges that its transactions read follow one another, from the beginning on
+  pub chained : IsChained s.world group q
+  -- each writes the images of what it read, and no other one does
+  pub writes : q < inputs → WritesImages s group q inputs image
+  -- so all of them together write the images of all that was read, each once
+  pub once : q < inputs → all_outputs s group q inputs
+      ≡ map Some (images_in s.world image q (all_read s.world group q))
+
+pub record KeepsAll (s : System) : Type 0 where
+  pub promises : KeepsPromises s.world
+  pub pipelines : (group : List ℕ) (inputs : ℕ) (image : Images)
+      → IsPipeline s group inputs image → (q : ℕ) → ReadsOnce s group q inputs image

@@ -1,9 +1,11 @@
--- A world of running nodes, and the world of the definitions for which it stands.
+-- A world of running nodes, and the system of the definitions for which it stands.
 use Rattle.std.specs.Prelude.{◌≡◌, ◌<◌, ◌++◌, ◌&&◌, ℕ, Bool, true, false, not, List, [], ◌∷◌}
 use Rattle.std.specs.Prelude.{length, slice_get, Option, Some, None, MatchResult, Result, Ok, Err}
 use Rattle.std.specs.Prelude.{take}
 use Rattle.std.specs.declared.alloc.AllocError.{AllocError}
+use Rattle.kx_core.specs.Clients.{clients_in, processors_in}
 use Rattle.kx_core.specs.Sent.{joined}
+use Rattle.kx_core.specs.declared.any_client.AnyClient.{AnyClient}
 use Rattle.kx_core.specs.declared.event.Event as happening
 use Rattle.kx_core.specs.declared.event.Event.TheVariants as event
 use Rattle.kx_core.specs.declared.event.Happened.{Happened}
@@ -20,12 +22,16 @@ use Rattle.kx_message.specs.Ranges.{offsets_partition}
 use Rattle.kx_message.specs.declared.message.Message.{Message}
 use Rattle.kx_message.specs.declared.message.Node.{Node}
 use Rattle.kx_message.specs.declared.message.Node.TheVariants as node
-use Rattle.kx_model.specs.Client.{Client}
 use Rattle.kx_model.specs.Disk.{Store}
 use Rattle.kx_model.specs.PartitionNode.{Partition}
-use Rattle.kx_model.specs.Step.{Input, Comes, StepNote, Unread, Unwritten}
-use Rattle.kx_model.specs.World.{World, Event, Make, Deliver, Hand, IsSchedule, Stepped, handed}
-use Rattle.kx_model.specs.World.{data_partition_at, partition_at, run, start, step}
+use Rattle.kx_model.specs.Step.{Input, Comes, NodeStep, StepNote, Unread, Unwritten}
+use Rattle.kx_model.specs.World as world
+use Rattle.kx_model.specs.World.{World, Make, Deliver, Hand, Stepped, handed}
+use Rattle.kx_model.specs.World.{data_partition_at, partition_at}
+use Rattle.kx_system.specs.Processor.{Images, Processor, processor_step}
+use Rattle.kx_system.specs.System.{System, SystemEvent, MakeProcessor, Happens, IsSystemSchedule}
+use Rattle.kx_system.specs.System.{SystemStepped, Turn, run_system, start_system, system_step}
+use Rattle.kx_system.specs.System.{turn_at, with_processor}
 
 ------ what happens
 
@@ -35,12 +41,14 @@ given (giving.Message message) = Comes message.now
 given (giving.Input input) = input_of input.now
 
 -- the event of the definitions that happened, by what the store did
-abbrev pub IsEvent : happening.Event → Event → Type 0
-IsEvent (event.Make client txn timeout) e = e ≡ Make client txn timeout
-IsEvent (event.Deliver number to mode) e =
-    (store : Store) × IsMode mode store × (e ≡ Deliver number to store)
-IsEvent (event.Hand to input mode) e =
-    (store : Store) × IsMode mode store × (e ≡ Hand to (input_of input) store)
+abbrev pub IsEvent : {F : Type 0} → (F → Images) → happening.Event F → SystemEvent → Type 0
+IsEvent image_of (event.Make client txn timeout) e = e ≡ Happens (Make client txn timeout)
+IsEvent image_of (event.MakeProcessor client txn timeout group inputs process) e =
+    e ≡ MakeProcessor client txn timeout group inputs (image_of process)
+IsEvent image_of (event.Deliver number to mode) e =
+    (store : Store) × IsMode mode store × (e ≡ Happens (Deliver number to store))
+IsEvent image_of (event.Hand to input mode) e =
+    (store : Store) × IsMode mode store × (e ≡ Happens (Hand to (input_of input) store))
 
 ------ whether a node's store fails
 
@@ -64,28 +72,36 @@ abbrev pub fails_at : World → Node → Stepped → Bool
 fails_at w place after = fails_by after.1 (not (is_closed w place) && is_closed after.0 place)
 
 -- the node at which an event is
-abbrev pub place_of : Event → Node
-place_of (Make client txn timeout) = node.Client client
-place_of (Deliver which to store) = to
-place_of (Hand to input store) = to
+abbrev pub place_in : world.Event → Node
+place_in (Make client txn timeout) = node.Client client
+place_in (Deliver which to store) = to
+place_in (Hand to input store) = to
+
+abbrev pub place_of : SystemEvent → Node
+place_of (MakeProcessor client txn timeout group inputs image) = node.Client client
+place_of (Happens event) = place_in event
+
+-- the same of a system
+abbrev pub fails_in : System → Node → SystemStepped → Bool
+fails_in s place after = fails_at s.world place (after.0.world, after.1)
 
 -- the store of its node fails in an event
-abbrev pub store_fails : World → Event → Bool
-store_fails w event = fails_at w (place_of event) (step w event)
+abbrev pub store_fails : System → SystemEvent → Bool
+store_fails s event = fails_in s (place_of event) (system_step s event)
 
 ------ nodes
 
 -- the nodes of a running world, whatever they are made of
-pub record Nodes (C P O : Type 0) : Type 0 where
+pub record Nodes (C P O F : Type 0) : Type 0 where
   pub coordinator : C
   pub partitions : List P
   pub offsets : O
-  pub clients : List Client
+  pub clients : List (AnyClient F)
   pub clock : ℕ
 
 -- each node stands for one of the definitions
-pub record StandFor {C P O : Type 0} (Coordinates : NodeState → C → Type 0)
-    (Serves : NodeState → P → Type 0) (Groups : NodeState → O → Type 0) (nodes : Nodes C P O)
+pub record StandFor {C P O F : Type 0} (Coordinates : NodeState → C → Type 0)
+    (Serves : NodeState → P → Type 0) (Groups : NodeState → O → Type 0) (nodes : Nodes C P O F)
     (w : World) : Type 0 where
   pub coordinator : Coordinates (AtCoordinator w.coordinator) nodes.coordinator
   pub count : length w.partitions ≡ length nodes.partitions
@@ -93,8 +109,15 @@ pub record StandFor {C P O : Type 0} (Coordinates : NodeState → C → Type 0)
   pub partitions : (number : ℕ) (p : Partition) (node : P) → slice_get w.partitions number ≡ Some p
       → slice_get nodes.partitions number ≡ Some node → Serves (AtPartition number p) node
   pub offsets : Groups (AtPartition offsets_partition w.offsets) nodes.offsets
-  pub clients : nodes.clients ≡ w.clients
+  pub clients : clients_in nodes.clients ≡ w.clients
   pub clock : nodes.clock ≡ w.clock
+
+-- the same of a system, some of whose clients are processors
+pub record StandForAll {C P O F : Type 0} (Coordinates : NodeState → C → Type 0)
+    (Serves : NodeState → P → Type 0) (Groups : NodeState → O → Type 0) (image_of : F → Images)
+    (nodes : Nodes C P O F) (s : System) : Type 0 where
+  pub world : StandFor Coordinates Serves Groups nodes s.world
+  pub processors : processors_in image_of nodes.clients ≡ s.processors
 
 -- the server stands for the data partition of this number
 pub record ServesAt {P : Type 0} (Serves : NodeState → P → Type 0) (w : World) (number : ℕ)
@@ -120,58 +143,88 @@ abbrev pub Hands : (World → Type 0) → (World → Type 0) → Node → StoreM
 Hands Before After to mode input result = (w : World) → Before w
     → MatchResult result (IsHanded w to mode input After) (λ refused. After w)
 
--- an event happened to a world
-pub record Happens (w : World) (given : happening.Event) (StandFor : World → Type 0)
-    (taken : Taken) : Type 0 where
-  pub happened : Event
-  pub is : IsEvent given happened
-  pub stand : StandFor (step w happened).0
-  pub sent : (step w happened).0.sent ≡ w.sent ++ taken.messages
-  pub note_is : taken.note ≡ note_of (step w happened).1
-  pub failed_is : taken.failed ≡ store_fails w happened
+-- a system after a step of its world, which may have been a processor's turn
+abbrev pub after_turn : System → Stepped → Option Turn → SystemStepped
+after_turn s stepped None = (record s { world = stepped.0 }, stepped.1)
+after_turn s stepped (Some turn) =
+    let after : NodeStep Processor = processor_step turn.processor turn.input in
+    (with_processor s after.state after.messages, after.note)
+
+abbrev pub handed_in : System → Node → Store → Input → SystemStepped
+handed_in s to store input = after_turn s (handed s.world to store input) (turn_at s to input)
+
+-- a node of a system took what it was handed, while its store did what it was to do
+pub record IsHandedIn (s : System) (to : Node) (mode : StoreMode) (input : Input)
+    (Stand : System → Type 0) (taken : Taken) : Type 0 where
+  pub store : Store
+  pub allowed : IsMode mode store
+  pub stand : Stand (handed_in s to store input).0
+  pub sent : (handed_in s to store input).0.world.sent ≡ s.world.sent ++ taken.messages
+  pub note_is : taken.note ≡ note_of (handed_in s to store input).1
+  pub failed_is : taken.failed ≡ fails_in s to (handed_in s to store input)
+
+-- what comes of it for every system for which the nodes stand; for want of memory they stand for it
+-- still
+abbrev pub HandsIn : (System → Type 0) → (System → Type 0) → Node → StoreMode → Input
+    → Result Taken AllocError → Type 0
+HandsIn Before After to mode input result = (s : System) → Before s
+    → MatchResult result (IsHandedIn s to mode input After) (λ refused. After s)
+
+-- an event happened to a system
+pub record Occurs {F : Type 0} (image_of : F → Images) (s : System) (given : happening.Event F)
+    (Stand : System → Type 0) (taken : Taken) : Type 0 where
+  pub happened : SystemEvent
+  pub is : IsEvent image_of given happened
+  pub stand : Stand (system_step s happened).0
+  pub sent : (system_step s happened).0.world.sent ≡ s.world.sent ++ taken.messages
+  pub note_is : taken.note ≡ note_of (system_step s happened).1
+  pub failed_is : taken.failed ≡ store_fails s happened
 
 ------ worlds
 
 -- a running world: its nodes, and what they handed out, step by step
-pub record Running (C P O : Type 0) : Type 0 where
-  pub nodes : Nodes C P O
+pub record Running (C P O F : Type 0) : Type 0 where
+  pub nodes : Nodes C P O F
   pub steps : List (List Message)
 
--- a schedule led to the world, for which the running one stands
-pub record IsRun {C P O : Type 0} (Coordinates : NodeState → C → Type 0)
-    (Serves : NodeState → P → Type 0) (Groups : NodeState → O → Type 0)
-    (running : Running C P O) (w : World) : Type 0 where
+-- a schedule led to the system, for which the running world stands
+pub record IsRun {C P O F : Type 0} (Coordinates : NodeState → C → Type 0)
+    (Serves : NodeState → P → Type 0) (Groups : NodeState → O → Type 0) (image_of : F → Images)
+    (running : Running C P O F) (s : System) : Type 0 where
   pub count : ℕ
-  pub events : List Event
-  pub is_schedule : IsSchedule events
-  pub is_run : w ≡ run events (start count)
-  pub nodes : StandFor Coordinates Serves Groups running.nodes w
-  pub sent : joined running.steps ≡ w.sent
+  pub events : List SystemEvent
+  pub is_schedule : IsSystemSchedule events
+  pub is_run : s ≡ run_system events (start_system count)
+  pub nodes : StandForAll Coordinates Serves Groups image_of running.nodes s
+  pub sent : joined running.steps ≡ s.world.sent
 
--- an event led from a world to another, and was answered so
-pub record Steps (w : World) (given : happening.Event) (StandsFor : World → Type 0)
-    (answer : Happened) : Type 0 where
-  pub happened : Event
-  pub is : IsEvent given happened
-  pub stands : StandsFor (step w happened).0
-  pub note_is : answer.note ≡ note_of (step w happened).1
-  pub failed_is : answer.failed ≡ store_fails w happened
+-- an event led from a system to another, and was answered so
+pub record Steps {F : Type 0} (image_of : F → Images) (s : System) (given : happening.Event F)
+    (StandsFor : System → Type 0) (answer : Happened) : Type 0 where
+  pub happened : SystemEvent
+  pub is : IsEvent image_of given happened
+  pub stands : StandsFor (system_step s happened).0
+  pub note_is : answer.note ≡ note_of (system_step s happened).1
+  pub failed_is : answer.failed ≡ store_fails s happened
 
 -- the same of the note alone
-abbrev pub StepsTo : World → happening.Event → (World → Type 0) → Note → Type 0
-StepsTo w given StandsFor note =
-    (failed : Bool) × Steps w given StandsFor (record { note = note; failed = failed })
+abbrev pub StepsTo : {F : Type 0} → (F → Images) → System → happening.Event F
+    → (System → Type 0) → Note → Type 0
+StepsTo image_of s given StandsFor note = (failed : Bool)
+    × Steps image_of s given StandsFor (record { note = note; failed = failed })
 
--- events led from a world to another, one after the other
-pub data Runs (StandsFor : World → Type 0) : World → List happening.Event → Type 0 where
-  NoneLeft : (w : World) → StandsFor w → Runs StandsFor w []
-  OneMore : (w : World) (given : happening.Event) (more : List happening.Event)
-      (happened : Event) → IsEvent given happened → Runs StandsFor (step w happened).0 more
-      → Runs StandsFor w (given ∷ more)
+-- events led from a system to another, one after the other
+pub data Runs {F : Type 0} (image_of : F → Images) (StandsFor : System → Type 0)
+    : System → List (happening.Event F) → Type 0 where
+  NoneLeft : (s : System) → StandsFor s → Runs image_of StandsFor s []
+  OneMore : (s : System) (given : happening.Event F) (more : List (happening.Event F))
+      (happened : SystemEvent) → IsEvent image_of given happened
+      → Runs image_of StandsFor (system_step s happened).0 more
+      → Runs image_of StandsFor s (given ∷ more)
 
 -- all of these events happened, or, where memory was wanted for one, those before it
-abbrev pub RunsUp : World → List happening.Event → (World → Type 0) → Result (Unit {0}) RunFault
-    → Type 0
-RunsUp w given StandsFor (Ok done) = Runs StandsFor w given
-RunsUp w given StandsFor (Err (fault.Memory at)) =
-    (at < length given) × Runs StandsFor w (take at given)
+abbrev pub RunsUp : {F : Type 0} → (F → Images) → System → List (happening.Event F)
+    → (System → Type 0) → Result (Unit {0}) RunFault → Type 0
+RunsUp image_of s given StandsFor (Ok done) = Runs image_of StandsFor s given
+RunsUp image_of s given StandsFor (Err (fault.Memory at)) =
+    (at < length given) × Runs image_of StandsFor s (take at given)

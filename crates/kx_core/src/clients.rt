@@ -1,39 +1,40 @@
 //! The clients of a world.
-ghost use Rattle.std.specs.Prelude.{◌≡◌, ◌++◌, ◌==◌, [], ◌∷◌, find, None, Some, slice_get};
+ghost use Rattle.std.specs.Prelude.{◌≡◌, ◌++◌, [], ◌∷◌, None, Some, slice_get};
 ghost use Rattle.std.specs.Prelude.{MatchOption, MatchResult, nat_lt, true};
-ghost use Rattle.kx_core.specs.Clients.{TakesAt, client_in};
+ghost use Rattle.kx_core.specs.Clients.{TakesAt, all_of, client_in, client_of, clients_in};
 ghost use Rattle.kx_core.specs.World.{given};
-ghost use Rattle.kx_model.specs.Client.{Client};
+ghost use Rattle.kx_core.specs.declared.any_client.AnyClient.{AnyClient};
 ghost use Rattle.kx_model.specs.World.{is_new};
 
-use crate::client::ClientMachine;
+use crate::any_client::AnyClient;
 use crate::hand::{self, Given};
 use kx_machine::Taken;
 use kx_message::ClientId;
+use kx_processor::Process;
 use std::alloc::{AllocError, Global};
 use std::marker::Model;
 
 /// The clients, in the order in which they were made, which is that of their numbers.
 #[derive(Drop)]
-pub(crate) struct Clients {
-    clients: Vec<ClientMachine>,
+pub(crate) struct Clients<F: Process> {
+    clients: Vec<AnyClient<F>>,
 }
 
-impl Model for Clients {
-    ghost use Rattle.std.specs.Prelude.{List};
-    ghost use Rattle.kx_core.specs.Clients.{AreRising};
-    ghost use Rattle.kx_model.specs.Client.{Client};
+impl<F: Process> Model for Clients<F> {
+    ghost use Rattle.std.specs.Prelude.{List, map};
+    ghost use Rattle.kx_core.specs.Clients.{AreRising, client_of};
+    ghost use Rattle.kx_core.specs.declared.any_client.AnyClient.{AnyClient};
 
-    ghost Value = { List Client };
+    ghost Value = { List (AnyClient F) };
 
     ghost view = { λ c. c.clients.items };
 
-    ghost invariant = { λ c. AreRising c.clients.items };
+    ghost invariant = { λ c. AreRising (map (λ one. (client_of one).number) c.clients.items) };
 }
 
-impl Clients {
+impl<F: Process> Clients<F> {
     /// None.
-    pub(crate) fn new(alloc: Global) -> Clients
+    pub(crate) fn new(alloc: Global) -> Self
         ensures { result ≡ [] }
     {
         Clients {
@@ -43,7 +44,7 @@ impl Clients {
 
     /// Whether a number is above all.
     pub(crate) fn is_new(&self, number: ClientId) -> bool
-        ensures { result ≡ is_new number self.now }
+        ensures { result ≡ is_new number (clients_in self.now) }
     {
         match self.clients.last() {
             None => true,
@@ -56,24 +57,24 @@ impl Clients {
     /// # Errors
     ///
     /// Only for want of memory; then they are as before.
-    pub(crate) fn add(&mut self, client: ClientMachine) -> Result<(), AllocError>
-        requires { is_new client.number self.old ≡ true }
-        ensures { MatchResult result (λ done. self.new ≡ self.old ++ client ∷ [])
+    pub(crate) fn add(&mut self, one: AnyClient<F>) -> Result<(), AllocError>
+        requires { is_new (client_of one).number (clients_in self.old) ≡ true }
+        ensures { MatchResult result (λ done. self.new ≡ self.old ++ one ∷ [])
             (λ refused. self.new ≡ self.old) }
     {
-        self.clients.push(client)?;
+        self.clients.push(one)?;
         Ok(())
     }
 
     // Where the client of this number stands.
     fn place_of(&self, number: ClientId) -> Option<usize>
-        ensures { MatchOption result (client_in self.now number ≡ None)
-            (λ place. (c : Client) × (slice_get self.now place ≡ Some c)
-            × (c.number ≡ number)) }
+        ensures { MatchOption result (client_in (clients_in self.now) number ≡ None)
+            (λ place. (one : AnyClient F) × (slice_get self.now place ≡ Some one)
+            × ((client_of one).number ≡ number)) }
     {
         let place = self.clients.partition_point(
-            |client: &ClientMachine| -> bool
-                ensures { result ≡ nat_lt client.now.number number }
+            |client: &AnyClient<F>| -> bool
+                ensures { result ≡ nat_lt (client_of client.now).number number }
             { client.number() < number },
         );
         let Some(client) = self.clients.get(place) else {
@@ -87,9 +88,10 @@ impl Clients {
     }
 
     /// The client of this number.
-    pub(crate) fn get(&self, number: ClientId) -> Option<&ClientMachine>
-        ensures { MatchOption result (client_in self.now number ≡ None)
-            (λ client. client_in self.now number ≡ Some client.now) }
+    pub(crate) fn get(&self, number: ClientId) -> Option<&AnyClient<F>>
+        ensures { MatchOption result (client_in (clients_in self.now) number ≡ None)
+            (λ client. client_in (clients_in self.now) number
+            ≡ Some (client_of client.now)) }
     {
         let place = self.place_of(number)?;
         Some(&self.clients[place])
@@ -105,8 +107,10 @@ impl Clients {
         number: ClientId,
         handed: Given<'_>,
     ) -> Result<Option<Taken>, AllocError>
-        ensures { MatchResult result (TakesAt self.old self.new number (given handed.entry))
-            (λ refused. self.new ≡ self.old) }
+        ensures { MatchResult result
+            (TakesAt (all_of F.image_of self.old) (all_of F.image_of self.new) number
+            (given handed.entry))
+            (λ refused. all_of F.image_of self.new ≡ all_of F.image_of self.old) }
     {
         let Some(place) = self.place_of(number) else {
             return Ok(None);

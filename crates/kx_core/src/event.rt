@@ -1,15 +1,26 @@
 //! What happens in a world.
 use kx_machine::{Input, Note, StoreMode};
-use kx_message::{ClientId, Node, Timeout, TxnId};
+use kx_message::{ClientId, GroupId, Node, Timeout, TxnId};
+use kx_processor::{Inputs, Process};
 
 /// What happens next: one node takes one input, or a client is made.
 #[derive(Drop)]
-pub enum Event {
+pub enum Event<F: Process> {
     /// A client is made, whose number is above those of all others; else nothing happens.
     Make {
         client: ClientId,
         txn: Option<TxnId>,
         timeout: Timeout,
+    },
+    /// A processor is made, in the same way: a client that is a member of a group, with its input
+    /// partitions and its process.
+    MakeProcessor {
+        client: ClientId,
+        txn: Option<TxnId>,
+        timeout: Timeout,
+        group: GroupId,
+        inputs: Inputs,
+        process: F,
     },
     /// The message of this number, counted from 0 among all that were ever handed out, comes to a
     /// node, whose store does this meanwhile. Where there is no such message, or no such node,

@@ -7,12 +7,14 @@ ghost use Rattle.kx_core.specs.World.{IsEvent};
 ghost use Rattle.kx_machine.specs.Meaning.{command_of, input_of};
 ghost use Rattle.kx_message.specs.Message.{IsOffset, IsU32};
 ghost use Rattle.kx_model.specs.World as model;
+ghost use Rattle.kx_system.specs.System.{IsSystemEvent, SystemEvent};
 ghost use Rattle.kx_varint.specs.Text.{IsBytes};
 
 use crate::event::Event;
 use kx_client::Values;
 use kx_machine::{Command, Input};
-use kx_message::{Bytes, ClientId, PartitionOffset};
+use kx_message::{Bytes, ClientId, PartitionOffset, Timeout, TxnId};
+use kx_processor::Process;
 
 fn bytes_fit(bytes: &[u8])
     ensures { IsBytes bytes.now }
@@ -102,21 +104,39 @@ fn input_fits(input: &Input)
     }
 }
 
+// What a client is made of.
+fn making_fits(client: ClientId, txn: Option<TxnId>, timeout: Timeout)
+    ensures { model.IsEvent (model.Make client txn timeout) }
+{
+    client_fits(client);
+    let _timeout = timeout.get();
+    if let Some(txn) = txn {
+        let _txn = txn.as_bytes();
+    }
+}
+
 /// An event of the definitions that happens is one of a schedule.
-pub(crate) fn fits(event: &Event)
-    ensures { (happened : model.Event) → IsEvent event.now happened → model.IsEvent happened }
+pub(crate) fn fits<F: Process>(event: &Event<F>)
+    ensures { (happened : SystemEvent) → IsEvent F.image_of event.now happened
+        → IsSystemEvent happened }
 {
     match event {
         Event::Make {
             client,
             txn,
             timeout,
+        } => making_fits(*client, *txn, *timeout),
+        Event::MakeProcessor {
+            client,
+            txn,
+            timeout,
+            group,
+            inputs,
+            process: _,
         } => {
-            client_fits(*client);
-            let _timeout = timeout.get();
-            if let Some(txn) = txn {
-                let _txn = txn.as_bytes();
-            }
+            making_fits(*client, *txn, *timeout);
+            let _group = group.as_bytes();
+            let _inputs = inputs.get();
         }
         Event::Deliver { .. } => {}
         Event::Hand { input, .. } => input_fits(input),

@@ -4,6 +4,7 @@
 //! world keeps the promises of exactly-once semantics (KIP-98, KIP-447, KIP-890).
 #![tactic(auto)]
 
+mod any_client;
 mod client;
 mod clients;
 mod count;
@@ -17,6 +18,7 @@ mod promises;
 mod sent;
 mod world;
 
+pub use any_client::AnyClient;
 pub use client::ClientMachine;
 pub use count::PartitionCount;
 pub use event::{Event, Happened};

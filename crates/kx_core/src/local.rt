@@ -21,19 +21,21 @@ ghost use Rattle.kx_model.specs.PartitionNode.{empty_partition};
 ghost use Rattle.kx_model.specs.Reading.{committed_of, visible};
 ghost use Rattle.kx_model.specs.Transactions.{last_stable_offset, open_transactions};
 ghost use Rattle.kx_model.specs.World as model;
-ghost use Rattle.kx_model.specs.World.{data_partition_at, entries_at, log_at, notes, start};
+ghost use Rattle.kx_model.specs.World.{data_partition_at, entries_at, log_at, notes};
 ghost use Rattle.kx_partition.specs.Fetch.{FetchRefuses};
 ghost use Rattle.kx_partition.specs.declared.fault.FetchFault.TheVariants.{Refused};
+ghost use Rattle.kx_system.specs.System.{System, start_system};
 ghost use Rattle.kx_txnlog.specs.Entry.{row_of};
 
 use crate::count::PartitionCount;
-use crate::promises::schedules_keep_promises;
+use crate::promises::systems_keep_promises;
 use crate::world::World;
 use kx_broker::{OffsetsMachine, PartitionMachine};
 use kx_coord_node::CoordinatorMachine;
 use kx_log::{FaultStore, MemStore};
 use kx_message::{ClientId, ErrorCode, GroupId, PartitionId};
 use kx_partition::{FetchFault, FetchPage};
+use kx_processor::Process;
 use kx_txnlog::Row;
 use std::alloc::{AllocError, Global};
 
@@ -41,10 +43,11 @@ use std::alloc::{AllocError, Global};
 pub type LocalStore = FaultStore<MemStore>;
 
 /// A world whose nodes keep their logs in memory.
-pub type LocalWorld = World<
+pub type LocalWorld<F> = World<
     CoordinatorMachine<LocalStore>,
     PartitionMachine<LocalStore>,
     OffsetsMachine<LocalStore>,
+    F,
 >;
 
 /// How a world is made.
@@ -112,17 +115,17 @@ fn offsets(alloc: Global) -> Result<OffsetsMachine<LocalStore>, AllocError>
 }
 
 // A world of these nodes, whose logs are empty.
-fn begun(
+fn begun<F: Process + Copy>(
     alloc: Global,
     coordinator: CoordinatorMachine<LocalStore>,
     partitions: Vec<PartitionMachine<LocalStore>>,
     offsets: OffsetsMachine<LocalStore>,
-) -> LocalWorld
+) -> LocalWorld<F>
     requires coordinator { Stands (AtCoordinator new_coordinator) coordinator }
     requires few { length partitions.items < offsets_partition }
     requires each { AreServers partitions.items }
     requires offsets { StandsForGroups (AtPartition offsets_partition empty_partition) offsets }
-    ensures { IsLocal result (start (length partitions.items)) }
+    ensures { IsLocal F.image_of result (start_system (length partitions.items)) }
 {
     World::of(alloc, coordinator, partitions, offsets)
 }
@@ -146,10 +149,11 @@ fn page_of(
     server.partition().fetch(from, max, committed)
 }
 
-impl World<
+impl<F: Process + Copy> World<
     CoordinatorMachine<LocalStore>,
     PartitionMachine<LocalStore>,
     OffsetsMachine<LocalStore>,
+    F,
 > {
     /// A world in which nothing has happened: the coordinator, so many data partitions and the
     /// offsets partition, with empty logs in memory.
@@ -157,8 +161,8 @@ impl World<
     /// # Errors
     ///
     /// For want of memory.
-    pub fn new(alloc: Global, config: Config) -> Result<LocalWorld, AllocError>
-        ensures { IfOk result (λ world. IsLocal world (start config.partitions)) }
+    pub fn new(alloc: Global, config: Config) -> Result<LocalWorld<F>, AllocError>
+        ensures { IfOk result (λ world. IsLocal F.image_of world (start_system config.partitions)) }
     {
         let coordinator = coordinator(alloc)?;
         let partitions = servers(alloc, config.partitions)?;
@@ -182,21 +186,22 @@ impl World<
         max: u32,
         committed: bool,
     ) -> Result<FetchPage<'_>, FetchFault>
-        ensures answer { (w : model.World) → IsLocal self.now w → MatchResult result
-            (λ page. answer_to (log_at w partition) from max committed ≡ Ok page)
-            (λ fault. FetchRefuses (answer_to (log_at w partition) from max committed) fault
-            ⊎ ((data_partition_at w partition ≡ None)
+        ensures answer { (s : System) → IsLocal F.image_of self.now s → MatchResult result
+            (λ page. answer_to (log_at s.world partition) from max committed ≡ Ok page)
+            (λ fault. FetchRefuses (answer_to (log_at s.world partition) from max committed) fault
+            ⊎ ((data_partition_at s.world partition ≡ None)
             × (fault ≡ Refused UnknownTopicOrPartition))) }
         // Where there is no such partition, that is told.
-        ensures missing { (w : model.World) → IsLocal self.now w
-            → data_partition_at w partition ≡ None → MatchResult result (λ page. ⊥)
+        ensures missing { (s : System) → IsLocal F.image_of self.now s
+            → data_partition_at s.world partition ≡ None → MatchResult result (λ page. ⊥)
             (λ fault. fault ≡ Refused UnknownTopicOrPartition) }
         // Of committed records it has exactly what is visible, by decision.
-        ensures visible { (w : model.World) → IsLocal self.now w → committed ≡ true
+        ensures visible { (s : System) → IsLocal F.image_of self.now s → committed ≡ true
             → IfOk result (λ page. committed_of page
-            ≡ between page.from page.next (visible (entries_at w partition) (commits (notes w)))) }
+            ≡ between page.from page.next
+            (visible (entries_at s.world partition) (commits (notes s.world)))) }
     {
-        schedules_keep_promises();
+        systems_keep_promises();
         match self.partition(partition) {
             Some(server) => page_of(server, from, max, committed),
             None => Err(FetchFault::Refused(ErrorCode::UnknownTopicOrPartition)),
@@ -207,16 +212,16 @@ impl World<
     /// of its earliest open transaction, or its end (KIP-98, "READ_COMMITTED"). Each transaction
     /// that is open there is owed its marker by the coordinator.
     pub fn last_stable_offset(&self, partition: PartitionId) -> Option<i64>
-        ensures offset { (w : model.World) → IsLocal self.now w → MatchOption result
-            (data_partition_at w partition ≡ None)
-            (λ offset. offset ≡ pos (last_stable_offset (entries_at w partition))) }
-        ensures missing { (w : model.World) → IsLocal self.now w
-            → data_partition_at w partition ≡ None → IsNone result }
-        ensures owed { (w : model.World) → IsLocal self.now w → (opened : Placed Sequenced)
-            → Contains (open_transactions (entries_at w partition)) opened
-            → owed (notes w) partition opened.item.id opened.item.epoch ≡ true }
+        ensures offset { (s : System) → IsLocal F.image_of self.now s → MatchOption result
+            (data_partition_at s.world partition ≡ None)
+            (λ offset. offset ≡ pos (last_stable_offset (entries_at s.world partition))) }
+        ensures missing { (s : System) → IsLocal F.image_of self.now s
+            → data_partition_at s.world partition ≡ None → IsNone result }
+        ensures owed { (s : System) → IsLocal F.image_of self.now s → (opened : Placed Sequenced)
+            → Contains (open_transactions (entries_at s.world partition)) opened
+            → owed (notes s.world) partition opened.item.id opened.item.epoch ≡ true }
     {
-        schedules_keep_promises();
+        systems_keep_promises();
         let server = self.partition(partition)?;
         Some(server.partition().lso())
     }
@@ -230,13 +235,13 @@ impl World<
         partition: PartitionId,
         stable: bool,
     ) -> (ErrorCode, i64)
-        ensures answer { (w : model.World) → IsLocal self.now w
+        ensures answer { (s : System) → IsLocal F.image_of self.now s
             → record { code = result.0; offset = result.1 }
-            ≡ offset_fetch (entries_at w offsets_partition) group partition stable }
-        ensures decided { (w : model.World) → IsLocal self.now w
-            → FollowsDecisions w group partition }
+            ≡ offset_fetch (entries_at s.world offsets_partition) group partition stable }
+        ensures decided { (s : System) → IsLocal F.image_of self.now s
+            → FollowsDecisions s.world group partition }
     {
-        schedules_keep_promises();
+        systems_keep_promises();
         self.offsets()
             .groups()
             .offset_fetch(group, partition, stable)
@@ -244,23 +249,24 @@ impl World<
 
     /// A group's generation, 0 to 2^31 - 1: how often its membership has changed.
     pub fn generation(&self, group: GroupId) -> i32
-        ensures { (w : model.World) → IsLocal self.now w
-            → result ≡ pos (generation (entries_at w offsets_partition) group) }
+        ensures { (s : System) → IsLocal F.image_of self.now s
+            → result ≡ pos (generation (entries_at s.world offsets_partition) group) }
     {
         self.offsets().groups().generation(group)
     }
 
     /// A group's members, in joining order.
     pub fn members(&self, group: GroupId) -> &[ClientId]
-        ensures { (w : model.World) → IsLocal self.now w
-            → result.now ≡ members (entries_at w offsets_partition) group }
+        ensures { (s : System) → IsLocal F.image_of self.now s
+            → result.now ≡ members (entries_at s.world offsets_partition) group }
     {
         self.offsets().groups().members(group)
     }
 
     /// The coordinator's row of each transactional id, in order of first use.
     pub fn rows(&self) -> &[Row]
-        ensures { (w : model.World) → IsLocal self.now w → map row_of result.now ≡ rows (notes w) }
+        ensures { (s : System) → IsLocal F.image_of self.now s
+            → map row_of result.now ≡ rows (notes s.world) }
     {
         self.coordinator().coordinator().rows()
     }

@@ -2,20 +2,24 @@
 ghost use Rattle.std.specs.Prelude.{◌≡◌, ◌≢◌, [], MatchResult, false};
 ghost use Rattle.kx_core.specs.Internal.{is_message};
 ghost use Rattle.kx_core.specs.Sent.{joined};
-ghost use Rattle.kx_core.specs.World.{Hands, Happens, StandFor, given};
+ghost use Rattle.kx_core.specs.World.{Hands, HandsIn, Occurs, StandFor, StandForAll, given};
 ghost use Rattle.kx_machine.specs.declared.machine.StoreMode.{StoreMode};
 ghost use Rattle.kx_machine.specs.declared.taken.Note.TheVariants as note;
 ghost use Rattle.kx_message.specs.Ranges.{offsets_partition};
 ghost use Rattle.kx_message.specs.declared.message.Node.TheVariants as node;
-ghost use Rattle.kx_model.specs.World.{Make, World, clock_after, step};
+ghost use Rattle.kx_model.specs.World.{Make, World, clock_after};
+ghost use Rattle.kx_system.specs.System.{Happens, MakeProcessor, System, system_step};
 
+use crate::any_client::AnyClient;
 use crate::client::ClientMachine;
 use crate::clients::Clients;
 use crate::event::Event;
 use crate::hand::{Given, hand};
 use crate::sent::Sent;
 use kx_machine::{Failing, Input, Messages, Note, StoreMode, Taken};
-use kx_message::{ClientId, Node, PartitionId, Timeout, TxnId};
+use kx_message::{ClientId, GroupId, Node, PartitionId, Timeout, TxnId};
+use kx_processor::{Inputs, Process};
+use kx_processor_node::ProcessorMachine;
 use std::alloc::{AllocError, Global};
 use std::marker::Model;
 
@@ -56,20 +60,20 @@ fn clock_after(clock: u64, handed: Given<'_>) -> u64
 /// The nodes of a world: the coordinator, the partitions, and the clients in the order of their
 /// numbers.
 #[derive(Drop)]
-pub(crate) struct Nodes<C: Failing, P: Failing, O: Failing> {
+pub(crate) struct Nodes<C: Failing, P: Failing, O: Failing, F: Process> {
     pub(crate) alloc: Global,
     pub(crate) coordinator: C,
     pub(crate) partitions: Vec<P>,
     pub(crate) offsets: O,
-    pub(crate) clients: Clients,
+    pub(crate) clients: Clients<F>,
     // the greatest moment of an expiry
     pub(crate) clock: u64,
 }
 
-impl<C: Failing, P: Failing, O: Failing> Model for Nodes<C, P, O> {
+impl<C: Failing, P: Failing, O: Failing, F: Process> Model for Nodes<C, P, O, F> {
     ghost use Rattle.kx_core.specs.World.{Nodes};
 
-    ghost Value = { Nodes C P O };
+    ghost Value = { Nodes C P O F };
 
     ghost view = { λ n. record {
       coordinator = n.coordinator;
@@ -80,13 +84,14 @@ impl<C: Failing, P: Failing, O: Failing> Model for Nodes<C, P, O> {
     } };
 }
 
-impl<C: Failing, P: Failing, O: Failing> Nodes<C, P, O> {
+impl<C: Failing, P: Failing, O: Failing, F: Process + Copy> Nodes<C, P, O, F> {
     // The coordinator takes what it is handed; the world's clock is the greatest moment of all
     // expiries.
     fn hand_coordinator(&mut self, handed: Given<'_>, mode: StoreMode) -> Result<Taken, AllocError>
-        ensures { Hands (StandFor C.stands P.stands O.stands self.old)
+        ensures stand { Hands (StandFor C.stands P.stands O.stands self.old)
             (StandFor C.stands P.stands O.stands self.new) node.Coordinator mode
             (given handed.entry) result }
+        ensures clients { self.new.clients ≡ self.old.clients }
     {
         let clock = clock_after(self.clock, handed);
         let taken = hand(&mut self.coordinator, handed, mode)?;
@@ -102,9 +107,10 @@ impl<C: Failing, P: Failing, O: Failing> Nodes<C, P, O> {
         mode: StoreMode,
     ) -> Result<Taken, AllocError>
         requires { number ≢ offsets_partition }
-        ensures { Hands (StandFor C.stands P.stands O.stands self.old)
+        ensures stand { Hands (StandFor C.stands P.stands O.stands self.old)
             (StandFor C.stands P.stands O.stands self.new) (node.Partition number) mode
             (given handed.entry) result }
+        ensures clients { self.new.clients ≡ self.old.clients }
     {
         let alloc = self.alloc;
         let Some(server) = self.partitions.get_mut(usize::from(number.get())) else {
@@ -113,10 +119,21 @@ impl<C: Failing, P: Failing, O: Failing> Nodes<C, P, O> {
         hand(server, handed, mode)
     }
 
+    // The server of the offsets partition takes what it is handed.
+    fn hand_offsets(&mut self, handed: Given<'_>, mode: StoreMode) -> Result<Taken, AllocError>
+        ensures stand { Hands (StandFor C.stands P.stands O.stands self.old)
+            (StandFor C.stands P.stands O.stands self.new) (node.Partition offsets_partition) mode
+            (given handed.entry) result }
+        ensures clients { self.new.clients ≡ self.old.clients }
+    {
+        hand(&mut self.offsets, handed, mode)
+    }
+
     // A client takes what it is handed, if there is one of this number; it has no store.
     fn hand_client(&mut self, number: ClientId, handed: Given<'_>) -> Result<Taken, AllocError>
-        ensures { (mode : StoreMode) → Hands (StandFor C.stands P.stands O.stands self.old)
-            (StandFor C.stands P.stands O.stands self.new) (node.Client number) mode
+        ensures { (mode : StoreMode)
+            → HandsIn (StandForAll C.stands P.stands O.stands F.image_of self.old)
+            (StandForAll C.stands P.stands O.stands F.image_of self.new) (node.Client number) mode
             (given handed.entry) result }
     {
         let Some(taken) = self.clients.take(number, handed)? else {
@@ -137,14 +154,14 @@ impl<C: Failing, P: Failing, O: Failing> Nodes<C, P, O> {
         handed: Given<'_>,
         mode: StoreMode,
     ) -> Result<Taken, AllocError>
-        ensures { Hands (StandFor C.stands P.stands O.stands self.old)
-            (StandFor C.stands P.stands O.stands self.new) to.now mode (given handed.entry)
-            result }
+        ensures { HandsIn (StandForAll C.stands P.stands O.stands F.image_of self.old)
+            (StandForAll C.stands P.stands O.stands F.image_of self.new) to.now mode
+            (given handed.entry) result }
     {
         match to {
             Node::Coordinator => self.hand_coordinator(handed, mode),
             Node::Partition(number) if *number == PartitionId::OFFSETS => {
-                hand(&mut self.offsets, handed, mode)
+                self.hand_offsets(handed, mode)
             }
             Node::Partition(number) => self.hand_partition(*number, handed, mode),
             Node::Client(number) => self.hand_client(*number, handed),
@@ -158,17 +175,43 @@ impl<C: Failing, P: Failing, O: Failing> Nodes<C, P, O> {
         txn: Option<TxnId>,
         timeout: Timeout,
     ) -> Result<(), AllocError>
-        ensures { (w : World) → StandFor C.stands P.stands O.stands self.old w
+        ensures { (s : System) → StandForAll C.stands P.stands O.stands F.image_of self.old s
             → MatchResult result
-            (λ done. StandFor C.stands P.stands O.stands self.new
-            (step w (Make number txn timeout)).0)
-            (λ refused. StandFor C.stands P.stands O.stands self.new w) }
+            (λ done. StandForAll C.stands P.stands O.stands F.image_of self.new
+            (system_step s (Happens (Make number txn timeout))).0)
+            (λ refused. StandForAll C.stands P.stands O.stands F.image_of self.new s) }
     {
         if !self.clients.is_new(number) {
             return Ok(());
         }
-        self.clients
-            .add(ClientMachine::new(self.alloc, number, txn, timeout))
+        let client = ClientMachine::new(self.alloc, number, txn, timeout);
+        self.clients.add(AnyClient::Plain(client))
+    }
+
+    // A processor is made, if its number is above those of all clients.
+    fn make_processor(
+        &mut self,
+        number: ClientId,
+        txn: Option<TxnId>,
+        timeout: Timeout,
+        group: GroupId,
+        inputs: Inputs,
+        process: F,
+    ) -> Result<(), AllocError>
+        ensures { (s : System) → StandForAll C.stands P.stands O.stands F.image_of self.old s
+            → MatchResult result
+            (λ done. StandForAll C.stands P.stands O.stands F.image_of self.new
+            (system_step s (MakeProcessor number txn timeout group inputs
+            (F.image_of process))).0)
+            (λ refused. StandForAll C.stands P.stands O.stands F.image_of self.new s) }
+    {
+        if !self.clients.is_new(number) {
+            return Ok(());
+        }
+        let processor = ProcessorMachine::new(
+            self.alloc, number, txn, timeout, group, inputs, process,
+        );
+        self.clients.add(AnyClient::Processor(processor))
     }
 
     /// An event happens, where these messages were handed out before it.
@@ -176,11 +219,12 @@ impl<C: Failing, P: Failing, O: Failing> Nodes<C, P, O> {
     /// # Errors
     ///
     /// Only for want of memory; then all stand for what they stood for.
-    pub(crate) fn step(&mut self, sent: &Sent, event: &Event) -> Result<Taken, AllocError>
-        ensures { (w : World) → StandFor C.stands P.stands O.stands self.old w
-            → joined sent.now.steps ≡ w.sent → MatchResult result
-            (Happens w event.now (StandFor C.stands P.stands O.stands self.new))
-            (λ refused. StandFor C.stands P.stands O.stands self.new w) }
+    pub(crate) fn step(&mut self, sent: &Sent, event: &Event<F>) -> Result<Taken, AllocError>
+        ensures { (s : System) → StandForAll C.stands P.stands O.stands F.image_of self.old s
+            → joined sent.now.steps ≡ s.world.sent → MatchResult result
+            (Occurs F.image_of s event.now
+            (StandForAll C.stands P.stands O.stands F.image_of self.new))
+            (λ refused. StandForAll C.stands P.stands O.stands F.image_of self.new s) }
     {
         match event {
             Event::Make {
@@ -189,6 +233,17 @@ impl<C: Failing, P: Failing, O: Failing> Nodes<C, P, O> {
                 timeout,
             } => {
                 self.make(*client, *txn, *timeout)?;
+                Ok(nothing(self.alloc))
+            }
+            Event::MakeProcessor {
+                client,
+                txn,
+                timeout,
+                group,
+                inputs,
+                process,
+            } => {
+                self.make_processor(*client, *txn, *timeout, *group, *inputs, *process)?;
                 Ok(nothing(self.alloc))
             }
             Event::Deliver { number, to, store } => match sent.get(*number) {

@@ -1,6 +1,6 @@
 //! What every world keeps.
 ghost use Rattle.std.specs.Prelude.{◌≡◌, ℕ, List};
-ghost use Rattle.kx_core.specs.Promises.{KeepsPromises};
+ghost use Rattle.kx_core.specs.Promises.{KeepsAll, KeepsPromises};
 ghost use Rattle.kx_model.specs.World.{Event, IsSchedule, run, start};
 ghost use Rattle.kx_system.specs.System.{IsSystemSchedule, SystemEvent, run_system, start_system};
 
@@ -9,7 +9,10 @@ use kx_headline::{
     offsets_commit_with_their_transaction, open_transactions_are_owed_markers,
     readers_get_exactly_what_is_visible,
 };
-use kx_pipeline::schedules_of_systems_are_schedules;
+use kx_pipeline::{
+    outputs_are_images_of_all_that_was_read, ranges_follow_one_another,
+    schedules_of_systems_are_schedules, transactions_write_images,
+};
 use kx_system::systems_run_as_worlds;
 
 /// Every schedule leads to a world that keeps the promises of exactly-once semantics (KIP-98,
@@ -27,12 +30,17 @@ pub fn schedules_keep_promises()
     open_transactions_are_owed_markers();
 }
 
-/// The same of systems some of whose clients are processors. This does nothing when it runs.
+/// The same of systems some of whose clients are processors; and where the members of a group are
+/// processors of one kind, each record that they read has its image once. This does nothing when it
+/// runs.
 pub fn systems_keep_promises()
     ensures { (partitions : ℕ) (events : List SystemEvent) → IsSystemSchedule events
-        → KeepsPromises (run_system events (start_system partitions)).world }
+        → KeepsAll (run_system events (start_system partitions)) }
 {
     schedules_keep_promises();
     schedules_of_systems_are_schedules();
     systems_run_as_worlds();
+    ranges_follow_one_another();
+    transactions_write_images();
+    outputs_are_images_of_all_that_was_read();
 }

@@ -4,8 +4,8 @@ use Rattle.kx_core.proofs.Standing.{by_coordinator}
 use Rattle.kx_machine.specs.Meaning.{AtCoordinator}
 use Rattle.kx_core.proofs.nodes.Nodes.hand_coordinator.Goals as goal
 
-pub returns : goal.returns
-returns g c = λ w h.
+pub returns-clause-stand : goal.returns-clause-stand
+returns-clause-stand g c = λ w h.
     let stand = subst (λ nodes.
     StandFor g.C.Machine.stands g.P.Machine.stands g.O.Machine.stands nodes w)
     (sym c.self.view_is) h in

@@ -8,8 +8,8 @@ use Rattle.kx_machine.specs.Meaning.{AtPartition}
 use Rattle.kx_machine.specs.declared.taken.Taken.{Taken}
 use Rattle.kx_core.proofs.nodes.Nodes.hand_partition.Goals as goal
 
-pub returns-in_default : goal.returns-in_default
-returns-in_default g c = λ w h.
+pub returns-in_default-clause-stand : goal.returns-in_default-clause-stand
+returns-in_default-clause-stand g c = λ w h.
     by_no_partition g.C.Machine.stands g.P.Machine.stands g.O.Machine.stands _ w c.args.number
     c.args.mode (given c.args.handed) c.nothing.result
     (subst (λ nodes. StandFor g.C.Machine.stands g.P.Machine.stands g.O.Machine.stands nodes w)
@@ -21,8 +21,8 @@ returns-in_default g c = λ w h.
     (ap (λ (t : Taken). t.note) c.nothing.ensures)
     (ap (λ (t : Taken). t.failed) c.nothing.ensures)
 
-pub returns : goal.returns
-returns g c = λ w h.
+pub returns-clause-stand : goal.returns-clause-stand
+returns-clause-stand g c = λ w h.
     let servers = c.self.inside.partitions.items in
     let server = c.in-Some.server.now in
     let number = c.args.number in

@@ -1,34 +1,40 @@
 use Rattle.std.proofs.Common.{List, length, subst, sym}
-use Rattle.kx_core.specs.World.{StandFor}
+use Rattle.kx_core.specs.World.{StandForAll}
+use Rattle.kx_core.specs.declared.any_client.AnyClient.{AnyClient}
 use Rattle.kx_core.proofs.Running.{begins}
-use Rattle.kx_model.specs.Client.{Client}
-use Rattle.kx_model.specs.World.{start}
+use Rattle.kx_system.specs.System.{start_system}
 use Rattle.kx_core.proofs.world.World.of.Goals as goal
 
 pub invariant_of-result : goal.invariant_of-result
 invariant_of-result g c =
+    let C = g.C.Machine.stands in
+    let P = g.P.Machine.stands in
+    let O = g.O.Machine.stands in
+    let image_of = g.F.Process.image_of in
     let count = length c.args.partitions.items in (
-      start count,
-      begins g.C.Machine.stands g.P.Machine.stands g.O.Machine.stands _ _ count
-          (subst (λ (clients : List Client). StandFor g.C.Machine.stands g.P.Machine.stands
-          g.O.Machine.stands (record {
+      start_system count,
+      begins C P O image_of _ _ count
+          (subst (λ (clients : List (AnyClient _)). StandForAll C P O image_of (record {
             coordinator = c.args.coordinator;
             partitions = c.args.partitions.items;
             offsets = c.args.offsets;
             clients = clients;
             clock = 0;
-          }) (start count)) (sym c.new.ensures) c.requires) c.new-2.ensures,
+          }) (start_system count)) (sym c.new.ensures) c.requires) c.new-2.ensures,
     )
 
 pub returns : goal.returns
 returns g c =
+    let C = g.C.Machine.stands in
+    let P = g.P.Machine.stands in
+    let O = g.O.Machine.stands in
+    let image_of = g.F.Process.image_of in
     let count = length c.args.partitions.items in
-    begins g.C.Machine.stands g.P.Machine.stands g.O.Machine.stands _ _ count
-    (subst (λ (clients : List Client). StandFor g.C.Machine.stands g.P.Machine.stands
-    g.O.Machine.stands (record {
+    begins C P O image_of _ _ count
+    (subst (λ (clients : List (AnyClient _)). StandForAll C P O image_of (record {
       coordinator = c.args.coordinator;
       partitions = c.args.partitions.items;
       offsets = c.args.offsets;
       clients = clients;
       clock = 0;
-    }) (start count)) (sym c.new.ensures) c.requires) c.new-2.ensures
+    }) (start_system count)) (sym c.new.ensures) c.requires) c.new-2.ensures

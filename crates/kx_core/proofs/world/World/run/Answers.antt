@@ -8,18 +8,22 @@ use Rattle.kx_core.proofs.Running.{runs_more, runs_still}
 use Rattle.kx_core.proofs.world.World.run.Goals as goal
 
 pub loop-at-init : goal.loop-at-init
-loop-at-init g c = λ w h. NoneLeft w h
+loop-at-init g c = λ s h. NoneLeft s h
 
 pub returns-in-Err-clause-run : goal.returns-in-Err-clause-run
-returns-in-Err-clause-run g c = λ w h. (
+returns-in-Err-clause-run g c = λ s h. (
   omega (arith, c.loop-at-test.true),
-  runs_still g.C.Machine.stands g.P.Machine.stands g.O.Machine.stands c.loop-at.self
-      c.happen.new.self w (take c.loop-at.at c.args.events.now) c.in-Err.ensures.step
-      (c.loop-at.invariant w h),
+  runs_still g.C.Machine.stands g.P.Machine.stands g.O.Machine.stands g.F.Process.image_of
+      c.loop-at.self c.happen.new.self s (take c.loop-at.at c.args.events.now)
+      c.in-Err.ensures.step (c.loop-at.invariant s h),
 )
 
 pub loop-at-preserved : goal.loop-at-preserved
-loop-at-preserved g c = λ w h.
+loop-at-preserved g c = λ s h.
+    let C = g.C.Machine.stands in
+    let P = g.P.Machine.stands in
+    let O = g.O.Machine.stands in
+    let image_of = g.F.Process.image_of in
     let events = c.args.events.now in
     let at = c.loop-at.at in
     let one = c.index-events-at.result in
@@ -27,16 +31,17 @@ loop-at-preserved g c = λ w h.
     let longer : take (at + 1) events ≡ take at events ++ one ∷ [] =
     ap (λ (n : ℕ). take n events) next
     ∙ take-suc events at one (omega (arith, c.loop-at-test.true))
-    ∙ ap (λ (e : Event). take at events ++ e ∷ []) (sym c.index-events-at.is) in
-    subst (Runs (IsRun g.C.Machine.stands g.P.Machine.stands g.O.Machine.stands c.happen.new.self)
-    w) (sym longer)
-    (runs_more g.C.Machine.stands g.P.Machine.stands g.O.Machine.stands c.loop-at.self
-    c.happen.new.self w (take at events) one (λ v before. c.in-Ok.field-0)
-    c.in-Ok.ensures.step (c.loop-at.invariant w h))
+    ∙ ap (λ (e : Event _). take at events ++ e ∷ []) (sym c.index-events-at.is) in
+    subst (Runs image_of (IsRun C P O image_of c.happen.new.self) s) (sym longer)
+    (runs_more C P O image_of c.loop-at.self c.happen.new.self s (take at events) one
+    (λ t before. c.in-Ok.field-0) c.in-Ok.ensures.step (c.loop-at.invariant s h))
 
 pub returns-clause-run : goal.returns-clause-run
-returns-clause-run g c = λ w h.
+returns-clause-run g c = λ s h.
+    let C = g.C.Machine.stands in
+    let P = g.P.Machine.stands in
+    let O = g.O.Machine.stands in
+    let image_of = g.F.Process.image_of in
     let all : take c.loop-at.at c.args.events.now ≡ c.args.events.now =
     take_all c.loop-at.at c.args.events.now (omega (arith, c.loop-at-test.false)) in
-    subst (Runs (IsRun g.C.Machine.stands g.P.Machine.stands g.O.Machine.stands c.loop-at.self) w)
-    all (c.loop-at.invariant w h)
+    subst (Runs image_of (IsRun C P O image_of c.loop-at.self) s) all (c.loop-at.invariant s h)
