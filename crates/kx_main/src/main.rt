@@ -6,7 +6,6 @@
 
 use clap::error::ErrorKind as UsageFault;
 use clap::{Arg, ArgAction, Command};
-use kx_core::LocalWorld;
 use kx_script::run_sim;
 use kx_text::{DumpFault, Ending, ScriptFault, run_dump};
 use std::alloc::{AllocError, Global};
@@ -30,7 +29,7 @@ fn script_in(rt: &(impl Input + Print + AllocGlobal)) -> Result<(), ScriptFault>
     let Ok(mut writer) = BufWriter::new(rt.alloc(), io::writer(rt)) else {
         return Err(ScriptFault::Memory);
     };
-    run_sim::<LocalWorld, _, _>(rt.alloc(), &mut reader, &mut writer)
+    run_sim(rt.alloc(), &mut reader, &mut writer)
 }
 
 // Prints the batches in these bytes.

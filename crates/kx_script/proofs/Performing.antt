@@ -9,7 +9,7 @@ use Rattle.kx_message.specs.declared.code.ErrorCode.{ErrorCode}
 use Rattle.kx_message.specs.declared.message.Node.{Node}
 use Rattle.kx_model.specs.Groups.{OffsetAnswer, offset_fetch}
 use Rattle.kx_model.specs.Page.{Fetched, Page, as_fetched, fetched_of}
-use Rattle.kx_model.specs.World.{World, entries_at}
+use Rattle.kx_model.specs.World.{entries_at}
 use Rattle.kx_script.specs.Printing.{dash_text}
 use Rattle.kx_script.specs.Running.{StandsFor, StandsIn}
 use Rattle.kx_script.specs.Script.{Performed, State, fetches, offset_text, performed}
@@ -20,6 +20,7 @@ use Rattle.kx_script.specs.declared.session.Running.{Running}
 use Rattle.kx_text.specs.Lines.{fetched_text}
 use Rattle.kx_text.specs.Pages.{page_text, refused_text}
 use Rattle.kx_text.specs.declared.mode.Mode.{Mode}
+use Rattle.kx_system.specs.System.{System}
 
 pub where_it_holds : {A : Type 0} (b : Bool) (x : A) → b ≡ true → where_true b x ≡ Some x
 where_it_holds true x e = refl
@@ -45,7 +46,7 @@ refusal_shown from mode (Err other) code old new is written =
 ------ orders
 
 -- the world is made, where there was none
-pub begins : {N : Type 0} (Stands : World → N → Type 0) (before : Option (Running N))
+pub begins : {N : Type 0} (Stands : System → N → Type 0) (before : Option (Running N))
     (after : Running N) (count : ℕ) (old new : Option (List ℕ)) → is_some before ≡ false
     → StandsFor Stands after (opening count) → Appends old new dash_text → (state : State)
     → StandsIn Stands before state
@@ -56,28 +57,28 @@ begins Stands None after count old new e s w (Some session) t = absurd t
 begins Stands (Some running) after count old new e s w state t = absurd cc
 
 pub shows_page : (s : Session) (partition : ℕ) (from : ℤ) (mode : Mode) (max : ℕ)
-    → has_partition s.world partition ≡ true
+    → has_partition s.system.world partition ≡ true
     → performed (Some s) (order.Fetch partition from mode max)
     ≡ Some (fetches s partition from mode max, Some s)
 shows_page s partition from mode max e =
-    where_it_holds (has_partition s.world partition)
+    where_it_holds (has_partition s.system.world partition)
     (fetches s partition from mode max, Some s) e
 
 pub shows_offset : (s : Session) (group : List ℕ) (partition : ℕ) (stable : Bool)
-    (answer : OffsetAnswer) → has_partition s.world partition ≡ true
-    → answer ≡ offset_fetch (entries_at s.world offsets_partition) group partition stable
+    (answer : OffsetAnswer) → has_partition s.system.world partition ≡ true
+    → answer ≡ offset_fetch (entries_at s.system.world offsets_partition) group partition stable
     → performed (Some s) (order.Offset group partition stable)
     ≡ Some (offset_text answer, Some s)
 shows_offset s group partition stable answer e a =
-    where_it_holds (has_partition s.world partition) (
-      offset_text (offset_fetch (entries_at s.world offsets_partition) group partition stable),
-      Some s,
-    ) e
+    let entries = entries_at s.system.world offsets_partition in
+    where_it_holds (has_partition s.system.world partition)
+    (offset_text (offset_fetch entries group partition stable), Some s) e
     ∙ ap (λ (x : OffsetAnswer). Some (offset_text x, Some s)) (sym a)
 
-pub lets_fail : (s : Session) (place : Node) (left : Left) → has_node s.world place ≡ true
+pub lets_fail : (s : Session) (place : Node) (left : Left)
+    → has_node s.system.world place ≡ true
     → performed (Some s) (order.Fail place left)
     ≡ Some (dash_text, Some (record s { marks = with_mark s.marks place (Some left) }))
 lets_fail s place left e =
-    where_it_holds (has_node s.world place)
+    where_it_holds (has_node s.system.world place)
     (dash_text, Some (record s { marks = with_mark s.marks place (Some left) })) e

@@ -26,6 +26,9 @@ use Rattle.kx_model.specs.Reading.{read_from, visible}
 use Rattle.kx_model.specs.Groups.{fact_of, members, generation, group_offset, marked_offset}
 use Rattle.kx_model.specs.Groups.{is_pending}
 use Rattle.kx_model.specs.World.{step}
+use Rattle.kx_log.specs.Row.{row_from}
+use Rattle.kx_system.specs.Processor.{processor_step, takes}
+use Rattle.kx_system.specs.System.{system_step}
 use Rattle.kx_text.specs.Words.{number_below, words_of}
 
 unfoldable pub rules : List Bool
@@ -34,5 +37,6 @@ unfolding digits unsigned_text signed_text groups_of shortest_text varint_at man
     header_at body_in record_at placed_at marker_in command take_reply last_row first_row next_id
     coordinator_epoch epoch_of batches_of unclosed_from judge judge_text marked_by judge_marker
     aborted page fetched read_from visible fact_of members generation group_offset marked_offset
-    is_pending step entry_in prints.header_at signed taken number_below words_of
+    is_pending step entry_in prints.header_at signed taken number_below words_of row_from takes
+    processor_step system_step
 rules = []

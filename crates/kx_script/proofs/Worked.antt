@@ -164,6 +164,55 @@ offsets_with_their_transaction :
 unfolding rules
 offsets_with_their_transaction = refl
 
+-- a processor's images and its offset count at once
+a_processor_consumes_and_produces :
+    Holds (("world 2" gives ("-" ∷ []))
+    ∷ ("put 0 x y" gives ("offset 0" ∷ []))
+    ∷ ("processor 1 a g 1" gives ("-" ∷ []))
+    ∷ ("init 1" gives ("#0 c1>co Init a 60000" ∷ []))
+    ∷ ("deliver 0" gives ("#1 co>c1 InitReply 0 0 0" ∷ []))
+    ∷ ("deliver 1" gives ("-" ∷ []))
+    ∷ ("poll 1" gives ("#2 c1>po Join g" ∷ []))
+    ∷ ("deliver 2" gives ("#3 po>c1 JoinReply 0 1 0 1" ∷ []))
+    ∷ ("deliver 3" gives ("-" ∷ []))
+    ∷ ("poll 1" gives ("#4 c1>po OffsetFetch g 0" ∷ []))
+    ∷ ("deliver 4" gives ("#5 po>c1 OffsetFetchReply 0 -1" ∷ []))
+    ∷ ("deliver 5" gives ("-" ∷ []))
+    ∷ ("poll 1" gives ("#6 c1>p0 Fetch 0 0" ∷ []))
+    ∷ ("deliver 6" gives ("#7 p0>c1 FetchReply 0 2" ∷ []))
+    ∷ ("deliver 7" gives ("-" ∷ []))
+    ∷ ("poll 1" gives ("#8 c1>p1 Produce 0 0 0 2" ∷ []))
+    ∷ ("deliver 8" gives ("#9 p1>co Add a 0 0 1" ∷ []))
+    ∷ ("deliver 9" gives ("#10 co>p1 AddReply 0 0 0" ∷ []))
+    ∷ ("deliver 10" gives ("#11 p1>c1 ProduceReply 0 0" ∷ []))
+    ∷ ("deliver 11" gives ("-" ∷ []))
+    ∷ ("poll 1" gives ("#12 c1>po Offsets g 1 1 0 0 0 1" ∷ []))
+    ∷ ("deliver 12" gives ("#13 po>co Add a 0 0 o" ∷ []))
+    ∷ ("deliver 13" gives ("#14 co>po AddReply 0 0 0" ∷ []))
+    ∷ ("deliver 14" gives ("#15 po>c1 OffsetsReply 0" ∷ []))
+    ∷ ("deliver 15" gives ("-" ∷ []))
+    ∷ ("poll 1" gives ("#16 c1>co EndTxn a 0 0 commit" ∷ []))
+    ∷ ("deliver 16" gives
+    ("#17 co>c1 EndReply 0 0 1" ∷ "#18 co>p1 Marker 0 1 commit 1"
+    ∷ "#19 co>po Marker 0 1 commit 1" ∷ []))
+    ∷ ("offset g 0 stable" gives ("88 -1" ∷ []))
+    ∷ ("deliver 18" gives ("#20 p1>co MarkerReply 0 0 1" ∷ []))
+    ∷ ("deliver 19" gives ("#21 po>co MarkerReply 0 0 1" ∷ []))
+    ∷ ("offset g 0 stable" gives ("0 2" ∷ []))
+    ∷ ("fetch 1 0 committed" gives ("0 ox" ∷ "1 oy" ∷ "next 3 lso 3 end 3" ∷ []))
+    ∷ [])
+unfolding rules
+a_processor_consumes_and_produces = refl
+
+-- it has 1 to 8 input partitions
+no_processor_of_nine :
+    Holds (("world 2" gives ("-" ∷ []))
+    ∷ ("processor 1 a g 8" gives ("-" ∷ []))
+    ∷ ("processor 2 a g 9" gives ("bad line 3" ∷ []))
+    ∷ [])
+unfolding rules
+no_processor_of_nine = refl
+
 -- a transaction in which nothing was sent
 nothing_sent :
     Holds (("world 1" gives ("-" ∷ []))

@@ -20,6 +20,7 @@ use Rattle.kx_script.specs.declared.order.Order.{Order}
 use Rattle.kx_script.specs.declared.order.Order.TheVariants as order
 use Rattle.kx_script.specs.declared.order.Task.{Task}
 use Rattle.kx_script.specs.declared.order.Task.TheVariants as task
+use Rattle.kx_system.specs.System.{most_inputs}
 
 ------ words
 
@@ -65,6 +66,10 @@ offset_of = number_below (2 ^ 63)
 -- how many data partitions a world has
 abbrev pub count_of : List ℕ → Option ℕ
 count_of word = number_below (data_partitions + 1) word >>= λ n. where_true (nat_lt 0 n) n
+
+-- how many input partitions a processor has
+abbrev pub inputs_of : List ℕ → Option ℕ
+inputs_of word = number_below (most_inputs + 1) word >>= λ n. where_true (nat_lt 0 n) n
 
 -- the name of a transaction or a group
 abbrev pub name_of : List ℕ → Option (List ℕ)
@@ -143,6 +148,13 @@ client_order words =
     pair words >>= λ two. client_of two.0 >>= λ c. txn_of two.1 >>= λ txn.
     lets (happening.Client c txn)
 
+-- `processor N TXN G K`
+abbrev pub processor_order : List (List ℕ) → Option Order
+processor_order words =
+    front words >>= λ client. triple client.1 >>= λ three. client_of client.0 >>= λ c.
+    txn_of three.0 >>= λ txn. name_of three.1 >>= λ g. inputs_of three.2 >>= λ k.
+    lets (happening.Processor c txn g k)
+
 -- `put P W..`
 abbrev pub put_order : List (List ℕ) → Option Order
 put_order words =
@@ -216,6 +228,7 @@ abbrev pub other_name : List ℕ → Option Name
 other_name word =
     if bytes_eq word (codes "world") then Some name.World
     else if bytes_eq word (codes "client") then Some name.Client
+    else if bytes_eq word (codes "processor") then Some name.Processor
     else if bytes_eq word (codes "put") then Some name.Put
     else if bytes_eq word (codes "deliver") then Some name.Deliver
     else if bytes_eq word (codes "expire") then Some name.Expire
@@ -235,6 +248,7 @@ name_in word = option_or (task_name word) (other_name word)
 abbrev pub order_as : Name → List (List ℕ) → Option Order
 order_as name.World words = world_order words
 order_as name.Client words = client_order words
+order_as name.Processor words = processor_order words
 order_as name.Put words = put_order words
 order_as name.Init words = plain_task task.Init words
 order_as name.Begin words = plain_task task.Begin words

@@ -9,7 +9,7 @@ use Rattle.kx_message.specs.Values.{where_true}
 use Rattle.kx_model.specs.Coordinator.{rows}
 use Rattle.kx_model.specs.Groups.{OffsetAnswer, offset_fetch}
 use Rattle.kx_model.specs.Page.{fetched}
-use Rattle.kx_model.specs.World.{World, Event, entries_at, log_at, notes, step}
+use Rattle.kx_model.specs.World.{entries_at, log_at, notes}
 use Rattle.kx_script.specs.Command.{order_in}
 use Rattle.kx_script.specs.Printing.{dash_text, group_text, messages_text, rows_text, step_text}
 use Rattle.kx_script.specs.Session.{Session, event_of, handed_out, has_node, has_partition}
@@ -17,6 +17,7 @@ use Rattle.kx_core.specs.World.{place_of}
 use Rattle.kx_script.specs.Session.{opening, session_after, with_mark}
 use Rattle.kx_script.specs.declared.order.Order.{Order}
 use Rattle.kx_script.specs.declared.order.Order.TheVariants as order
+use Rattle.kx_system.specs.System.{System, SystemEvent, system_step}
 use Rattle.kx_text.specs.Lines.{LeavesWriter, bad_text, fetched_text}
 use Rattle.kx_text.specs.Words.{lines_of}
 use Rattle.kx_text.specs.Mode.{is_committed}
@@ -31,21 +32,21 @@ State = Option Session
 
 ------ a line
 
-abbrev pub event_text : World → Event → List ℕ
-event_text w event = step_text (note_of (step w event).1)
-    (messages_text (length w.sent) (place_of event) (handed_out w event))
+abbrev pub event_text : System → SystemEvent → List ℕ
+event_text s event = step_text (note_of (system_step s event).1)
+    (messages_text (length s.world.sent) (place_of event) (handed_out s event))
 
 abbrev pub offset_text : OffsetAnswer → List ℕ
 offset_text answer = group_text answer.code answer.offset
 
-abbrev pub happens : Session → Option Event → Option (List ℕ × State)
+abbrev pub happens : Session → Option SystemEvent → Option (List ℕ × State)
 happens s None = None
-happens s (Some event) = Some (event_text s.world event, Some (session_after s event))
+happens s (Some event) = Some (event_text s.system event, Some (session_after s event))
 
 -- what is printed of a log, where there is the partition
 abbrev pub fetches : Session → ℕ → ℤ → Mode → ℕ → List ℕ
 fetches s partition from mode max =
-    fetched_text from mode (fetched (log_at s.world partition) from max (is_committed mode))
+    fetched_text from mode (fetched (log_at s.system.world partition) from max (is_committed mode))
 
 -- what an order prints, and the state after it; none where it may not stand
 abbrev pub performed : State → Order → Option (List ℕ × State)
@@ -53,16 +54,17 @@ performed None (order.World count) = Some (dash_text, Some (opening count))
 performed None other = None
 performed (Some s) (order.World count) = None
 performed (Some s) (order.Happen what) = happens s (event_of s what)
-performed (Some s) (order.Fail place left) = where_true (has_node s.world place)
+performed (Some s) (order.Fail place left) = where_true (has_node s.system.world place)
     (dash_text, Some (record s { marks = with_mark s.marks place (Some left) }))
 performed (Some s) (order.Fetch partition from mode max) =
-    where_true (has_partition s.world partition) (fetches s partition from mode max, Some s)
+    where_true (has_partition s.system.world partition)
+    (fetches s partition from mode max, Some s)
 performed (Some s) (order.Offset group partition stable) =
-    where_true (has_partition s.world partition) (
-      offset_text (offset_fetch (entries_at s.world offsets_partition) group partition stable),
+    where_true (has_partition s.system.world partition) (
+      offset_text (offset_fetch (entries_at s.system.world offsets_partition) group partition stable),
       Some s,
     )
-performed (Some s) order.Rows = Some (rows_text (rows (notes s.world)), Some s)
+performed (Some s) order.Rows = Some (rows_text (rows (notes s.system.world)), Some s)
 
 -- what a line prints, and the state after it; none for a bad line
 abbrev pub answer : State → List ℕ → Option (List ℕ × State)

@@ -1,4 +1,4 @@
--- A world of nodes under a script: which of their appends are to fail, which event a line is, and
+-- A system of nodes under a script: which of their appends are to fail, which event a line is, and
 -- what it leaves.
 use Rattle.std.specs.Prelude.{ℕ, List, length, drop, Bool, true, false, ◌&&◌, ◌||◌}
 use Rattle.std.specs.Prelude.{Option, Some, None, is_some, option_map, replicate, slice_get}
@@ -11,16 +11,18 @@ use Rattle.kx_message.specs.declared.message.Message.{Message}
 use Rattle.kx_message.specs.declared.message.Node.{Node}
 use Rattle.kx_message.specs.declared.message.Node.TheVariants as node
 use Rattle.kx_model.specs.Disk.{Store, Works}
-use Rattle.kx_model.specs.Step.{Commands, Expires, Reminds, Drops, Puts, Restarts}
-use Rattle.kx_model.specs.World.{World, Event, Make, Deliver, Hand, client_at, is_new}
-use Rattle.kx_model.specs.World.{start, step}
+use Rattle.kx_model.specs.Step.{Input, Commands, Expires, Reminds, Drops, Puts, Restarts}
+use Rattle.kx_model.specs.World.{World, Make, Deliver, Hand, client_at, is_new}
 use Rattle.kx_script.specs.Order.{command_of, store_of}
+use Rattle.kx_script.specs.Prefixed.{image_of}
 use Rattle.kx_script.specs.declared.marks.Marks.{Marks}
 use Rattle.kx_script.specs.declared.order.Left.{Left}
 use Rattle.kx_script.specs.declared.order.Happening.{Happening}
 use Rattle.kx_script.specs.declared.order.Happening.TheVariants as happening
 use Rattle.kx_script.specs.declared.order.Task.{Task}
 use Rattle.kx_script.specs.declared.order.Task.TheVariants as task
+use Rattle.kx_system.specs.System.{System, SystemEvent, Happens, MakeProcessor, start_system}
+use Rattle.kx_system.specs.System.{system_step}
 
 ------ appends that are to fail
 
@@ -64,11 +66,11 @@ has_named w what = true
 ------ a session
 
 pub record Session : Type 0 where
-  pub world : World
+  pub system : System
   pub marks : Marks
 
 abbrev pub opening : ℕ → Session
-opening count = record { world = start count; marks = no_marks }
+opening count = record { system = start_system count; marks = no_marks }
 
 -- what a node's store does in its next step
 abbrev pub store_at : Session → Node → Store
@@ -78,40 +80,48 @@ store_at s place = store_of (mark_at s.marks place)
 abbrev pub timeout : ℕ
 timeout = 60000
 
+-- a node is handed an input, while its store does what its next step does
+abbrev pub hands : Session → Node → Input → SystemEvent
+hands s to input = Happens (Hand to input (store_at s to))
+
+-- a message comes to the node that it is for
+abbrev pub delivers : Session → ℕ → Message → SystemEvent
+delivers s number m = Happens (Deliver number (receiver_of m) (store_at s (receiver_of m)))
+
 -- the event that is to happen, none where what it names isn't there; the appends of restarts never
 -- fail
-abbrev pub event_of : Session → Happening → Option Event
+abbrev pub event_of : Session → Happening → Option SystemEvent
 event_of s (happening.Client number txn) =
-    where_true (is_new number s.world.clients) (Make number txn timeout)
+    where_true (is_new number s.system.world.clients) (Happens (Make number txn timeout))
+event_of s (happening.Processor number txn group inputs) =
+    where_true (is_new number s.system.world.clients)
+    (MakeProcessor number txn timeout group inputs image_of)
 event_of s (happening.Tell number what) =
-    where_true (is_some (client_at s.world number) && has_named s.world what)
-    (Hand (node.Client number) (Commands (command_of what)) Works)
-event_of s (happening.Put partition values) = where_true (has_partition s.world partition)
-    (Hand (node.Partition partition) (Puts values.0 values.1)
-    (store_at s (node.Partition partition)))
-event_of s (happening.Deliver number) = option_map
-    (λ m. Deliver number (receiver_of m) (store_at s (receiver_of m)))
-    (slice_get s.world.sent number)
-event_of s (happening.Expire now) =
-    Some (Hand node.Coordinator (Expires now) (store_at s node.Coordinator))
-event_of s happening.Remind =
-    Some (Hand node.Coordinator Reminds (store_at s node.Coordinator))
-event_of s (happening.Drop group member) = Some (Hand (node.Partition offsets_partition)
-    (Drops group member) (store_at s (node.Partition offsets_partition)))
-event_of s (happening.Restart place) =
-    where_true (has_node s.world place) (Hand place (Restarts s.world.clock) Works)
+    where_true (is_some (client_at s.system.world number) && has_named s.system.world what)
+    (Happens (Hand (node.Client number) (Commands (command_of what)) Works))
+event_of s (happening.Put partition values) =
+    where_true (has_partition s.system.world partition)
+    (hands s (node.Partition partition) (Puts values.0 values.1))
+event_of s (happening.Deliver number) =
+    option_map (delivers s number) (slice_get s.system.world.sent number)
+event_of s (happening.Expire now) = Some (hands s node.Coordinator (Expires now))
+event_of s happening.Remind = Some (hands s node.Coordinator Reminds)
+event_of s (happening.Drop group member) =
+    Some (hands s (node.Partition offsets_partition) (Drops group member))
+event_of s (happening.Restart place) = where_true (has_node s.system.world place)
+    (Happens (Hand place (Restarts s.system.world.clock) Works))
 
 -- an append that was to fail has failed
 abbrev pub marks_after : Marks → Node → Bool → Marks
 marks_after marks place true = with_mark marks place None
 marks_after marks place false = marks
 
-abbrev pub session_after : Session → Event → Session
+abbrev pub session_after : Session → SystemEvent → Session
 session_after s event = record {
-  world = (step s.world event).0;
-  marks = marks_after s.marks (place_of event) (store_fails s.world event);
+  system = (system_step s.system event).0;
+  marks = marks_after s.marks (place_of event) (store_fails s.system event);
 }
 
 -- what an event hands out
-abbrev pub handed_out : World → Event → List Message
-handed_out w event = drop (length w.sent) (step w event).0.sent
+abbrev pub handed_out : System → SystemEvent → List Message
+handed_out s event = drop (length s.world.sent) (system_step s event).0.world.sent

@@ -5,6 +5,7 @@ ghost use Rattle.kx_script.specs.Command as spells;
 use crate::order::{Batch, Happening, Left, Order, Task};
 use kx_core::PartitionCount;
 use kx_message::{ClientId, GroupId, Node, Outcome, PartitionId, PartitionOffset, TxnId};
+use kx_processor::Inputs;
 use kx_text::{DEFAULT_MAX, Words, mode_of, number, number_below, words_of};
 
 // The first word of a line.
@@ -12,6 +13,7 @@ use kx_text::{DEFAULT_MAX, Words, mode_of, number, number_below, words_of};
 pub(crate) enum Name {
     World,
     Client,
+    Processor,
     Put,
     Init,
     Begin,
@@ -85,6 +87,14 @@ fn count_of(word: &[u8]) -> Option<PartitionCount>
 {
     let count = number_below(word, 17)?;
     PartitionCount::new(count as usize)
+}
+
+// How many input partitions a processor is to have.
+fn inputs_of(word: &[u8]) -> Option<Inputs>
+    ensures { result ≡ spells.inputs_of word.now }
+{
+    let count = number_below(word, 9)?;
+    Inputs::try_from(count as u8).ok()
 }
 
 // The name of a group.
@@ -213,6 +223,20 @@ fn client_order(words: Words<'_>) -> Option<Order<'_>>
     let client = client_of(client)?;
     let txn = txn_of(txn)?;
     Some(Order::Happen(Happening::Client(client, txn)))
+}
+
+// `processor N TXN G K`
+fn processor_order(mut words: Words<'_>) -> Option<Order<'_>>
+    ensures { result ≡ spells.processor_order words.entry }
+{
+    let client = words.next()?;
+    let txn = words.next()?;
+    let (group, inputs) = pair(words)?;
+    let client = client_of(client)?;
+    let txn = txn_of(txn)?;
+    let group = group_of(group)?;
+    let inputs = inputs_of(inputs)?;
+    Some(Order::Happen(Happening::Processor(client, txn, group, inputs)))
 }
 
 // `put P W..`
@@ -356,6 +380,8 @@ fn other_name(word: &[u8]) -> Option<Name>
         Some(Name::World)
     } else if word == b"client".as_slice() {
         Some(Name::Client)
+    } else if word == b"processor".as_slice() {
+        Some(Name::Processor)
     } else if word == b"put".as_slice() {
         Some(Name::Put)
     } else if word == b"deliver".as_slice() {
@@ -397,6 +423,7 @@ fn order_as<'a>(name: Name, words: Words<'a>) -> Option<Order<'a>>
     match name {
         Name::World => world_order(words),
         Name::Client => client_order(words),
+        Name::Processor => processor_order(words),
         Name::Put => put_order(words),
         Name::Init => plain_task(Task::Init, words),
         Name::Begin => plain_task(Task::Begin, words),

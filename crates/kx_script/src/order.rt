@@ -4,6 +4,7 @@ ghost use Rattle.kx_script.specs.Command.{front};
 
 use kx_core::PartitionCount;
 use kx_message::{ClientId, GroupId, Node, Outcome, PartitionId, PartitionOffset, TxnId};
+use kx_processor::Inputs;
 use kx_text::{Mode, Words};
 use std::marker::Model;
 
@@ -76,6 +77,9 @@ pub enum Left {
 pub enum Happening<'a> {
     /// `client N TXN`: a client of this number is made, with a transactional id or without.
     Client(ClientId, Option<TxnId>),
+    /// `processor N TXN G K`: a processor of this number is made in the same way, in a group and
+    /// with so many input partitions.
+    Processor(ClientId, Option<TxnId>, GroupId, Inputs),
     /// A client is told to do something.
     Tell(ClientId, Task<'a>),
     /// `put P W..`: a batch of the words, of no producer, goes to a data partition.

@@ -1,4 +1,5 @@
 //! What a script needs of a world.
+use crate::prefixed::Prefixed;
 use kx_core::{Event, Happened, PartitionCount};
 use kx_message::{ClientId, ErrorCode, GroupId, Message, PartitionId};
 use kx_partition::{FetchFault, FetchPage};
@@ -15,14 +16,15 @@ pub trait Runs: Drop {
     ghost use Rattle.kx_model.specs.Coordinator.{rows};
     ghost use Rattle.kx_model.specs.Groups.{offset_fetch};
     ghost use Rattle.kx_model.specs.Page.{answer_to};
-    ghost use Rattle.kx_model.specs.World.{World, client_at, entries_at, is_new, log_at, notes};
-    ghost use Rattle.kx_model.specs.World.{start};
+    ghost use Rattle.kx_model.specs.World.{client_at, entries_at, is_new, log_at, notes};
     ghost use Rattle.kx_partition.specs.Fetch.{FetchRefuses};
+    ghost use Rattle.kx_script.specs.Prefixed.{images_of};
     ghost use Rattle.kx_script.specs.Session.{has_partition};
+    ghost use Rattle.kx_system.specs.System.{System, start_system};
     ghost use Rattle.kx_txnlog.specs.Entry.{row_of};
 
-    // the world of the definitions for which it stands
-    ghost stands: { World → Self → Type 0 };
+    // the system of the definitions for which it stands
+    ghost stands: { System → Self → Type 0 };
 
     /// The coordinator, so many data partitions and the offsets partition, with empty logs.
     ///
@@ -30,41 +32,42 @@ pub trait Runs: Drop {
     ///
     /// Only for want of memory.
     fn start(alloc: Global, partitions: PartitionCount) -> Result<Self, AllocError>
-        ensures { IfOk result (λ world. stands (start partitions) world) };
+        ensures { IfOk result (λ world. stands (start_system partitions) world) };
 
-    /// An event happens: one node takes one input, or a client is made.
+    /// An event happens: one node takes one input, or a client or a processor is made.
     ///
     /// # Errors
     ///
     /// Only for want of memory; then nothing happens.
-    fn happen(&mut self, event: &Event) -> Result<Happened, AllocError>
-        ensures { (w : World) → stands w self.old → MatchResult result
-            (Steps w event.now (λ v. stands v self.new)) (λ refused. stands w self.new) };
+    fn happen(&mut self, event: &Event<Prefixed>) -> Result<Happened, AllocError>
+        ensures { (s : System) → stands s self.old → MatchResult result
+            (Steps images_of s event.now (λ t. stands t self.new))
+            (λ refused. stands s self.new) };
 
     /// How many data partitions there are.
     fn partitions(&self) -> usize
-        ensures { (w : World) → stands w self.now → result ≡ length w.partitions };
+        ensures { (s : System) → stands s self.now → result ≡ length s.world.partitions };
 
     /// How many messages were ever handed out.
     fn sent(&self) -> usize
-        ensures { (w : World) → stands w self.now → result ≡ length w.sent };
+        ensures { (s : System) → stands s self.now → result ≡ length s.world.sent };
 
     /// The message of this number.
     fn message(&self, number: usize) -> Option<&Message>
-        ensures { (w : World) → stands w self.now
-            → option_copied result ≡ slice_get w.sent number };
+        ensures { (s : System) → stands s self.now
+            → option_copied result ≡ slice_get s.world.sent number };
 
     /// Whether there is a client of this number.
     fn has_client(&self, client: ClientId) -> bool
-        ensures { (w : World) → stands w self.now → result ≡ is_some (client_at w client) };
+        ensures { (s : System) → stands s self.now → result ≡ is_some (client_at s.world client) };
 
     /// Whether the number is above those of all clients.
     fn is_new(&self, client: ClientId) -> bool
-        ensures { (w : World) → stands w self.now → result ≡ is_new client w.clients };
+        ensures { (s : System) → stands s self.now → result ≡ is_new client s.world.clients };
 
     /// The greatest moment of an expiry.
     fn clock(&self) -> u64
-        ensures { (w : World) → stands w self.now → result ≡ w.clock };
+        ensures { (s : System) → stands s self.now → result ≡ s.world.clock };
 
     /// A page of a data partition's log, borrowed from it.
     ///
@@ -78,20 +81,20 @@ pub trait Runs: Drop {
         max: u32,
         committed: bool,
     ) -> Result<FetchPage<'_>, FetchFault>
-        requires { (w : World) → stands w self.now → has_partition w partition ≡ true }
-        ensures { (w : World) → stands w self.now
+        requires { (s : System) → stands s self.now → has_partition s.world partition ≡ true }
+        ensures { (s : System) → stands s self.now
             → MatchResult result
-            (λ page. answer_to (log_at w partition) from max committed ≡ Ok page)
-            (FetchRefuses (answer_to (log_at w partition) from max committed)) };
+            (λ page. answer_to (log_at s.world partition) from max committed ≡ Ok page)
+            (FetchRefuses (answer_to (log_at s.world partition) from max committed)) };
 
     /// A group's committed offset of a data partition, -1 where there is none, or the code that it
     /// isn't stable.
     fn offset(&self, group: GroupId, partition: PartitionId, stable: bool) -> (ErrorCode, i64)
-        ensures { (w : World) → stands w self.now
+        ensures { (s : System) → stands s self.now
             → record { code = result.0; offset = result.1 }
-            ≡ offset_fetch (entries_at w offsets_partition) group partition stable };
+            ≡ offset_fetch (entries_at s.world offsets_partition) group partition stable };
 
     /// The coordinator's rows, in order of first use.
     fn rows(&self) -> &[Row]
-        ensures { (w : World) → stands w self.now → map row_of result.now ≡ rows (notes w) };
+        ensures { (s : System) → stands s self.now → map row_of result.now ≡ rows (notes s.world) };
 }

@@ -110,14 +110,14 @@ fn answer<N: Runs, W: Write>(
     perform(alloc, running, order, writer)
 }
 
-/// Runs a script over a world of its own: reads its lines one by one, carries each out and writes
-/// its answer, up to the end or the first bad line, of which it writes `bad line N`. It writes the
-/// answers as they come and doesn't flush the writer.
+/// Runs a script over a world of its own, of any kind: reads its lines one by one, carries each out
+/// and writes its answer, up to the end or the first bad line, of which it writes `bad line N`. It
+/// writes the answers as they come and doesn't flush the writer.
 ///
 /// # Errors
 ///
 /// Those of [`ScriptFault`], which says what was written by then.
-pub fn run_script<N: Runs, R: BufRead, W: Write>(
+pub fn run_script_over<N: Runs, R: BufRead, W: Write>(
     alloc: Global,
     reader: &mut R,
     writer: &mut W,

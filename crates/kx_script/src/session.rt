@@ -4,7 +4,7 @@ ghost use Rattle.std.specs.Prelude.{drop, slice_get};
 ghost use Rattle.std.specs.Io.KnownBytes.{Appends};
 ghost use Rattle.kx_machine.specs.Meaning.{input_of};
 ghost use Rattle.kx_model.specs.Step.{Commands, Puts};
-ghost use Rattle.kx_model.specs.World.{World, Hand, Deliver};
+ghost use Rattle.kx_model.specs.World.{Hand, Deliver};
 ghost use Rattle.kx_script.specs.Order as meant;
 ghost use Rattle.kx_script.specs.Printing.{message_lines, messages_text, optional_line};
 ghost use Rattle.kx_script.specs.Printing.{step_text};
@@ -14,9 +14,11 @@ ghost use Rattle.kx_script.specs.Session.{Session, event_of, has_named, has_node
 ghost use Rattle.kx_script.specs.Session.{marks_after};
 ghost use Rattle.kx_script.specs.declared.order.Happening.TheVariants as happening;
 ghost use Rattle.kx_script.specs.declared.order.Order.TheVariants as order;
+ghost use Rattle.kx_system.specs.System.{System, Happens};
 
 use crate::marks::{Marks, mode_of};
 use crate::order::{Batch, Happening, Left, Task};
+use crate::prefixed::Prefixed;
 use crate::printing::{
     write_code, write_dash, write_declined, write_group, write_message, write_rows,
 };
@@ -26,6 +28,7 @@ use kx_core::{Event, Happened};
 use kx_machine::{Input, Note};
 use kx_message::{ClientId, GroupId, Node, PartitionId, Timeout, TxnId};
 use kx_partition::FetchFault;
+use kx_processor::Inputs;
 use kx_text::{Mode, ScriptFault, show, write_answer, write_refusal, written};
 use std::alloc::{AllocError, Global};
 use std::io;
@@ -45,14 +48,14 @@ pub struct Running<N: Runs> {
 
 // Whether a data partition is there.
 fn has_partition<N: Runs>(world: &N, partition: PartitionId) -> bool
-    ensures { (w : World) → N.stands w world.now → result ≡ has_partition w partition }
+    ensures { (s : System) → N.stands s world.now → result ≡ has_partition s.world partition }
 {
     usize::from(partition.get()) < world.partitions()
 }
 
 // Whether a node is there that has a log.
 fn has_node<N: Runs>(world: &N, node: &Node) -> bool
-    ensures { (w : World) → N.stands w world.now → result ≡ has_node w node.now }
+    ensures { (s : System) → N.stands s world.now → result ≡ has_node s.world node.now }
 {
     match node {
         Node::Coordinator => true,
@@ -64,7 +67,7 @@ fn has_node<N: Runs>(world: &N, node: &Node) -> bool
 
 // Whether the partition that a client is told of is there.
 fn has_named<N: Runs>(world: &N, task: &Task<'_>) -> bool
-    ensures { (w : World) → N.stands w world.now → result ≡ has_named w task.now }
+    ensures { (s : System) → N.stands s world.now → result ≡ has_named s.world task.now }
 {
     match task {
         Task::Send(partition, _) => has_partition(world, *partition),
@@ -86,10 +89,10 @@ fn hand<N: Runs>(
     input: Input,
     mark: Option<Left>,
 ) -> Result<Happened, AllocError>
-    ensures { (w : World) → N.stands w world.old → MatchResult result
-        (Occurs w (Hand to.now (input_of input) (meant.store_of mark))
-        (λ v. N.stands v world.new))
-        (λ refused. N.stands w world.new) }
+    ensures { (s : System) → N.stands s world.old → MatchResult result
+        (Occurs s (Happens (Hand to.now (input_of input) (meant.store_of mark)))
+        (λ t. N.stands t world.new))
+        (λ refused. N.stands s world.new) }
 {
     world.happen(&Event::Hand {
         to: *to,
@@ -105,9 +108,10 @@ fn bring<N: Runs>(
     to: &Node,
     mark: Option<Left>,
 ) -> Result<Happened, AllocError>
-    ensures { (w : World) → N.stands w world.old → MatchResult result
-        (Occurs w (Deliver number to.now (meant.store_of mark)) (λ v. N.stands v world.new))
-        (λ refused. N.stands w world.new) }
+    ensures { (s : System) → N.stands s world.old → MatchResult result
+        (Occurs s (Happens (Deliver number to.now (meant.store_of mark)))
+        (λ t. N.stands t world.new))
+        (λ refused. N.stands s world.new) }
 {
     world.happen(&Event::Deliver {
         number,
@@ -122,8 +126,8 @@ fn make<N: Runs>(
     number: ClientId,
     txn: Option<TxnId>,
 ) -> Result<Option<(Node, Happened)>, AllocError>
-    ensures { (s : Session) → N.stands s.world world.old
-        → Carried s (happening.Client number txn) (λ v. N.stands v world.new) result }
+    ensures { (s : Session) → N.stands s.system world.old
+        → Carried s (happening.Client number txn) (λ t. N.stands t world.new) result }
 {
     if !world.is_new(number) {
         return Ok(None);
@@ -137,6 +141,34 @@ fn make<N: Runs>(
     Ok(Some((Node::Client(number), happened)))
 }
 
+// A processor is made, if its number is above those of all clients.
+fn make_processor<N: Runs>(
+    alloc: Global,
+    world: &mut N,
+    client: ClientId,
+    txn: Option<TxnId>,
+    group: GroupId,
+    inputs: Inputs,
+) -> Result<Option<(Node, Happened)>, AllocError>
+    ensures { (s : Session) → N.stands s.system world.old
+        → Carried s (happening.Processor client txn group inputs) (λ t. N.stands t world.new)
+        result }
+{
+    if !world.is_new(client) {
+        return Ok(None);
+    }
+    let timeout = Timeout::try_from(TIMEOUT).unwrap();
+    let happened = world.happen(&Event::MakeProcessor {
+        client,
+        txn,
+        timeout,
+        group,
+        inputs,
+        process: Prefixed::new(alloc),
+    })?;
+    Ok(Some((Node::Client(client), happened)))
+}
+
 // A client is told to do something, if it is there, and the partition that is named.
 fn tell<N: Runs>(
     alloc: Global,
@@ -144,8 +176,8 @@ fn tell<N: Runs>(
     number: ClientId,
     task: Task<'_>,
 ) -> Result<Option<(Node, Happened)>, AllocError>
-    ensures { (s : Session) → N.stands s.world world.old
-        → Carried s (happening.Tell number task.entry) (λ v. N.stands v world.new) result }
+    ensures { (s : Session) → N.stands s.system world.old
+        → Carried s (happening.Tell number task.entry) (λ t. N.stands t world.new) result }
 {
     if !world.has_client(number) || !has_named(world, &task) {
         return Ok(None);
@@ -164,8 +196,8 @@ fn put<N: Runs>(
     partition: PartitionId,
     batch: Batch<'_>,
 ) -> Result<Option<(Node, Happened)>, AllocError>
-    ensures { (s : Session) → N.stands s.world world.old → marks.now ≡ s.marks
-        → Carried s (happening.Put partition batch.entry) (λ v. N.stands v world.new) result }
+    ensures { (s : Session) → N.stands s.system world.old → marks.now ≡ s.marks
+        → Carried s (happening.Put partition batch.entry) (λ t. N.stands t world.new) result }
 {
     if !has_partition(world, partition) {
         return Ok(None);
@@ -182,8 +214,8 @@ fn deliver<N: Runs>(
     marks: &Marks,
     number: usize,
 ) -> Result<Option<(Node, Happened)>, AllocError>
-    ensures { (s : Session) → N.stands s.world world.old → marks.now ≡ s.marks
-        → Carried s (happening.Deliver number) (λ v. N.stands v world.new) result }
+    ensures { (s : Session) → N.stands s.system world.old → marks.now ≡ s.marks
+        → Carried s (happening.Deliver number) (λ t. N.stands t world.new) result }
 {
     let Some(message) = world.message(number) else {
         return Ok(None);
@@ -195,8 +227,8 @@ fn deliver<N: Runs>(
 
 // A node is opened again, if it is there and has a log. What it appends then doesn't fail.
 fn restart<N: Runs>(world: &mut N, to: Node) -> Result<Option<(Node, Happened)>, AllocError>
-    ensures { (s : Session) → N.stands s.world world.old
-        → Carried s (happening.Restart to) (λ v. N.stands v world.new) result }
+    ensures { (s : Session) → N.stands s.system world.old
+        → Carried s (happening.Restart to) (λ t. N.stands t world.new) result }
 {
     if !has_node(world, &to) {
         return Ok(None);
@@ -213,8 +245,8 @@ fn hand_marked<N: Runs>(
     to: Node,
     input: Input,
 ) -> Result<Option<(Node, Happened)>, AllocError>
-    ensures { (s : Session) → N.stands s.world world.old → marks.now ≡ s.marks
-        → Marked s to (input_of input) (λ v. N.stands v world.new) result }
+    ensures { (s : Session) → N.stands s.system world.old → marks.now ≡ s.marks
+        → Marked s to (input_of input) (λ t. N.stands t world.new) result }
 {
     let happened = hand(world, &to, input, marks.at(&to))?;
     Ok(Some((to, happened)))
@@ -228,12 +260,15 @@ fn carry_out<N: Runs>(
     marks: &Marks,
     what: Happening<'_>,
 ) -> Result<Option<(Node, Happened)>, AllocError>
-    ensures { (s : Session) → N.stands s.world world.old → marks.now ≡ s.marks
-        → Carried s what.entry (λ v. N.stands v world.new) result }
+    ensures { (s : Session) → N.stands s.system world.old → marks.now ≡ s.marks
+        → Carried s what.entry (λ t. N.stands t world.new) result }
 {
     let offsets = Node::Partition(PartitionId::OFFSETS);
     match what {
         Happening::Client(number, txn) => make(world, number, txn),
+        Happening::Processor(client, txn, group, inputs) => {
+            make_processor(alloc, world, client, txn, group, inputs)
+        }
         Happening::Tell(number, task) => tell(alloc, world, number, task),
         Happening::Put(partition, batch) => put(alloc, world, marks, partition, batch),
         Happening::Deliver(number) => deliver(world, marks, number),
@@ -264,9 +299,9 @@ fn write_one<N: Runs, W: Write>(
     from: &Node,
     writer: &mut W,
 ) -> io::Result<()>
-    ensures { (w : World) → N.stands w world.now
+    ensures { (s : System) → N.stands s world.now
         → OnOk result (Appends (W.contents writer.old) (W.contents writer.new)
-        (optional_line number from.now (slice_get w.sent number))) }
+        (optional_line number from.now (slice_get s.world.sent number))) }
 {
     match world.message(number) {
         Some(message) => write_message(writer, number, from, message),
@@ -281,9 +316,9 @@ fn write_lines<N: Runs, W: Write>(
     from: &Node,
     writer: &mut W,
 ) -> io::Result<()>
-    ensures { (w : World) → N.stands w world.now
+    ensures { (s : System) → N.stands s world.now
         → OnOk result (Appends (W.contents writer.old) (W.contents writer.new)
-        (message_lines first from.now (drop first w.sent))) }
+        (message_lines first from.now (drop first s.world.sent))) }
 {
     for number in first..world.sent() {
         write_one(world, number, from, writer)?;
@@ -298,9 +333,9 @@ fn write_messages<N: Runs, W: Write>(
     from: &Node,
     writer: &mut W,
 ) -> io::Result<()>
-    ensures { (w : World) → N.stands w world.now
+    ensures { (s : System) → N.stands s world.now
         → OnOk result (Appends (W.contents writer.old) (W.contents writer.new)
-        (messages_text first from.now (drop first w.sent))) }
+        (messages_text first from.now (drop first s.world.sent))) }
 {
     if world.sent() <= first {
         return write_dash(writer);
@@ -316,9 +351,9 @@ fn write_step<N: Runs, W: Write>(
     note: Note,
     writer: &mut W,
 ) -> io::Result<()>
-    ensures { (w : World) → N.stands w world.now
+    ensures { (s : System) → N.stands s world.now
         → OnOk result (Appends (W.contents writer.old) (W.contents writer.new)
-        (step_text note (messages_text first from.now (drop first w.sent)))) }
+        (step_text note (messages_text first from.now (drop first s.world.sent)))) }
 {
     match note {
         Note::Refused(fault) => write_declined(writer, fault),

@@ -1,4 +1,5 @@
 //! A world of running nodes under a script.
+use crate::prefixed::Prefixed;
 use crate::runs::Runs;
 use kx_core::{Config, Event, Happened, LocalWorld, PartitionCount};
 use kx_message::{ClientId, ErrorCode, GroupId, Message, PartitionId};
@@ -6,29 +7,33 @@ use kx_partition::{FetchFault, FetchPage};
 use kx_txnlog::Row;
 use std::alloc::{AllocError, Global};
 
-impl Runs for LocalWorld {
-    ghost use Rattle.kx_core.specs.Local.{IsLocal};
+/// A world in memory, whose processors are those of scripts.
+pub type ScriptWorld = LocalWorld<Prefixed>;
 
-    ghost stands = { λ w world. IsLocal world w };
+impl Runs for ScriptWorld {
+    ghost use Rattle.kx_core.specs.Local.{IsLocal};
+    ghost use Rattle.kx_script.specs.Prefixed.{images_of};
+
+    ghost stands = { λ s world. IsLocal images_of world s };
 
     fn start(alloc: Global, partitions: PartitionCount) -> Result<Self, AllocError> {
-        LocalWorld::new(alloc, Config { partitions })
+        ScriptWorld::new(alloc, Config { partitions })
     }
 
-    fn happen(&mut self, event: &Event) -> Result<Happened, AllocError> {
-        LocalWorld::happen(self, event)
+    fn happen(&mut self, event: &Event<Prefixed>) -> Result<Happened, AllocError> {
+        ScriptWorld::happen(self, event)
     }
 
     fn partitions(&self) -> usize {
-        LocalWorld::partitions(self)
+        ScriptWorld::partitions(self)
     }
 
     fn sent(&self) -> usize {
-        LocalWorld::sent(self).len()
+        ScriptWorld::sent(self).len()
     }
 
     fn message(&self, number: usize) -> Option<&Message> {
-        LocalWorld::sent(self).get(number)
+        ScriptWorld::sent(self).get(number)
     }
 
     fn has_client(&self, client: ClientId) -> bool {
@@ -36,11 +41,11 @@ impl Runs for LocalWorld {
     }
 
     fn is_new(&self, client: ClientId) -> bool {
-        LocalWorld::is_new(self, client)
+        ScriptWorld::is_new(self, client)
     }
 
     fn clock(&self) -> u64 {
-        LocalWorld::clock(self)
+        ScriptWorld::clock(self)
     }
 
     fn fetch(
@@ -50,7 +55,7 @@ impl Runs for LocalWorld {
         max: u32,
         committed: bool,
     ) -> Result<FetchPage<'_>, FetchFault> {
-        LocalWorld::fetch(self, partition, from, max, committed)
+        ScriptWorld::fetch(self, partition, from, max, committed)
     }
 
     fn offset(&self, group: GroupId, partition: PartitionId, stable: bool) -> (ErrorCode, i64) {
@@ -58,6 +63,6 @@ impl Runs for LocalWorld {
     }
 
     fn rows(&self) -> &[Row] {
-        LocalWorld::rows(self)
+        ScriptWorld::rows(self)
     }
 }

@@ -9,8 +9,8 @@ use Rattle.kx_script.proofs.session.fail.Goals as goal
 pub returns : goal.returns
 returns g c = λ s st.
     let place = c.args.place.now in
-    let there : has_node s.world place ≡ true =
-    sym (c.has_node.ensures s.world st.0) ∙ c.if-not-has_node.false in (
+    let there : has_node s.system.world place ≡ true =
+    sym (c.has_node.ensures s.system st.0) ∙ c.if-not-has_node.false in (
       dash_text,
       Some (record s { marks = with_mark s.marks place (Some c.args.left) }),
       inl (lets_fail s place c.args.left there),

@@ -17,19 +17,20 @@ returns-in_ok-show-in-Ok g c = λ s st.
     let new = g.W.Write.contents c.show.new.writer in
     let p = c.args.partition in
     let mode = c.args.mode in
-    let there : has_partition s.world p ≡ true =
-    sym (c.has_partition.ensures s.world st.0) ∙ c.if-not-has_partition.false in
-    let shown = page_shown _ mode _ c.in-Ok.page old new (c.in-Ok.ensures s.world st.0)
+    let log = log_at s.system.world p in
+    let there : has_partition s.system.world p ≡ true =
+    sym (c.has_partition.ensures s.system st.0) ∙ c.if-not-has_partition.false in
+    let shown = page_shown _ mode _ c.in-Ok.page old new (c.in-Ok.ensures s.system st.0)
     c.in_ok-show-in-Ok.ensures in (
       fetches s p c.args.from mode c.args.max,
       Some s,
       inl (shows_page s p c.args.from mode c.args.max there),
       st,
       subst (λ (b : Bool). Appends old new
-          (fetched_text c.args.from mode (fetched (log_at s.world p) c.args.from c.args.max b)))
+          (fetched_text c.args.from mode (fetched log c.args.from c.args.max b)))
           c.is_committed.ensures
           (subst (λ (z : ℤ). Appends old new (fetched_text z mode
-          (fetched (log_at s.world p) z c.args.max c.is_committed.result)))
+          (fetched log z c.args.max c.is_committed.result)))
           (to_z-of_z w64 c.args.from c.ranges.from) shown),
     )
 
@@ -39,9 +40,10 @@ returns-in_ok-written-in-Err-Refused g c = λ s st.
     let new = g.W.Write.contents c.write_refusal.new.writer in
     let p = c.args.partition in
     let mode = c.args.mode in
-    let there : has_partition s.world p ≡ true =
-    sym (c.has_partition.ensures s.world st.0) ∙ c.if-not-has_partition.false in
-    let refused = rw c.in-Err-Refused.field-0-is at (c.in-Err-Refused.ensures s.world st.0) in
+    let log = log_at s.system.world p in
+    let there : has_partition s.system.world p ≡ true =
+    sym (c.has_partition.ensures s.system st.0) ∙ c.if-not-has_partition.false in
+    let refused = rw c.in-Err-Refused.field-0-is at (c.in-Err-Refused.ensures s.system st.0) in
     let written = holds_at_ok c.write_refusal.result c.in_ok-written-in-Err-Refused.ensures
     c.write_refusal.ensures in (
       fetches s p c.args.from mode c.args.max,
@@ -49,10 +51,10 @@ returns-in_ok-written-in-Err-Refused g c = λ s st.
       inl (shows_page s p c.args.from mode c.args.max there),
       st,
       subst (λ (b : Bool). Appends old new
-          (fetched_text c.args.from mode (fetched (log_at s.world p) c.args.from c.args.max b)))
+          (fetched_text c.args.from mode (fetched log c.args.from c.args.max b)))
           c.is_committed.ensures
           (subst (λ (z : ℤ). Appends old new (fetched_text z mode
-          (fetched (log_at s.world p) z c.args.max c.is_committed.result)))
+          (fetched log z c.args.max c.is_committed.result)))
           (to_z-of_z w64 c.args.from c.ranges.from)
           (refusal_shown _ mode _ c.in-Err-Refused.code old new refused
           (rw c.in-Err-Refused.field-0-is at written))),

@@ -15,5 +15,5 @@ returns g c = λ s st.
     c.args.running.now.marks c.in-Ok.done c.in-Some.place c.in-Some.happened
     c.sent-first.result (g.W.Write.contents c.args.writer.now)
     (g.W.Write.contents c.write_step.new.writer) c.in-Some.is
-    (c.in-Ok.ensures s st.0 st.1) st.1 c.settle.ensures (c.sent-first.ensures s.world st.0)
+    (c.in-Ok.ensures s st.0 st.1) st.1 c.settle.ensures (c.sent-first.ensures s.system st.0)
     (λ w k. holds_at_ok c.write_step.result c.in_ok-written.ensures (c.write_step.ensures w k))

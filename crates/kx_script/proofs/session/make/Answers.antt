@@ -1,24 +1,26 @@
 use Rattle.std.proofs.Common.{◌≡◌, ℕ, true, Some, refl, sym, ap, ◌∙◌}
 use Rattle.std.proofs.lemmas.Result.{OkIff-at_ok}
 use Rattle.kx_model.specs.World.{Make, is_new}
+use Rattle.kx_system.specs.System.{Happens}
 use Rattle.kx_script.proofs.Occurring.{occurs}
 use Rattle.kx_script.proofs.Performing.{where_it_holds}
 use Rattle.kx_script.proofs.session.make.Goals as goal
 
 pub returns : goal.returns
 returns g c = λ s st.
-    let new : is_new c.args.number s.world.clients ≡ true =
-    sym (c.is_new.ensures s.world st) ∙ c.if-not-is_new.false in
+    let number = c.args.number in
+    let new : is_new number s.system.world.clients ≡ true =
+    sym (c.is_new.ensures s.system st) ∙ c.if-not-is_new.false in
     let timeout : c.unwrap-timeout.result ≡ 60000 =
     (OkIff-at_ok c.try_from.result _ 60000 c.unwrap-timeout.result c.try_from.ensures.0
     c.unwrap-timeout.ensures).1 in
+    let made = c.in_ok-happened.ensures s.system st in
     record {
-      event = Make c.args.number c.args.txn c.unwrap-timeout.result;
-      is = where_it_holds (is_new c.args.number s.world.clients)
-          (Make c.args.number c.args.txn 60000) new
-          ∙ ap (λ (t : ℕ). Some (Make c.args.number c.args.txn t)) (sym timeout);
+      event = Happens (Make number c.args.txn c.unwrap-timeout.result);
+      is = where_it_holds (is_new number s.system.world.clients)
+          (Happens (Make number c.args.txn 60000)) new
+          ∙ ap (λ (t : ℕ). Some (Happens (Make number c.args.txn t))) (sym timeout);
       place_is = refl;
-      occurs =
-          let made = c.in_ok-happened.ensures s.world st in
-          occurs s.world _ _ _ (Make c.args.number c.args.txn c.unwrap-timeout.result) made made.is;
+      occurs = occurs s.system _ _ _ (Happens (Make number c.args.txn c.unwrap-timeout.result))
+          made made.is;
     }

@@ -8,7 +8,7 @@ pub returns : goal.returns
 returns g c = λ s st. (
   rows_text _,
   Some s,
-  inl (ap (λ (rs : List Row). Some (rows_text rs, Some s)) (sym (c.rows.ensures s.world st.0))),
+  inl (ap (λ (rs : List Row). Some (rows_text rs, Some s)) (sym (c.rows.ensures s.system st.0))),
   st,
   holds_at_ok c.write_rows.result c.in_ok-written.ensures c.write_rows.ensures,
 )

@@ -9,7 +9,7 @@ use Rattle.kx_script.specs.Running.{StandsIn}
 use Rattle.kx_script.specs.Script.{Answered, Ends}
 use Rattle.kx_script.proofs.Underway.{starts, read_fails, stops, finishes, goes_on, answer_fails}
 use Rattle.kx_script.proofs.Underway.{is_bad}
-use Rattle.kx_script.proofs.script.run_script.Goals as goal
+use Rattle.kx_script.proofs.script.run_script_over.Goals as goal
 
 pub loop-number-init : goal.loop-number-init
 loop-number-init g c =

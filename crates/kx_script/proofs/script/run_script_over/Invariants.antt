@@ -1,6 +1,6 @@
 use Rattle.kx_script.specs.Running.{StandsIn}
 use Rattle.kx_script.proofs.Underway.{Underway}
-use Rattle.kx_script.proofs.script.run_script.Given as goal
+use Rattle.kx_script.proofs.script.run_script_over.Given as goal
 
 abbrev pub invariant-loop-number : goal.invariant-loop-number
 invariant-loop-number g l =
