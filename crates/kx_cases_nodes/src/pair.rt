@@ -2,7 +2,6 @@
 ghost use Rattle.std.specs.Prelude.{◌≡◌, ◌≤◌, IfOk};
 
 use kx_cases::Tally;
-use kx_core::LocalWorld;
 use kx_script::run_script;
 use kx_text::ScriptFault;
 use std::alloc::{AllocError, Global};
@@ -20,7 +19,7 @@ fn ends_badly(alloc: Global, wanted: &str, number: u64) -> Result<bool, AllocErr
 fn is_right(alloc: Global, script: &str, wanted: &str) -> Result<bool, AllocError> {
     let mut reader = script.as_bytes();
     let mut written = Vec::new(alloc);
-    let ended = run_script::<LocalWorld, _, _>(alloc, &mut reader, &mut written);
+    let ended = run_script(alloc, &mut reader, &mut written);
     if written.as_slice() != wanted.as_bytes() {
         return Ok(false);
     }

@@ -4,8 +4,7 @@ use crate::lines::{on_one_line, script_of};
 use crate::streams::{Full, Torn};
 use crate::sweeps::sweep;
 use kx_cases::{Runs, StepFault, Subject, Texts, value};
-use kx_core::LocalWorld;
-use kx_script::run_script;
+use kx_script::{ScriptWorld, run_script};
 use std::alloc::{AllocError, Global};
 use std::io::BufRead;
 
@@ -18,7 +17,7 @@ pub struct Scripts {
 // What a script writes, and how it ends.
 fn run<R: BufRead>(alloc: Global, reader: &mut R) -> Result<String, AllocError> {
     let mut written = Vec::new(alloc);
-    let ended = run_script::<LocalWorld, _, _>(alloc, reader, &mut written);
+    let ended = run_script(alloc, reader, &mut written);
     let ended = format!(in alloc; "{ended:?}")?;
     on_one_line(alloc, written.as_slice(), ended.as_str())
 }
@@ -28,7 +27,7 @@ fn full(alloc: Global, most: usize, script: &str) -> Result<String, AllocError> 
     let mut runs = Runs::new(alloc);
     for room in 0..=most {
         let mut reader = script.as_bytes();
-        let ended = run_script::<LocalWorld, _, _>(alloc, &mut reader, &mut Full(room));
+        let ended = run_script(alloc, &mut reader, &mut Full(room));
         runs.push(room, format!(in alloc; "{ended:?}")?)?;
     }
     runs.finish()
@@ -59,7 +58,7 @@ impl Subject for Scripts {
             }
             ["sweep", most, script @ ..] => {
                 let script = script_of(alloc, script)?;
-                sweep(alloc, value(most)?, script.as_str())
+                sweep::<ScriptWorld>(alloc, value(most)?, script.as_str())
             }
             ["torn", script @ ..] => {
                 let script = script_of(alloc, script)?;

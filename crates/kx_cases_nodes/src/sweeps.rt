@@ -1,16 +1,18 @@
 //! Scripts in which an append fails and leaves a part of its bytes.
 use crate::lines::on_one_line;
 use kx_cases::{Runs, StepFault, known, value};
-use kx_core::{Config, Event, LocalWorld, PartitionCount};
+use kx_core::{Event, PartitionCount};
 use kx_machine::StoreMode;
 use kx_message::Node;
-use kx_script::{Marks, Order, Running, fetch, happen, order_in, rows, write_dash, write_message};
+use kx_script::{
+    Marks, Order, Running, Runs as World, fetch, happen, order_in, rows, write_dash, write_message,
+};
 use kx_text::ScriptFault;
 use std::alloc::Global;
 use std::str::Split;
 
 // The world that a line makes.
-fn world_in(alloc: Global, line: &str) -> Result<Running<LocalWorld>, StepFault> {
+fn world_in<N: World>(alloc: Global, line: &str) -> Result<Running<N>, StepFault> {
     let Some(count) = line.strip_prefix("world ") else {
         return Err(StepFault::Unknown);
     };
@@ -18,15 +20,15 @@ fn world_in(alloc: Global, line: &str) -> Result<Running<LocalWorld>, StepFault>
         return Err(StepFault::Unknown);
     };
     Ok(Running {
-        world: LocalWorld::new(alloc, Config { partitions })?,
+        world: N::start(alloc, partitions)?,
         marks: Marks::none(),
     })
 }
 
 // Carries an order out, and writes its answer; false where it isn't one of a sweep.
-fn perform(
+fn perform<N: World>(
     alloc: Global,
-    running: &mut Running<LocalWorld>,
+    running: &mut Running<N>,
     order: Order<'_>,
     writer: &mut Vec<u8>,
 ) -> Result<bool, ScriptFault> {
@@ -41,9 +43,9 @@ fn perform(
 }
 
 // Carries a line out, and writes its answer.
-fn carry_out(
+fn carry_out<N: World>(
     alloc: Global,
-    running: &mut Running<LocalWorld>,
+    running: &mut Running<N>,
     line: &str,
     writer: &mut Vec<u8>,
 ) -> Result<(), StepFault> {
@@ -57,18 +59,18 @@ fn carry_out(
 }
 
 // Writes the messages from a number on, a line each.
-fn write_from(
-    world: &LocalWorld,
+fn write_from<N: World>(
+    world: &N,
     first: usize,
     from: &Node,
     writer: &mut Vec<u8>,
 ) -> Result<(), StepFault> {
     let sent = world.sent();
-    if sent.len() <= first {
+    if sent <= first {
         return known(write_dash(writer));
     }
-    for number in first..sent.len() {
-        if let Some(message) = sent.get(number) {
+    for number in first..sent {
+        if let Some(message) = world.message(number) {
             known(write_message(writer, number, from, message))?;
         }
     }
@@ -77,17 +79,17 @@ fn write_from(
 
 // A message comes to its node, which has to append something: that fails, and leaves so many bytes.
 // Writes what is handed out.
-fn tear(
-    world: &mut LocalWorld,
+fn tear<N: World>(
+    world: &mut N,
     number: usize,
     keep: u64,
     writer: &mut Vec<u8>,
 ) -> Result<(), StepFault> {
-    let Some(message) = world.sent().get(number) else {
+    let Some(message) = world.message(number) else {
         return Err(StepFault::Unknown);
     };
     let to = message.receiver();
-    let first = world.sent().len();
+    let first = world.sent();
     let store = StoreMode::Fails { keep };
     let happened = world.happen(&Event::Deliver { number, to, store })?;
     if !happened.failed {
@@ -98,9 +100,9 @@ fn tear(
 
 // Carries lines out, the line `tear K` so that it leaves so many bytes; what was written before
 // that one is dropped.
-fn tear_in<'a>(
+fn tear_in<'a, N: World>(
     alloc: Global,
-    running: &mut Running<LocalWorld>,
+    running: &mut Running<N>,
     lines: Split<'a, char>,
     keep: u64,
     writer: &mut Vec<u8>,
@@ -118,9 +120,9 @@ fn tear_in<'a>(
 }
 
 // What a script writes from its line `tear K` on, where that leaves so many bytes.
-fn torn(alloc: Global, script: &str, keep: u64) -> Result<Vec<u8>, StepFault> {
+fn torn<N: World>(alloc: Global, script: &str, keep: u64) -> Result<Vec<u8>, StepFault> {
     let mut lines = script.split('\n');
-    let mut running = world_in(alloc, lines.next().unwrap_or(""))?;
+    let mut running = world_in::<N>(alloc, lines.next().unwrap_or(""))?;
     let mut written = Vec::new(alloc);
     tear_in(alloc, &mut running, lines, keep, &mut written)?;
     Ok(written)
@@ -128,10 +130,10 @@ fn torn(alloc: Global, script: &str, keep: u64) -> Result<Vec<u8>, StepFault> {
 
 /// What a script writes from its line `tear K` on, which lets message K come to its node, while the
 /// append there fails and leaves none of its bytes, one, and so on up to so many.
-pub fn sweep(alloc: Global, most: usize, script: &str) -> Result<String, StepFault> {
+pub fn sweep<N: World>(alloc: Global, most: usize, script: &str) -> Result<String, StepFault> {
     let mut runs = Runs::new(alloc);
     for keep in 0..=most {
-        let written = torn(alloc, script, keep as u64)?;
+        let written = torn::<N>(alloc, script, keep as u64)?;
         runs.push(keep, on_one_line(alloc, written.as_slice(), "")?)?;
     }
     Ok(runs.finish()?)
