@@ -1,0 +1,13 @@
+pub mod Adding
+pub mod CoordinatorLeaves
+pub mod CoordinatorSteps
+pub mod CoordinatorTells
+pub mod Disks
+pub mod Leaving
+pub mod PartitionLeaves
+pub mod PartitionSteps
+pub mod PartitionTells
+pub mod Reruns
+pub mod Telling
+pub mod Traces
+pub mod Ways

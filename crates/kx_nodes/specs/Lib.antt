@@ -1,0 +1,5 @@
+pub mod Again
+pub mod Alike
+pub mod Faults
+pub mod Made
+pub mod Replay

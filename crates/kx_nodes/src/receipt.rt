@@ -1,0 +1,16 @@
+//! What a node answers to whoever hands it an input.
+use kx_machine::{Input, Taken};
+use kx_message::Node;
+
+/// What a step answers its caller.
+#[derive(Drop)]
+pub struct Receipt {
+    /// The node that took the input.
+    pub node: Node,
+    /// The step's place in the node's trace, from 0.
+    pub place: usize,
+    /// The caller's own input.
+    pub input: Input,
+    /// What the node answered.
+    pub taken: Taken,
+}

@@ -1,0 +1,156 @@
+//! Threads that serve nodes.
+ghost use Rattle.std.specs.Prelude.{◌≡◌, ◌<◌, ◌≤◌, IfOk, vec_len};
+
+use crate::fault::HandFault;
+use crate::gate::Gate;
+use crate::made::Made;
+use crate::node::Node;
+use crate::receipt::Receipt;
+use crate::shared::{Shared, Task};
+use crossbeam_channel::Receiver;
+use kx_machine::{Input, Machine};
+use std::alloc::{AllocError, Global};
+use std::marker::Model;
+use std::sync::{Arc, Wait};
+use std::thread;
+use std::thread::{JoinHandle, Threads};
+
+/// Running threads that serve nodes. Each thread has an inbox with room for any number of inputs,
+/// and each node is served by one thread. What a step hands out to one of these nodes goes to the
+/// inbox of that node's thread, with a ticket of its own; where there is no memory or no ticket for
+/// it, it is lost. The threads are ended by [`end`](Workers::end).
+pub struct Workers<M: Machine, B: Made, G: Gate, R: Threads + Wait> {
+    rt: R,
+    alloc: Global,
+    // how many nodes are served
+    served: usize,
+    shared: Arc<Shared<M, B, G>>,
+    handles: Vec<JoinHandle<Vec<Receipt>>>,
+}
+
+/// Workers are seen as the number of nodes that they serve.
+impl<M: Machine, B: Made, G: Gate, R: Threads + Wait> Model for Workers<M, B, G, R> {
+    ghost use Rattle.std.specs.Prelude.{ℕ};
+
+    ghost Value = { ℕ };
+
+    ghost view = { λ w. w.served };
+}
+
+impl<
+    M: Machine + Send + Sync + 'static,
+    B: Made + Send + Sync + 'static,
+    G: Gate + Send + Sync + 'static,
+    R: Threads + Wait + Copy + Send + 'static,
+> Workers<M, B, G, R> {
+    /// Starts so many threads that serve these nodes behind a gate.
+    ///
+    /// # Errors
+    ///
+    /// Only for want of memory or of threads; then those that were started have ended.
+    pub fn start(
+        rt: R,
+        alloc: Global,
+        nodes: Vec<Arc<Node<M, B>>>,
+        count: usize,
+        gate: G,
+    ) -> Result<Workers<M, B, G, R>, AllocError>
+        requires { 1 ≤ count }
+        ensures { IfOk result (λ workers. workers ≡ vec_len nodes) }
+    {
+        let served = nodes.len();
+        let mut inboxes = Vec::new(alloc);
+        let mut receivers = Vec::new(alloc);
+        for _ in 0..count {
+            let (sender, receiver) = crossbeam_channel::unbounded(alloc)?;
+            inboxes.push(sender)?;
+            receivers.push(receiver)?;
+        }
+        let mut workers = Workers {
+            rt,
+            alloc,
+            served,
+            shared: Arc::new(alloc, Shared::new(nodes, gate, inboxes))?,
+            handles: Vec::new(alloc),
+        };
+        if workers.add_all(receivers) {
+            return Ok(workers);
+        }
+        let _ = workers.end();
+        Err(AllocError)
+    }
+
+    // Starts a thread for each inbox.
+    fn add_all(&mut self, inboxes: Vec<Receiver<Task>>) -> bool
+        ensures { self.new ≡ self.old }
+    {
+        for inbox in inboxes {
+            if !self.add(inbox) {
+                return false;
+            }
+        }
+        true
+    }
+
+    // Starts a thread. Room for its handle is made first, so that none is lost.
+    fn add(&mut self, inbox: Receiver<Task>) -> bool
+        ensures { self.new ≡ self.old }
+    {
+        let (rt, alloc) = (self.rt, self.alloc);
+        let Ok(theirs) = Arc::try_clone(&self.shared) else {
+            return false;
+        };
+        if self.handles.reserve(1).is_err() {
+            return false;
+        }
+        let Ok(handle) = thread::spawn(&rt, move || theirs.work(&rt, &inbox, alloc)) else {
+            return false;
+        };
+        self.handles.push_reserved(handle);
+        true
+    }
+
+    /// How many nodes are served.
+    pub fn served(&self) -> usize
+        ensures { result ≡ self.now }
+    {
+        self.served
+    }
+
+    /// Hands an input to a node, by its place among those that were given, from 0, and gives the
+    /// ticket of its step. Tickets are counted from 1.
+    ///
+    /// # Errors
+    ///
+    /// `Memory` for want of memory, `UsedUp` where 2^64 - 1 tickets were given. Then there is no
+    /// step.
+    pub fn hand(&self, node: usize, input: Input) -> Result<u64, HandFault>
+        requires { node < self.now }
+    {
+        self.shared.send(&self.rt, node, input)
+    }
+
+    /// Waits until the inboxes are empty and no step is under way, and ends the threads, which then
+    /// have none of the nodes. Gives the receipts of all steps that were made, in any order.
+    ///
+    /// # Errors
+    ///
+    /// Only for want of memory; then the threads have ended as well, and receipts are lost.
+    pub fn end(self) -> Result<Vec<Receipt>, AllocError> {
+        let Workers {
+            rt,
+            alloc,
+            served: _,
+            shared,
+            handles,
+        } = self;
+        shared.close(&rt, alloc);
+        let mut all = Vec::new(alloc);
+        let mut fits = true;
+        for handle in handles {
+            let mut theirs = handle.join(&rt);
+            fits = all.append(&mut theirs).is_ok() && fits;
+        }
+        if fits { Ok(all) } else { Err(AllocError) }
+    }
+}
