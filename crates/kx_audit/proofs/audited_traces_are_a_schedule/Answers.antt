@@ -1,0 +1,6 @@
+use Rattle.kx_audit.proofs.Audited.{audited}
+use Rattle.kx_audit.specs.Told.{AtPlace}
+use Rattle.kx_audit.proofs.audited_traces_are_a_schedule.Goals as goal
+
+pub returns : goal.returns
+returns c = λ trails told nodes fit are all. audited trails told (AtPlace nodes) fit are all

@@ -1,0 +1,12 @@
+pub mod Audited
+pub mod Joined
+pub mod Making
+pub mod Nodes
+pub mod Receipts
+pub mod Schedule
+pub mod Told
+pub mod Sent
+pub mod Replayed
+pub mod Refused
+pub mod Origins
+pub mod Merged

@@ -1,0 +1,53 @@
+-- What receipts of joined traces say of the schedule that these are.
+use Rattle.std.specs.Prelude.{◌≡◌, List, ◌∷◌, ◌++◌, filter, length, slice_get, Some}
+use Rattle.kx_audit.specs.Nodes.{same_node}
+use Rattle.kx_audit.specs.Schedule.{IsEventOf}
+use Rattle.kx_audit.specs.Told.{Told, told_at}
+use Rattle.kx_machine.specs.Meaning.{note_of}
+use Rattle.kx_message.specs.declared.message.Node.{Node}
+use Rattle.kx_message.specs.declared.message.Node.TheVariants as node
+use Rattle.kx_model.specs.Disk.{Store}
+use Rattle.kx_model.specs.World as world
+use Rattle.kx_model.specs.World.{Deliver, Hand, Make}
+use Rattle.kx_nodes.specs.declared.receipt.Receipt.{Receipt}
+use Rattle.kx_system.specs.System.{Happens, MakeProcessor, System, SystemEvent, run_system}
+use Rattle.kx_system.specs.System.{system_step}
+
+-- the receipt is of this step, the one at its place among those of its node
+pub record IsOfStep (told : List Told) (receipt : Receipt) (x : Told) : Type 0 where
+  pub there : slice_get (told_at receipt.node told) receipt.place ≡ Some x
+  pub input_is : receipt.input ≡ x.step.input
+  pub taken_is : receipt.taken ≡ x.taken
+
+------ the event of a receipt
+
+-- the node at which an event is
+abbrev pub place_in : world.Event → Node
+place_in (Make client txn timeout) = node.Client client
+place_in (Deliver which to store) = to
+place_in (Hand to input store) = to
+
+abbrev pub place_of : SystemEvent → Node
+place_of (MakeProcessor client txn timeout group inputs image) = node.Client client
+place_of (Happens event) = place_in event
+
+abbrev pub events_at : Node → List SystemEvent → List SystemEvent
+events_at name events = filter (λ event. same_node (place_of event) name) events
+
+-- the node is handed the receipt's input, and answers what the receipt holds
+pub record Answers (s : System) (event : SystemEvent) (receipt : Receipt) : Type 0 where
+  pub store : Store
+  pub is : IsEventOf s.world.sent receipt.node receipt.input store event
+  pub sent : (system_step s event).0.world.sent ≡ s.world.sent ++ receipt.taken.messages
+  pub note_is : receipt.taken.note ≡ note_of (system_step s event).1
+
+-- so it does in the event at the receipt's place among those at the node
+pub record IsAnswered (begin : System) (events : List SystemEvent) (receipt : Receipt)
+    : Type 0 where
+  pub before : List SystemEvent
+  pub event : SystemEvent
+  pub later : List SystemEvent
+  pub events_are : events ≡ before ++ event ∷ later
+  pub at_node : place_of event ≡ receipt.node
+  pub place_is : receipt.place ≡ length (events_at receipt.node before)
+  pub answers : Answers (run_system before begin) event receipt

@@ -1,0 +1,85 @@
+//! What the traces of nodes tell of the whole system. Traces are merged into one order, in which
+//! each message that a step takes in was handed out by an earlier one: then what the nodes did, on
+//! however many threads, is what happens in a schedule of the definitions.
+//!
+//! In `proofs/`:
+//!
+//! - A step: `Names` (of nodes), `Lookups` (what is found in a list by its number), `Numbers` (a
+//!   client keeps its own), `Handing` (a step is an event), `Going` (a node goes on by an event,
+//!   and no other changes).
+//! - All steps: `Merging` (they are events, one after the other), `Ordering` (clients in the order
+//!   of their numbers), `Beginning` (the system in which they are made), `Ways` (the steps of one
+//!   trace), `Whole`, `Answering` (the event of a receipt).
+//! - What an auditor finds: `Telling` (steps in one order are joined where runs of the traces
+//!   answer so), `Auditing` (a run goes on by one step, and so does the order of all), `Audited`,
+//!   `Fitting` (a trace is in range).
+//! - How it finds it: `Indexing` (messages by their frames), `Rerunning` (a trace that is run again
+//!   takes one more step), `Places` (in lists), `Sources` (of traces), `Turning` (one more step of
+//!   all).
+#![tactic(auto)]
+
+mod auditor;
+mod fault;
+mod fits;
+mod making;
+mod mode;
+mod origins;
+mod remade;
+mod replayer;
+mod sent;
+mod turn;
+
+ghost use Rattle.std.specs.Prelude.{List};
+ghost use Rattle.kx_audit.specs.Audited.{IsAudited};
+ghost use Rattle.kx_audit.specs.Joined.{AreJoined, Passed};
+ghost use Rattle.kx_audit.specs.Making.{Trail};
+ghost use Rattle.kx_audit.specs.Receipts.{IsAnswered, IsOfStep};
+ghost use Rattle.kx_audit.specs.Schedule.{AllFit, IsScheduleOf, IsWhole, made_system};
+ghost use Rattle.kx_audit.specs.Told.{AllAnswer, AreFound, AreMerged, AtPlace, Told, told_in};
+ghost use Rattle.kx_machine.specs.Meaning.{NodeState};
+ghost use Rattle.kx_nodes.specs.declared.receipt.Receipt.{Receipt};
+ghost use Rattle.kx_system.specs.System.{System, SystemEvent};
+
+pub use fault::AuditFault;
+pub use fits::trace_fits;
+pub use making::Tells;
+pub use remade::Remade;
+pub use turn::Turn;
+
+/// Traces whose steps are merged so are what happens in a schedule of the whole system: behind the
+/// making of the clients, in the order of their numbers, each step is an event at its node, in the
+/// merged order. In the system to which this leads each node stands where its trace led, any other
+/// is as it was in the beginning, and all that was handed out are the messages of the steps. This
+/// does nothing when it runs.
+pub fn joined_traces_are_a_schedule()
+    ensures { (trails : List Trail) (merged : List Passed) → AllFit trails
+        → AreJoined trails merged → IsWhole trails merged }
+{}
+
+/// A receipt that has the input and the answer of the step at its place among those of its node is
+/// what the schedule answers: in the event at that place among those at the node, the node is
+/// handed that input, and answers so. This does nothing when it runs.
+pub fn receipts_are_answers()
+    ensures { (trails : List Trail) (merged : List Passed) (events : List SystemEvent)
+        (system : System) → IsScheduleOf trails merged events system
+        → (receipt : Receipt) (x : Told) → IsOfStep (told_in merged) receipt x
+        → IsAnswered (made_system trails) events receipt }
+{}
+
+/// Steps that were put into one order, with their answers, are joined where each trace that is run
+/// again answers so; and the node of each trace is then the one to which its run led. This does
+/// nothing when it runs.
+pub fn told_steps_are_joined()
+    ensures { (trails : List Trail) (told : List Told) (nodes : List NodeState)
+        → AreMerged trails told → AllAnswer trails told (AtPlace nodes)
+        → AreFound trails told (AtPlace nodes) }
+{}
+
+/// So whoever puts the steps of traces into one order, and runs each trace again, finds a schedule
+/// of the whole system, which led to the nodes that these runs found. This does nothing when it
+/// runs.
+pub fn audited_traces_are_a_schedule()
+    ensures { (trails : List Trail) (told : List Told) (nodes : List NodeState) → AllFit trails
+        → AreMerged trails told → AllAnswer trails told (AtPlace nodes)
+        → (s : System) × IsAudited trails told (AtPlace nodes) s }
+{}

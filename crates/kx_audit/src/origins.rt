@@ -1,0 +1,94 @@
+//! Where the messages come from that traces take in.
+ghost use Rattle.std.specs.Prelude.{◌≡◌, ◌++◌, IfOk, IsFalse, IsTrue, OnOk};
+ghost use Rattle.kx_audit.specs.Joined.{AreApart};
+ghost use Rattle.kx_audit.specs.Origins.{HasName, HasStranger, sent_by};
+ghost use Rattle.kx_audit.specs.Refused.{HaveTwins, TakesStranger};
+ghost use Rattle.kx_audit.specs.Replayed.{messages_in, traces_of, trails_of};
+
+use crate::remade::Remade;
+use crate::replayer::Replayer;
+use crate::sent::Sent;
+use kx_machine::Input;
+use kx_message::Node;
+use std::alloc::{AllocError, Global};
+
+// Whether one of these is the node of this name.
+fn has_name<B: Remade>(nodes: &[Replayer<B>], name: Node) -> bool
+    ensures some { IsTrue result → HasName B.making nodes.now name }
+    ensures none { IsFalse result → HasName B.making nodes.now name → ⊥ }
+{
+    for node in nodes {
+        if node.node() == name {
+            return true;
+        }
+    }
+    false
+}
+
+/// Whether two traces are of one node.
+pub(crate) fn have_twins<B: Remade>(nodes: &[Replayer<B>]) -> bool
+    ensures twins { IsTrue result → HaveTwins (trails_of B.making (traces_of nodes.now)) }
+    ensures apart { IsFalse result → AreApart (trails_of B.making (traces_of nodes.now)) }
+{
+    for k in 0..nodes.len() {
+        if has_name(&nodes[..k], nodes[k].node()) {
+            return true;
+        }
+    }
+    false
+}
+
+// Adds all that the steps of a trace hand out.
+fn add_sent<B: Remade>(all: &mut Sent, node: &Replayer<B>) -> Result<(), AllocError>
+    ensures { OnOk result (all.new ≡ all.old ++ messages_in node.now.takens) }
+{
+    for taken in node.takens() {
+        all.add_all(taken.messages.as_slice())?;
+    }
+    Ok(())
+}
+
+// All that the steps of these traces hand out.
+fn gather<B: Remade>(alloc: Global, nodes: &[Replayer<B>]) -> Result<Sent, AllocError>
+    ensures { IfOk result (λ all. all ≡ sent_by nodes.now) }
+{
+    let mut all = Sent::new(alloc);
+    for node in nodes {
+        add_sent(&mut all, node)?;
+    }
+    Ok(all)
+}
+
+// Whether a trace takes in a message that isn't among these.
+fn takes_stranger<B: Remade>(all: &Sent, node: &Replayer<B>) -> Result<bool, AllocError>
+    ensures { IfOk result (λ b. IsTrue b → TakesStranger all.now node.now.trace.steps) }
+{
+    for step in node.steps() {
+        if let Input::Deliver(message) = &step.input {
+            if !all.has(message)? {
+                return Ok(true);
+            }
+        }
+    }
+    Ok(false)
+}
+
+/// Whether a trace takes in a message that no step of any trace hands out.
+///
+/// # Errors
+///
+/// Only for want of memory.
+pub(crate) fn have_stranger<B: Remade>(
+    alloc: Global,
+    nodes: &[Replayer<B>],
+) -> Result<bool, AllocError>
+    ensures { IfOk result (λ b. IsTrue b → HasStranger nodes.now) }
+{
+    let all = gather(alloc, nodes)?;
+    for node in nodes {
+        if takes_stranger(&all, node)? {
+            return Ok(true);
+        }
+    }
+    Ok(false)
+}
