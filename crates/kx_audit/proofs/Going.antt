@@ -20,7 +20,7 @@ use Rattle.kx_system.specs.Processor.{Processing, Processor, processor_step}
 use Rattle.kx_system.specs.System.{System, SystemStepped, processing_at, turn_with, with_processor}
 use Rattle.kx_audit.proofs.Handing.{after_turn, handed_in}
 use Rattle.kx_audit.proofs.Lookups.{found_number, look_other, look_put}
-use Rattle.kx_audit.proofs.Numbers.{processing_number, step_number, turn_number}
+use Rattle.kx_system.proofs.Numbers.{processing_number, step_number, turn_number}
 
 -- the node comes to stand where its step leaves it, and no other node changes
 pub record Goes (s : System) (to : Node) (after : NodeStep NodeState) (t : SystemStepped)

@@ -1,8 +1,6 @@
 pub mod Lookups
 pub mod Names
-pub mod Numbers
 pub mod Handing
-pub mod Fitting
 pub mod Going
 pub mod Merging
 pub mod Ordering

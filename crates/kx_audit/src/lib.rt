@@ -4,15 +4,13 @@
 //!
 //! In `proofs/`:
 //!
-//! - A step: `Names` (of nodes), `Lookups` (what is found in a list by its number), `Numbers` (a
-//!   client keeps its own), `Handing` (a step is an event), `Going` (a node goes on by an event,
-//!   and no other changes).
+//! - A step: `Names` (of nodes), `Lookups` (what is found in a list by its number), `Handing` (a
+//!   step is an event), `Going` (a node goes on by an event, and no other changes).
 //! - All steps: `Merging` (they are events, one after the other), `Ordering` (clients in the order
 //!   of their numbers), `Beginning` (the system in which they are made), `Ways` (the steps of one
 //!   trace), `Whole`, `Answering` (the event of a receipt).
 //! - What an auditor finds: `Telling` (steps in one order are joined where runs of the traces
-//!   answer so), `Auditing` (a run goes on by one step, and so does the order of all), `Audited`,
-//!   `Fitting` (a trace is in range).
+//!   answer so), `Auditing` (a run goes on by one step, and so does the order of all), `Audited`.
 //! - How it finds it: `Indexing` (messages by their frames), `Rerunning` (a trace that is run again
 //!   takes one more step), `Places` (in lists), `Sources` (of traces), `Turning` (one more step of
 //!   all).

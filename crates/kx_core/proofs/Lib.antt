@@ -1,10 +1,8 @@
 pub mod Beginning
 pub mod Declining
-pub mod Fitting
 pub mod Happening
 pub mod Rising
 pub mod Running
-pub mod Numbers
 pub mod Turns
 pub mod Systems
 pub mod Handing

@@ -9,7 +9,7 @@ use Rattle.kx_core.specs.Clients.{client_of, clients_in, node_at, node_with, pro
 use Rattle.kx_core.specs.Clients.{processor_in, processors_in, state_of, with_node, with_one}
 use Rattle.kx_core.specs.declared.any_client.AnyClient.{AnyClient}
 use Rattle.kx_core.specs.declared.any_client.AnyClient.TheVariants as any
-use Rattle.kx_core.proofs.Numbers.{step_number, turn_number}
+use Rattle.kx_system.proofs.Numbers.{step_number, turn_number}
 use Rattle.kx_core.proofs.Rising.{Above, Rising, above_at, apart, equal, found, number_of, replaced}
 use Rattle.kx_machine.specs.Meaning.{AtClient, AtProcessor, IsTaken, NodeState}
 use Rattle.kx_machine.specs.declared.taken.Taken.{Taken}

@@ -1,2 +1,3 @@
+pub mod Fitting
 mod Growing
 mod Pairs

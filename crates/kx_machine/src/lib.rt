@@ -3,6 +3,7 @@
 //! for a node of theirs before the step and after it.
 #![tactic(auto)]
 
+mod fits;
 mod input;
 mod logs;
 mod machine;
@@ -10,6 +11,7 @@ mod messages;
 mod same;
 mod taken;
 
+pub use fits::{client_making_fits, input_fits};
 pub use input::{Command, Input};
 pub use logs::steps_only_add;
 pub use machine::{Failing, Machine, Making, StoreMode};

@@ -1,6 +1,6 @@
 use Rattle.std.proofs.Common.{All, arith, subst}
 use Rattle.std.proofs.lemmas.List.{take_all}
-use Rattle.kx_audit.proofs.Fitting.{all_taken}
+use Rattle.kx_machine.proofs.Fitting.{all_taken}
 use Rattle.kx_audit.specs.Schedule.{IsStep}
 use Rattle.kx_audit.proofs.fits.steps_fit.Goals as goal
 

@@ -1,8 +1,8 @@
 use Rattle.std.proofs.Common.{All, arith, subst}
 use Rattle.std.proofs.lemmas.List.{take_all}
-use Rattle.kx_audit.proofs.Fitting.{all_taken}
+use Rattle.kx_machine.proofs.Fitting.{all_taken}
 use Rattle.kx_message.specs.Message.{IsOffset}
-use Rattle.kx_audit.proofs.fits.offsets_fit.Goals as goal
+use Rattle.kx_machine.proofs.fits.offsets_fit.Goals as goal
 
 pub loop-committed-preserved : goal.loop-committed-preserved
 loop-committed-preserved c =
