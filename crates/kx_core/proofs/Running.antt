@@ -4,7 +4,7 @@ use Rattle.std.proofs.Common.{arith, suc, zero}
 use Rattle.std.specs.Prelude.{All}
 use Rattle.std.proofs.lemmas.List.{append_assoc}
 use Rattle.std.proofs.lemmas.List.Elements.{All-append}
-use Rattle.kx_core.specs.Promises.{KeepsAll}
+use Rattle.kx_pipeline.specs.Promises.{KeepsAll}
 use Rattle.kx_core.specs.Sent.{joined}
 use Rattle.kx_core.specs.World.{IsEvent, IsRun, NoneLeft, Occurs, OneMore, Nodes, Running, Runs}
 use Rattle.kx_core.specs.World.{StandForAll, Steps}

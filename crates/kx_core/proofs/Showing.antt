@@ -3,7 +3,7 @@ use Rattle.std.proofs.Common.{◌≡◌, ℕ, ℤ, Bool, true, List, Result, Ok,
 use Rattle.std.proofs.Common.{sym, ap, ◌∙◌, subst}
 use Rattle.kx_broker.specs.Serving.{IsServed, Serving, StandsFor}
 use Rattle.kx_core.specs.Local.{between}
-use Rattle.kx_core.specs.Promises.{KeepsPromises}
+use Rattle.kx_pipeline.specs.Promises.{KeepsPromises}
 use Rattle.kx_core.specs.World.{ServesAt}
 use Rattle.kx_core.proofs.Beginning.{log_of}
 use Rattle.kx_model.specs.Coordinator.{commits}

@@ -1,5 +1,4 @@
 pub mod Clients
-pub mod Promises
 pub mod Sent
 pub mod World
 pub mod Count

@@ -14,7 +14,6 @@ mod fits;
 mod hand;
 mod local;
 mod nodes;
-mod promises;
 mod sent;
 mod world;
 
@@ -24,6 +23,5 @@ pub use count::PartitionCount;
 pub use event::{Event, Happened};
 pub use fault::RunFault;
 pub use local::{Config, LocalStore, LocalWorld};
-pub use promises::{schedules_keep_promises, systems_keep_promises};
 pub use sent::Sent;
 pub use world::World;

@@ -1,7 +1,7 @@
 //! The world itself.
 ghost use Rattle.std.specs.Prelude.{◌≡◌, [], MatchOption, MatchResult, None, Some, length};
 ghost use Rattle.kx_core.specs.Clients.{client_of};
-ghost use Rattle.kx_core.specs.Promises.{KeepsAll};
+ghost use Rattle.kx_pipeline.specs.Promises.{KeepsAll};
 ghost use Rattle.kx_core.specs.Sent.{joined};
 ghost use Rattle.kx_core.specs.World.{IsRun, RunsUp, ServesAt, StandForAll, Steps, StepsTo};
 ghost use Rattle.kx_machine.specs.Meaning.{AtCoordinator, AtPartition};
@@ -15,10 +15,10 @@ use crate::event::{Event, Happened};
 use crate::fault::RunFault;
 use crate::fits::fits;
 use crate::nodes::Nodes;
-use crate::promises::systems_keep_promises;
 use crate::sent::Sent;
 use kx_machine::{Failing, Note};
 use kx_message::{ClientId, PartitionId};
+use kx_pipeline::systems_keep_promises;
 use kx_processor::Process;
 use std::alloc::{AllocError, Global};
 use std::marker::Model;

@@ -1,6 +1,7 @@
 //! Schedules of systems with processors, which consume, process and produce: each comes to a
-//! schedule of a world without processors. The definitions stand in `kx_system` and `kx_model`; the
-//! functions here do nothing when they run, and carry the laws in their contracts.
+//! schedule of a world without processors, and keeps the promises of exactly-once semantics. The
+//! definitions stand in `kx_system` and `kx_model`; the functions here do nothing when they run, and
+//! carry the laws in their contracts.
 //!
 //! In `proofs/`:
 //!
@@ -34,6 +35,8 @@
 //!   `SystemLinks`.
 #![tactic(auto)]
 
+mod promises;
+
 ghost use Rattle.std.specs.Prelude.{◌≡◌, ◌≢◌, ◌<◌, ℕ, ℤ, pos, ◌≤ℤ◌, List, map, Some};
 ghost use Rattle.kx_client.specs.declared.values.Values.{Values};
 ghost use Rattle.kx_message.specs.Ranges.{offsets_partition};
@@ -53,6 +56,7 @@ ghost use Rattle.kx_system.specs.System.{IsSystemSchedule, SystemEvent, run_syst
 
 use kx_headline::{logs_grow_as_they_are_judged, markers_agree};
 use kx_system::systems_run_as_worlds;
+pub use promises::{schedules_keep_promises, systems_keep_promises};
 
 /// The events that a system's schedule comes to are a schedule of its world: names, numbers and
 /// bytes are in their ranges.

@@ -1,8 +1,8 @@
 use Rattle.std.proofs.Common.{subst}
-use Rattle.kx_core.specs.Promises.{KeepsPromises}
+use Rattle.kx_pipeline.specs.Promises.{KeepsPromises}
 use Rattle.kx_system.specs.Events.{schedule_of}
 use Rattle.kx_system.specs.System.{start_system}
-use Rattle.kx_core.proofs.promises.systems_keep_promises.Goals as goal
+use Rattle.kx_pipeline.proofs.promises.systems_keep_promises.Goals as goal
 
 -- a system's world is the run of a schedule
 pub returns : goal.returns

@@ -1,4 +1,4 @@
-use Rattle.kx_core.proofs.promises.schedules_keep_promises.Goals as goal
+use Rattle.kx_pipeline.proofs.promises.schedules_keep_promises.Goals as goal
 
 pub returns : goal.returns
 returns c = λ partitions events scheduled. record {

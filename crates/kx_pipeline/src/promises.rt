@@ -1,17 +1,17 @@
-//! What every world keeps.
+//! What every world keeps, and every system with processors.
 ghost use Rattle.std.specs.Prelude.{◌≡◌, ℕ, List};
-ghost use Rattle.kx_core.specs.Promises.{KeepsAll, KeepsPromises};
 ghost use Rattle.kx_model.specs.World.{Event, IsSchedule, run, start};
+ghost use Rattle.kx_pipeline.specs.Promises.{KeepsAll, KeepsPromises};
 ghost use Rattle.kx_system.specs.System.{IsSystemSchedule, SystemEvent, run_system, start_system};
 
+use crate::{
+    outputs_are_images_of_all_that_was_read, ranges_follow_one_another,
+    schedules_of_systems_are_schedules, transactions_write_images,
+};
 use kx_headline::{
     batches_stand_once, ids_have_one_holder, markers_agree, nothing_fenced_commits,
     offsets_commit_with_their_transaction, open_transactions_are_owed_markers,
     readers_get_exactly_what_is_visible,
-};
-use kx_pipeline::{
-    outputs_are_images_of_all_that_was_read, ranges_follow_one_another,
-    schedules_of_systems_are_schedules, transactions_write_images,
 };
 use kx_system::systems_run_as_worlds;
 
