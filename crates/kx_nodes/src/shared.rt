@@ -155,12 +155,17 @@ impl<M: Machine, B: Made, G: Gate> Shared<M, B, G> {
         receipts
     }
 
-    /// Waits until no step is under way and none is to come, and then lets the inboxes go.
-    pub(crate) fn close<R: Wait>(&self, rt: &R, alloc: Global) {
+    /// Waits until no step is under way and none is to come.
+    pub(crate) fn settle<R: Wait>(&self, rt: &R) {
         let counts = self
             .moved
             .wait_while(rt, self.counts.lock(rt), |counts| counts.open > 0);
         drop(counts);
+    }
+
+    /// The same, and then lets the inboxes go.
+    pub(crate) fn close<R: Wait>(&self, rt: &R, alloc: Global) {
+        self.settle(rt);
         let inboxes = mem::replace(&mut *self.inboxes.lock(rt), Vec::new(alloc));
         drop(inboxes);
     }

@@ -130,6 +130,12 @@ impl<
         self.shared.send(&self.rt, node, input)
     }
 
+    /// Waits until the inboxes are empty and no step is under way. What other threads hand in
+    /// meanwhile is waited for as well.
+    pub fn settle(&self) {
+        self.shared.settle(&self.rt);
+    }
+
     /// Waits until the inboxes are empty and no step is under way, and ends the threads, which then
     /// have none of the nodes. Gives the receipts of all steps that were made, in any order.
     ///
