@@ -16,3 +16,16 @@ pub mod Rerunning
 pub mod Places
 pub mod Sources
 pub mod Turning
+pub mod Lines
+pub mod Along
+pub mod Done
+pub mod Stuck
+pub mod OneWay
+pub mod Strangers
+pub mod Wrongs
+pub mod Keys
+pub mod Naming
+pub mod Seeing
+pub mod Begun
+pub mod Counting
+pub mod Yes

@@ -1,6 +1,6 @@
 -- Elements of lists by their places.
-use Rattle.std.proofs.Common.{◌≡◌, ◌<◌, ◌+◌, ℕ, zero, suc, List, [], ◌∷◌, take}
-use Rattle.std.proofs.Common.{map, Some, refl, sym, ap, ◌∙◌, ⊎_elim, arith, subst}
+use Rattle.std.proofs.Common.{◌≡◌, ◌<◌, ◌+◌, ◌⊎◌, ◌++◌, ℕ, zero, suc, List, [], ◌∷◌, take}
+use Rattle.std.proofs.Common.{map, Some, inl, inr, refl, sym, ap, ◌∙◌, ⊎_elim, arith, subst}
 use Rattle.std.specs.Prelude.{slice_get, option_map}
 use Rattle.std.proofs.lemmas.Bool.{cases_eq}
 use Rattle.std.proofs.lemmas.Option.{same_Some, slice_get-map}
@@ -36,6 +36,14 @@ to_take [] n k x lt e = absurd cc
 to_take (y ∷ xs) zero k x lt e = absurd (omega (arith, lt))
 to_take (y ∷ xs) (suc n) zero x lt e = e
 to_take (y ∷ xs) (suc n) (suc k) x lt e = to_take xs n k x (omega (arith, lt)) e
+
+-- one of those before, or the last one
+pub get_more : {A : Type 0} (xs : List A) (y : A) (k : ℕ) (x : A)
+    → slice_get (xs ++ y ∷ []) k ≡ Some x → (slice_get xs k ≡ Some x) ⊎ (y ≡ x)
+get_more [] y zero x e = inr (same_Some y x e)
+get_more [] y (suc k) x e = absurd cc
+get_more (z ∷ xs) y zero x e = inl e
+get_more (z ∷ xs) y (suc k) x e = get_more xs y k x e
 
 -- an element of a list that is mapped
 pub to_map : {A B : Type 0} (f : A → B) (xs : List A) (k : ℕ) (x : A) → slice_get xs k ≡ Some x

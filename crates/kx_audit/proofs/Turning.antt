@@ -2,26 +2,26 @@
 use Rattle.std.proofs.Common.{◌≡◌, ◌≢◌, ◌⊎◌, ◌<◌, ◌+◌, ℕ, zero}
 use Rattle.std.proofs.Common.{suc, List, [], ◌∷◌, ◌++◌, length, take}
 use Rattle.std.proofs.Common.{map, Some, refl, sym, ap, ◌∙◌, subst, inl, inr, ⊎_elim, arith}
-use Rattle.std.proofs.Common.{append-nil, length-append}
-use Rattle.std.specs.Prelude.{slice_get, slice_set, sum_by, slice_index_or, option_to_list}
-use Rattle.std.proofs.lemmas.List.{append_assoc}
+use Rattle.std.proofs.Common.{length-append}
+use Rattle.std.specs.Prelude.{slice_get, slice_set, sum_by, slice_index_or}
 use Rattle.std.proofs.lemmas.List.Sums.{sum_by-set, sum_by-cons}
 use Rattle.std.proofs.lemmas.Option.{get_or_from_slice_get, same_Some, slice_get_within}
 use Rattle.kx_audit.specs.Joined.{AreApart, WasHandedOut}
 use Rattle.kx_audit.specs.Making.{NodeMaking}
-use Rattle.kx_audit.specs.Merged.{AreFresh, IsMerging, Merged, lines_of, told_along, told_so_far}
-use Rattle.kx_audit.specs.Merged.{told_there, at_place}
+use Rattle.kx_audit.specs.Merged.{AreFresh, AreThere, IsMerging, IsThere, Merged}
+use Rattle.kx_audit.specs.Merged.{lines_of, told_along, told_so_far, told_there}
 use Rattle.kx_audit.specs.Replayed.{AreReplayed, Progress, left, line_of, name_at, progressed}
-use Rattle.kx_audit.specs.Replayed.{IsReplayed, steps_of, told_by, traces_of, trails_of}
+use Rattle.kx_audit.specs.Replayed.{IsReplayed, steps_of, traces_of, trails_of}
 use Rattle.kx_audit.specs.Told.{AreToldInOrder, IsToldOf, Told, told_at, told_messages}
 use Rattle.kx_audit.specs.declared.turn.Turn.{Turn}
 use Rattle.kx_machine.specs.Meaning.{NodeState}
 use Rattle.kx_machine.specs.declared.taken.Taken.{Taken}
-use Rattle.kx_message.specs.declared.message.Node.{Node}
 use Rattle.kx_nodes.specs.Replay.{Traced}
 use Rattle.kx_nodes.specs.declared.trace.Step.{Step}
+use Rattle.kx_audit.proofs.Along.{along_push, there_is}
 use Rattle.kx_audit.proofs.Auditing.{messages_push, order_push, told_push_other, told_push_own}
-use Rattle.kx_audit.proofs.Places.{to_map}
+use Rattle.kx_audit.proofs.Lines.{told_by_at}
+use Rattle.kx_audit.proofs.Places.{get_more, to_map}
 use Rattle.kx_audit.proofs.Rerunning.{take_next}
 use Rattle.kx_audit.proofs.Sources.{trail_at}
 
@@ -38,13 +38,6 @@ get_set (x ∷ xs) (suc k) y (suc j) q e =
     ⊎_elim (λ t. inl (ap suc t.0, t.1))
     (λ t. let n = t.0 in inr ((λ h. n (omega arith)), t.1)) (get_set xs k y j q e)
 
-get_more : {A : Type 0} (xs : List A) (y : A) (k : ℕ) (x : A)
-    → slice_get (xs ++ y ∷ []) k ≡ Some x → (slice_get xs k ≡ Some x) ⊎ (y ≡ x)
-get_more [] y zero x e = inr (same_Some y x e)
-get_more [] y (suc k) x e = absurd cc
-get_more (z ∷ xs) y zero x e = inl e
-get_more (z ∷ xs) y (suc k) x e = get_more xs y k x e
-
 -- what is mapped alike is the same behind the change of an element
 map_set : {A B : Type 0} (f : A → B) (xs : List A) (k : ℕ) (x y : A) → slice_get xs k ≡ Some x
     → f y ≡ f x → map f (slice_set xs k y) ≡ map f xs
@@ -54,39 +47,6 @@ map_set {A} {B} f (z ∷ xs) zero x y at e =
     ap (λ (b : B). b ∷ map f xs) (e ∙ ap f (sym same))
 map_set {A} {B} f (z ∷ xs) (suc k) x y at e =
     ap (λ (l : List B). f z ∷ l) (map_set f xs k x y at e)
-
------- what a trace tells
-
-pub told_by_at : (name : Node) (steps : List Step) (takens : List Taken) (k : ℕ) (step : Step)
-    (taken : Taken) → slice_get steps k ≡ Some step → slice_get takens k ≡ Some taken
-    → slice_get (told_by name steps takens) k
-    ≡ Some (record { node = name; step = step; taken = taken })
-told_by_at name [] takens k step taken at there = absurd cc
-told_by_at name (s ∷ steps) [] k step taken at there = absurd cc
-told_by_at name (s ∷ steps) (t ∷ takens) zero step taken at there = cc
-told_by_at name (s ∷ steps) (t ∷ takens) (suc k) step taken at there =
-    told_by_at name steps takens k step taken at there
-
-pub told_by_length : (name : Node) (steps : List Step) (takens : List Taken)
-    → length takens ≡ length steps → length (told_by name steps takens) ≡ length steps
-told_by_length name [] takens e = refl
-told_by_length name (s ∷ steps) [] e = absurd (omega (arith, e))
-told_by_length name (s ∷ steps) (t ∷ takens) e =
-    ap suc (told_by_length name steps takens (omega (arith, e)))
-
-along_push : (lines : List (List Told)) (turns : List Turn) (turn : Turn) (x : Told)
-    → told_there lines turn ≡ x ∷ []
-    → told_along lines (turns ++ turn ∷ []) ≡ told_along lines turns ++ x ∷ []
-along_push lines [] turn x e = append-nil (told_there lines turn) ∙ e
-along_push lines (t ∷ turns) turn x e =
-    ap (λ (l : List Told). told_there lines t ++ l) (along_push lines turns turn x e)
-    ∙ sym (append_assoc (told_there lines t) (told_along lines turns) (x ∷ []))
-
-pub there_is : (lines : List (List Told)) (k place : ℕ) (line : List Told) (x : Told)
-    → slice_get lines k ≡ Some line → slice_get line place ≡ Some x
-    → told_there lines (record { trace = k; step = place }) ≡ x ∷ []
-there_is lines k place line x at there =
-    ap (λ o. at_place o place) at ∙ ap option_to_list there
 
 ------ how many steps are left
 
@@ -129,6 +89,7 @@ module _ {B M : Type 0} (making : B → NodeMaking) (stands : NodeState → M �
     in_order = tt;
     sent_is = refl;
     no_others = λ j x at. absurd cc;
+    turns_there = λ j turn at. absurd cc;
     fits = λ k p at. ap (λ n. take n (line_of making p)) (sym (fresh k p at));
     replayed = replayed;
     apart = apart;
@@ -161,12 +122,24 @@ module _ {B M : Type 0} (making : B → NodeMaking) (stands : NodeState → M �
     in_line : slice_get (line_of making p) p.done ≡ Some x
     in_line = told_by_at (name_at making p) p.trace.steps p.takens p.done step taken there answered
 
+    abbrev turn : Turn
+    turn = record { trace = k; step = p.done }
+
+    turn_there : told_there (lines_of making m.nodes) turn ≡ x ∷ []
+    turn_there = there_is (lines_of making m.nodes) k p.done (line_of making p) x
+        (to_map (line_of making) m.nodes k p at) in_line
+
     told_is : told_so_far making then_merged ≡ told_so_far making m ++ x ∷ []
     told_is =
         ap (λ (l : List (List Told)). told_along l then_merged.turns) lines_are
-        ∙ along_push (lines_of making m.nodes) m.turns (record { trace = k; step = p.done }) x
-        (there_is (lines_of making m.nodes) k p.done (line_of making p) x
-        (to_map (line_of making) m.nodes k p at) in_line)
+        ∙ along_push (lines_of making m.nodes) m.turns turn x turn_there
+
+    there_then : AreThere (lines_of making then_nodes) then_merged.turns
+    there_then j other there_too =
+        subst (λ (l : List (List Told)). IsThere l other) (sym lines_are)
+        (⊎_elim (λ before. is.turns_there j other before)
+        (λ same. subst (IsThere (lines_of making m.nodes)) same (x, turn_there))
+        (get_more m.turns turn j other there_too))
 
     order_then : AreToldInOrder [] (told_so_far making m ++ x ∷ [])
     order_then = order_push (told_so_far making m) x is.in_order
@@ -226,6 +199,7 @@ module _ {B M : Type 0} (making : B → NodeMaking) (stands : NodeState → M �
       replayed = replayed_then;
       apart = subst (λ (ts : List (Traced B)). AreApart (trails_of making ts)) (sym traces_are)
           is.apart;
+      turns_there = there_then;
       count = (
           let f = fewer_set m.nodes k p at (slice_get_within p.trace.steps p.done step there) in
           let n = length-append (told_so_far making m) (x ∷ []) in

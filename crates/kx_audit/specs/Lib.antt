@@ -1,5 +1,6 @@
 pub mod Audited
 pub mod Joined
+pub mod Keys
 pub mod Making
 pub mod Nodes
 pub mod Receipts
@@ -10,3 +11,4 @@ pub mod Replayed
 pub mod Refused
 pub mod Origins
 pub mod Merged
+pub mod Run

@@ -1,5 +1,5 @@
 -- Steps of traces that were run again, put into one order.
-use Rattle.std.specs.Prelude.{◌≡◌, ◌<◌, ◌+◌, ℕ, List, [], length, map, sum_by, take, slice_get}
+use Rattle.std.specs.Prelude.{◌≡◌, ◌<◌, ◌+◌, ℕ, List, [], ◌∷◌, length, map, sum_by, take, slice_get}
 use Rattle.std.specs.Prelude.{Option, Some, None, option_to_list}
 use Rattle.std.specs.List.{flat_map}
 use Rattle.kx_audit.specs.Joined.{AreApart, WasHandedOut}
@@ -10,6 +10,7 @@ use Rattle.kx_audit.specs.Told.{AreToldInOrder, IsToldOf, Told, told_at, told_me
 use Rattle.kx_audit.specs.declared.turn.Turn.{Turn}
 use Rattle.kx_machine.specs.Meaning.{NodeState}
 use Rattle.kx_message.specs.declared.message.Message.{Message}
+use Rattle.kx_nodes.specs.Replay.{Traced}
 use Rattle.kx_nodes.specs.declared.trace.Step.{Step}
 
 ------ the order, by the numbers of the traces and the places in them
@@ -23,6 +24,13 @@ told_there lines turn = at_place (slice_get lines turn.trace) turn.step
 
 abbrev pub told_along : List (List Told) → List Turn → List Told
 told_along lines turns = flat_map (told_there lines) turns
+
+-- the turn is of one told step
+abbrev pub IsThere : List (List Told) → Turn → Type 0
+IsThere lines turn = (x : Told) × (told_there lines turn ≡ x ∷ [])
+
+abbrev pub AreThere : List (List Told) → List Turn → Type 0
+AreThere lines turns = (j : ℕ) (turn : Turn) → slice_get turns j ≡ Some turn → IsThere lines turn
 
 ------ how far it has come
 
@@ -56,6 +64,13 @@ pub record HasUndone {B M : Type 0} (nodes : List (Progress B M)) : Type 0 where
   pub less : node.done < length node.trace.steps
 
 module _ {B M : Type 0} (making : B → NodeMaking) where
+  -- these traces were run again, and nothing of them is done
+  pub record AreBegun (stands : NodeState → M → Type 0) (traces : List (Traced B))
+      (nodes : List (Progress B M)) : Type 0 where
+    pub traces_are : traces_of nodes ≡ traces
+    pub fresh : AreFresh nodes
+    pub replayed : AreReplayed making stands nodes
+
   abbrev pub lines_of : List (Progress B M) → List (List Told)
   lines_of nodes = map (line_of making) nodes
 
@@ -73,4 +88,5 @@ module _ {B M : Type 0} (making : B → NodeMaking) where
         → told_at (name_at making p) (told_so_far m) ≡ take p.done (line_of making p)
     pub replayed : AreReplayed making stands m.nodes
     pub apart : AreApart (trails_of making (traces_of m.nodes))
+    pub turns_there : AreThere (lines_of m.nodes) m.turns
     pub count : length (told_so_far m) + sum_by left m.nodes ≡ steps_of (traces_of m.nodes)

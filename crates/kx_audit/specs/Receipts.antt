@@ -1,6 +1,8 @@
 -- What receipts of joined traces say of the schedule that these are.
-use Rattle.std.specs.Prelude.{◌≡◌, List, ◌∷◌, ◌++◌, filter, length, slice_get, Some}
+use Rattle.std.specs.Prelude.{◌≡◌, ℕ, List, ◌∷◌, ◌++◌, filter, length, slice_get, Some}
+use Rattle.kx_audit.specs.Making.{NodeMaking}
 use Rattle.kx_audit.specs.Nodes.{same_node}
+use Rattle.kx_audit.specs.Replayed.{IsOfLine, Progress}
 use Rattle.kx_audit.specs.Schedule.{IsEventOf}
 use Rattle.kx_audit.specs.Told.{Told, told_at}
 use Rattle.kx_machine.specs.Meaning.{note_of}
@@ -18,6 +20,44 @@ pub record IsOfStep (told : List Told) (receipt : Receipt) (x : Told) : Type 0 w
   pub there : slice_get (told_at receipt.node told) receipt.place ≡ Some x
   pub input_is : receipt.input ≡ x.step.input
   pub taken_is : receipt.taken ≡ x.taken
+
+-- each receipt is of a step
+abbrev pub AreOfSteps : List Told → List Receipt → Type 0
+AreOfSteps told receipts = (j : ℕ) (receipt : Receipt) → slice_get receipts j ≡ Some receipt
+    → (x : Told) × IsOfStep told receipt x
+
+-- no two are of one step
+abbrev pub AreDistinct : List Receipt → Type 0
+AreDistinct receipts = (j k : ℕ) (one other : Receipt) → slice_get receipts j ≡ Some one
+    → slice_get receipts k ≡ Some other → one.node ≡ other.node → one.place ≡ other.place → j ≡ k
+
+-- one for each step, with its input and its answer
+pub record AreReceipts (told : List Told) (receipts : List Receipt) : Type 0 where
+  pub count : length receipts ≡ length told
+  pub of_steps : AreOfSteps told receipts
+  pub distinct : AreDistinct receipts
+
+------ receipts of traces that were run again
+
+module _ {B M : Type 0} (making : B → NodeMaking) (nodes : List (Progress B M)) where
+  -- the receipt is of a step of one of them
+  pub record IsNamed (receipt : Receipt) : Type 0 where
+    pub number : ℕ
+    pub node : Progress B M
+    pub step : Told
+    pub there : slice_get nodes number ≡ Some node
+    pub is : IsOfLine making node receipt step
+
+  abbrev pub AreNamed : List Receipt → Type 0
+  AreNamed receipts = (j : ℕ) (receipt : Receipt) → slice_get receipts j ≡ Some receipt
+      → IsNamed receipt
+
+  -- a receipt is of no step of them
+  pub record HaveUnnamed (receipts : List Receipt) : Type 0 where
+    pub number : ℕ
+    pub receipt : Receipt
+    pub there : slice_get receipts number ≡ Some receipt
+    pub unnamed : IsNamed receipt → ⊥
 
 ------ the event of a receipt
 

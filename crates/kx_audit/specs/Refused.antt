@@ -1,6 +1,6 @@
 -- When an audit refuses traces and receipts.
 use Rattle.std.specs.Prelude.{◌≡◌, ◌⊎◌, ◌<◌, ℕ, List, [], length, take, slice_get, Some, Contains}
-use Rattle.kx_audit.specs.Joined.{IsWay, Passed, WasHandedOut, handed_out}
+use Rattle.kx_audit.specs.Joined.{AreApart, IsWay, Passed, WasHandedOut, handed_out}
 use Rattle.kx_audit.specs.Making.{Trail, named, node_of}
 use Rattle.kx_audit.specs.Replayed.{steps_of}
 use Rattle.kx_audit.specs.Told.{AnswersSo, AreToldInOrder, IsToldOf, Told, told_at, told_messages}
@@ -89,6 +89,13 @@ pub record HaveStranger (trails : List Trail) : Type 0 where
   pub takes : step.input ≡ Deliver message
   pub none : NoneHandsOut trails message
 
+-- no two traces are of one node, and each message that is taken in was handed out by some step; yet
+-- they can't be put into one order
+pub record HaveNoOrder (trails : List Trail) : Type 0 where
+  pub apart : AreApart trails
+  pub origins : HaveStranger trails → ⊥
+  pub stuck : AreStuck trails
+
 ------ receipts
 
 -- the receipt has the input and the answer of the step at its place
@@ -126,7 +133,7 @@ pub record HaveAlike (receipts : List Receipt) : Type 0 where
 ------ each refusal comes only in its case
 
 abbrev pub IsRefused : List Trail → List Receipt → AuditFault → Type 0
-IsRefused trails receipts fault.Order = AreStuck trails
+IsRefused trails receipts fault.Order = HaveNoOrder trails
 IsRefused trails receipts fault.Origin = HaveTwins trails ⊎ HaveStranger trails
 IsRefused trails receipts fault.Receipt = HaveWrong trails receipts
 IsRefused trails receipts fault.Count =

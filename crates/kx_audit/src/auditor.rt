@@ -1,8 +1,7 @@
 //! Merges the steps of traces into one order.
 ghost use Rattle.std.specs.Prelude.{◌≡◌, ◌<◌, ℕ, [], length, slice_get, sum_by, Some, IfOk, IfSome};
 ghost use Rattle.std.specs.Prelude.{IfNone, IsFalse, IsTrue};
-ghost use Rattle.std.specs.Bool.{Decides};
-ghost use Rattle.kx_audit.specs.Joined.{AreApart, WasHandedOut};
+ghost use Rattle.kx_audit.specs.Joined.{AreApart};
 ghost use Rattle.kx_audit.specs.Merged.{AreDone, AreFresh, HasUndone, IsMerging, MayGo, NoneMayGo};
 ghost use Rattle.kx_audit.specs.Replayed.{AreReplayed, Progress, left, traces_of, trails_of};
 
@@ -10,7 +9,6 @@ use crate::remade::Remade;
 use crate::replayer::Replayer;
 use crate::sent::Sent;
 use crate::turn::Turn;
-use kx_machine::Input;
 use std::alloc::{AllocError, Global};
 use std::marker::Model;
 
@@ -35,23 +33,13 @@ impl<B: Remade> Model for Auditor<B> {
         (record { nodes = a.nodes.items; turns = a.turns.items; sent = a.sent }) };
 }
 
-// Whether the input may come behind these messages.
-fn may_take(sent: &Sent, input: &Input) -> Result<bool, AllocError>
-    ensures { IfOk result (λ b. Decides b (WasHandedOut sent.now input.now)) }
-{
-    match input {
-        Input::Deliver(message) => sent.has(message),
-        _ => Ok(true),
-    }
-}
-
 // Whether a step of the trace is left that may come behind these messages.
 fn may_go<B: Remade>(sent: &Sent, node: &Replayer<B>) -> Result<bool, AllocError>
     ensures yes { IfOk result (λ b. IsTrue b → MayGo sent.now node.now) }
     ensures no { IfOk result (λ b. IsFalse b → MayGo sent.now node.now → ⊥) }
 {
     match node.step(node.done()) {
-        Some(step) => may_take(sent, &step.input),
+        Some(step) => sent.may_take(&step.input),
         None => Ok(false),
     }
 }

@@ -2,7 +2,8 @@
 //! here changes nothing when it runs.
 ghost use Rattle.std.specs.Prelude.{All};
 ghost use Rattle.kx_audit.specs.Making.{making_of, processor_making, trail_of};
-ghost use Rattle.kx_audit.specs.Schedule.{Fits, IsNodeMaking, IsStep};
+ghost use Rattle.kx_audit.specs.Replayed.{trails_of};
+ghost use Rattle.kx_audit.specs.Schedule.{AllFit, Fits, IsNodeMaking, IsStep};
 ghost use Rattle.kx_message.specs.Ranges.{IsPartition};
 
 use crate::making::Tells;
@@ -54,4 +55,13 @@ pub fn trace_fits<B: Tells>(trace: &Trace<B>)
 {
     trace.made().tells();
     steps_fit(trace.steps());
+}
+
+/// The same of each of these.
+pub(crate) fn traces_fit<B: Tells>(traces: &[Trace<B>])
+    ensures { AllFit (trails_of B.making traces.now) }
+{
+    for trace in traces {
+        trace_fits(trace);
+    }
 }

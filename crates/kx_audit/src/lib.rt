@@ -1,6 +1,8 @@
 //! What the traces of nodes tell of the whole system. Traces are merged into one order, in which
 //! each message that a step takes in was handed out by an earlier one: then what the nodes did, on
-//! however many threads, is what happens in a schedule of the definitions.
+//! however many threads, is what happens in a schedule of the definitions. `audit` finds out
+//! whether it is so: it runs each trace again, puts all steps into such an order, and compares them
+//! with the receipts.
 //!
 //! In `proofs/`:
 //!
@@ -12,20 +14,32 @@
 //! - What an auditor finds: `Telling` (steps in one order are joined where runs of the traces
 //!   answer so), `Auditing` (a run goes on by one step, and so does the order of all), `Audited`.
 //! - How it finds it: `Indexing` (messages by their frames), `Rerunning` (a trace that is run again
-//!   takes one more step), `Places` (in lists), `Sources` (of traces), `Turning` (one more step of
-//!   all).
+//!   takes one more step), `Begun` (one trace after the other is run again), `Lines` (what a trace
+//!   tells), `Places` (in lists), `Sources` (of traces), `Along` (turns, and the steps that they
+//!   are of), `Turning` (one more step of all), `Done` (all of them are merged), `Stuck` (not all
+//!   of them can be).
+//! - What it says of the traces alone: `OneWay` (whoever takes the steps of a trace finds the
+//!   answers of its run again), `Strangers` (messages that no step hands out), `Wrongs` (receipts
+//!   that are of no step).
+//! - Receipts: `Keys` (a trace is found by its node's name), `Naming` (the step of a receipt),
+//!   `Counting` (how many steps there are), `Seeing` (no two receipts are of one).
+//! - `Yes`: all that an audit's yes says.
 #![tactic(auto)]
 
 mod auditor;
 mod fault;
 mod fits;
+mod key;
 mod making;
 mod mode;
 mod origins;
+mod receipts;
 mod remade;
 mod replayer;
+mod run;
 mod sent;
 mod turn;
+mod verdict;
 
 ghost use Rattle.std.specs.Prelude.{List};
 ghost use Rattle.kx_audit.specs.Audited.{IsAudited};
@@ -42,7 +56,9 @@ pub use fault::AuditFault;
 pub use fits::trace_fits;
 pub use making::Tells;
 pub use remade::Remade;
+pub use run::Run;
 pub use turn::Turn;
+pub use verdict::audit;
 
 /// Traces whose steps are merged so are what happens in a schedule of the whole system: behind the
 /// making of the clients, in the order of their numbers, each step is an event at its node, in the

@@ -8,7 +8,6 @@ ghost use Rattle.kx_audit.specs.Replayed.{messages_in, traces_of, trails_of};
 use crate::remade::Remade;
 use crate::replayer::Replayer;
 use crate::sent::Sent;
-use kx_machine::Input;
 use kx_message::Node;
 use std::alloc::{AllocError, Global};
 
@@ -61,13 +60,12 @@ fn gather<B: Remade>(alloc: Global, nodes: &[Replayer<B>]) -> Result<Sent, Alloc
 
 // Whether a trace takes in a message that isn't among these.
 fn takes_stranger<B: Remade>(all: &Sent, node: &Replayer<B>) -> Result<bool, AllocError>
-    ensures { IfOk result (λ b. IsTrue b → TakesStranger all.now node.now.trace.steps) }
+    ensures some { IfOk result (λ b. IsTrue b → TakesStranger all.now node.now.trace.steps) }
+    ensures none { IfOk result (λ b. IsFalse b → TakesStranger all.now node.now.trace.steps → ⊥) }
 {
     for step in node.steps() {
-        if let Input::Deliver(message) = &step.input {
-            if !all.has(message)? {
-                return Ok(true);
-            }
+        if !all.may_take(&step.input)? {
+            return Ok(true);
         }
     }
     Ok(false)
@@ -82,7 +80,8 @@ pub(crate) fn have_stranger<B: Remade>(
     alloc: Global,
     nodes: &[Replayer<B>],
 ) -> Result<bool, AllocError>
-    ensures { IfOk result (λ b. IsTrue b → HasStranger nodes.now) }
+    ensures some { IfOk result (λ b. IsTrue b → HasStranger nodes.now) }
+    ensures none { IfOk result (λ b. IsFalse b → HasStranger nodes.now → ⊥) }
 {
     let all = gather(alloc, nodes)?;
     for node in nodes {

@@ -2,6 +2,7 @@
 ghost use Rattle.std.specs.Prelude.{◌≡◌, ◌<◌, ◌≤◌, length, slice_get, Some, IfSome, IfNone, IsTrue};
 ghost use Rattle.std.specs.Prelude.{◌↔◌, ◌+◌, IfOk, drop};
 ghost use Rattle.kx_audit.specs.Making.{named};
+ghost use Rattle.kx_audit.specs.Merged.{AreBegun};
 ghost use Rattle.kx_audit.specs.Replayed.{IsBegun, IsReplayed, progressed};
 ghost use Rattle.kx_machine.specs.Meaning.{IsTaken, NodeState, input_of};
 ghost use Rattle.kx_nodes.specs.Again.{MayMeet, mode_for};
@@ -177,4 +178,22 @@ impl<B: Remade> Replayer<B> {
     {
         &self.machine
     }
+}
+
+/// Runs each trace again.
+///
+/// # Errors
+///
+/// Only for want of memory.
+pub(crate) fn replay_all<B: Remade>(
+    alloc: Global,
+    traces: Vec<Trace<B>>,
+) -> Result<Vec<Replayer<B>>, AllocError>
+    ensures { IfOk result (λ nodes. AreBegun B.making B.Machine.stands traces.items nodes.items) }
+{
+    let mut nodes = Vec::new(alloc);
+    for trace in traces {
+        nodes.push(Replayer::new(alloc, trace)?)?;
+    }
+    Ok(nodes)
 }

@@ -1,9 +1,10 @@
 //! The messages that steps handed out, with an index of them.
 ghost use Rattle.std.specs.Prelude.{◌≡◌, ◌++◌, ◌∷◌, [], Contains, IfOk, OnOk};
 ghost use Rattle.std.specs.Bool.{Decides};
+ghost use Rattle.kx_audit.specs.Joined.{WasHandedOut};
 ghost use Rattle.kx_message.specs.Sizes.{FitsFrame};
 
-use kx_machine::same_message;
+use kx_machine::{Input, same_message};
 use kx_message::Message;
 use kx_wire::frame_of;
 use std::alloc::{AllocError, Global};
@@ -112,5 +113,19 @@ impl Sent {
         }
         let frame = frame_of(self.alloc, message)?;
         Ok(self.frames.contains(&frame))
+    }
+
+    /// Whether the input may come behind them: a message only if it is among them.
+    ///
+    /// # Errors
+    ///
+    /// Only for want of memory.
+    pub(crate) fn may_take(&self, input: &Input) -> Result<bool, AllocError>
+        ensures { IfOk result (λ b. Decides b (WasHandedOut self.now input.now)) }
+    {
+        match input {
+            Input::Deliver(message) => self.has(message),
+            _ => Ok(true),
+        }
     }
 }
