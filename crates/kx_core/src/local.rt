@@ -28,19 +28,16 @@ ghost use Rattle.kx_system.specs.System.{System, start_system};
 ghost use Rattle.kx_txnlog.specs.Entry.{row_of};
 
 use crate::count::PartitionCount;
+use crate::memory::{LocalStore, local_coordinator, local_offsets, local_partition};
 use crate::world::World;
 use kx_broker::{OffsetsMachine, PartitionMachine};
 use kx_coord_node::CoordinatorMachine;
-use kx_log::{FaultStore, MemStore};
 use kx_message::{ClientId, ErrorCode, GroupId, PartitionId};
 use kx_partition::{FetchFault, FetchPage};
 use kx_pipeline::systems_keep_promises;
 use kx_processor::Process;
 use kx_txnlog::Row;
 use std::alloc::{AllocError, Global};
-
-/// A store in memory that can be made to fail.
-pub type LocalStore = FaultStore<MemStore>;
 
 /// A world whose nodes keep their logs in memory.
 pub type LocalWorld<F> = World<
@@ -57,13 +54,6 @@ pub struct Config {
     pub partitions: PartitionCount,
 }
 
-// An empty store, of which nothing fails yet.
-fn empty_store(alloc: Global) -> LocalStore
-    ensures { result.bytes ≡ [] }
-{
-    FaultStore::new(MemStore::new(Vec::new(alloc)), 0, 0)
-}
-
 // The server of a data partition, with an empty log.
 fn server(alloc: Global, number: usize) -> Result<PartitionMachine<LocalStore>, AllocError>
     requires { number < data_partitions }
@@ -72,10 +62,7 @@ fn server(alloc: Global, number: usize) -> Result<PartitionMachine<LocalStore>, 
     let Ok(id) = PartitionId::try_from(number as u16) else {
         return Err(AllocError);
     };
-    match PartitionMachine::new(alloc, id, empty_store(alloc)) {
-        Ok(server) => Ok(server),
-        Err(_) => Err(AllocError),
-    }
+    local_partition(alloc, id)
 }
 
 // The servers of so many data partitions, in the order of their numbers.
@@ -92,26 +79,6 @@ fn servers(
         servers.push(server(alloc, number)?)?;
     }
     Ok(servers)
-}
-
-// The coordinator, with an empty log.
-fn coordinator(alloc: Global) -> Result<CoordinatorMachine<LocalStore>, AllocError>
-    ensures { IfOk result (Stands (AtCoordinator new_coordinator)) }
-{
-    match CoordinatorMachine::new(alloc, empty_store(alloc)) {
-        Ok(coordinator) => Ok(coordinator),
-        Err(_) => Err(AllocError),
-    }
-}
-
-// The server of the offsets partition, with an empty log.
-fn offsets(alloc: Global) -> Result<OffsetsMachine<LocalStore>, AllocError>
-    ensures { IfOk result (StandsForGroups (AtPartition offsets_partition empty_partition)) }
-{
-    match OffsetsMachine::new(alloc, empty_store(alloc)) {
-        Ok(offsets) => Ok(offsets),
-        Err(_) => Err(AllocError),
-    }
 }
 
 // A world of these nodes, whose logs are empty.
@@ -164,9 +131,9 @@ impl<F: Process + Copy> World<
     pub fn new(alloc: Global, config: Config) -> Result<LocalWorld<F>, AllocError>
         ensures { IfOk result (λ world. IsLocal F.image_of world (start_system config.partitions)) }
     {
-        let coordinator = coordinator(alloc)?;
+        let coordinator = local_coordinator(alloc)?;
         let partitions = servers(alloc, config.partitions)?;
-        let offsets = offsets(alloc)?;
+        let offsets = local_offsets(alloc)?;
         Ok(begun(alloc, coordinator, partitions, offsets))
     }
 

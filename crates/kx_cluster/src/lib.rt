@@ -1,0 +1,12 @@
+//! The nodes of a core as they are served together: a node of any kind is one type of machine,
+//! which begins with one type of value, so that nodes of all kinds stand in one list, under locks,
+//! and their traces are audited together.
+#![tactic(auto)]
+
+mod machine;
+mod making;
+mod node;
+
+pub use machine::AnyMachine;
+pub use making::AnyMaking;
+pub use node::{LocalNode, local_node};

@@ -1,0 +1,123 @@
+//! How nodes of every kind are made.
+ghost use Rattle.std.specs.Prelude.{◌≡◌, IfOk};
+ghost use Rattle.kx_cluster.specs.Any.{any_stands};
+ghost use Rattle.kx_machine.specs.Meaning.{made_as};
+ghost use Rattle.kx_nodes.specs.Made.{made_processor};
+
+use crate::machine::AnyMachine;
+use kx_audit::{Remade, Tells};
+use kx_core::{
+    AnyClient, ClientMachine, LocalStore, local_coordinator, local_offsets, local_partition,
+};
+use kx_machine::{Failing, Making, StoreMode};
+use kx_message::{Node, PartitionId};
+use kx_nodes::{Made, ProcessorMaking};
+use kx_processor::Process;
+use kx_processor_node::ProcessorMachine;
+use std::alloc::{AllocError, Global};
+
+/// How a node of any kind is made.
+#[derive(Drop)]
+pub enum AnyMaking<F: Process> {
+    /// One that isn't a processor.
+    Plain(Making),
+    /// A processor, with its process.
+    Processor(ProcessorMaking<F>),
+}
+
+impl<F: Process> Made for AnyMaking<F> {
+    ghost use Rattle.kx_cluster.specs.Any.{any_state};
+
+    ghost state = { any_state F.image_of };
+
+    fn name(&self) -> Node {
+        match self {
+            AnyMaking::Plain(making) => making.name(),
+            AnyMaking::Processor(making) => making.name(),
+        }
+    }
+}
+
+impl<F: Process> Tells for AnyMaking<F> {
+    ghost use Rattle.kx_cluster.specs.Any.{any_making};
+
+    ghost making = { any_making F.image_of };
+
+    fn tells(&self) {
+        match self {
+            AnyMaking::Plain(making) => making.tells(),
+            AnyMaking::Processor(making) => making.tells(),
+        }
+    }
+}
+
+// The server of a partition, of whichever kind.
+fn server<F: Process>(
+    alloc: Global,
+    number: PartitionId,
+) -> Result<AnyMachine<LocalStore, F>, AllocError>
+    ensures { IfOk result (any_stands F.image_of (made_as (Making.Partition number))) }
+{
+    if number.is_data() {
+        Ok(AnyMachine::Partition(local_partition(alloc, number)?))
+    } else {
+        Ok(AnyMachine::Offsets(local_offsets(alloc)?))
+    }
+}
+
+// A node that isn't a processor, with an empty log in memory if it has one.
+fn plain<F: Process>(alloc: Global, making: Making) -> Result<AnyMachine<LocalStore, F>, AllocError>
+    ensures { IfOk result (any_stands F.image_of (made_as making)) }
+{
+    match making {
+        Making::Coordinator => Ok(AnyMachine::Coordinator(local_coordinator(alloc)?)),
+        Making::Partition(number) => server(alloc, number),
+        Making::Client {
+            number,
+            txn,
+            timeout,
+        } => {
+            let client = ClientMachine::new(alloc, number, txn, timeout);
+            Ok(AnyMachine::Client(AnyClient::Plain(client)))
+        }
+    }
+}
+
+// A processor.
+fn processor<F: Process + Copy>(
+    alloc: Global,
+    making: &ProcessorMaking<F>,
+) -> AnyMachine<LocalStore, F>
+    ensures { any_stands F.image_of (made_processor F.image_of making.now) result }
+{
+    AnyMachine::Client(AnyClient::Processor(ProcessorMachine::new(
+        alloc,
+        making.number,
+        making.txn,
+        making.timeout,
+        making.group,
+        making.inputs,
+        making.process,
+    )))
+}
+
+/// A node is made again with an empty log in memory, if it has one.
+impl<F: Process + Copy> Remade for AnyMaking<F> {
+    type Machine = AnyMachine<LocalStore, F>;
+
+    fn make(&self, alloc: Global) -> Result<AnyMachine<LocalStore, F>, AllocError> {
+        match self {
+            AnyMaking::Plain(making) => plain(alloc, *making),
+            AnyMaking::Processor(making) => Ok(processor(alloc, making)),
+        }
+    }
+
+    fn prepare(machine: &mut AnyMachine<LocalStore, F>, mode: StoreMode) {
+        match machine {
+            AnyMachine::Coordinator(machine) => machine.prepare(mode),
+            AnyMachine::Partition(machine) => machine.prepare(mode),
+            AnyMachine::Offsets(machine) => machine.prepare(mode),
+            AnyMachine::Client(_) => {}
+        }
+    }
+}
