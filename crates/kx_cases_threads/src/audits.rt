@@ -1,0 +1,125 @@
+//! Receipts as an auditor is given them, and what it finds.
+ghost use Rattle.std.specs.Prelude.{◌<◌, length, IfSome};
+
+use crate::nodes::ServedTrace;
+use kx_audit::{Run, audit};
+use kx_cases::StepFault;
+use kx_cluster::{AnyMachine, AnyMaking};
+use kx_message::{ClientId, Node, PartitionId};
+use kx_nodes::Receipt;
+use kx_reader::Committed;
+use kx_script::Prefixed;
+use std::alloc::{AllocError, Global};
+
+/// The node that a word names: `co`, `po`, `p` or `c` and a number.
+pub(crate) fn node_named(word: &str) -> Option<Node> {
+    match word {
+        "co" => return Some(Node::Coordinator),
+        "po" => return Some(Node::Partition(PartitionId::OFFSETS)),
+        _ => {}
+    }
+    if let Some(number) = word.strip_prefix('p') {
+        let number: u16 = number.parse().ok()?;
+        return Some(Node::Partition(PartitionId::try_from(number).ok()?));
+    }
+    let number: u32 = word.strip_prefix('c')?.parse().ok()?;
+    Some(Node::Client(ClientId::from(number)))
+}
+
+// The place in the list of the receipt of a step.
+fn find(receipts: &[Receipt], node: Node, place: usize) -> Option<usize>
+    ensures { IfSome result (λ at. at < length receipts.now) }
+{
+    receipts
+        .iter()
+        .position(|receipt| receipt.node == node && receipt.place == place)
+}
+
+/// Leaves the receipt of a step out.
+pub(crate) fn leave_out(
+    receipts: &mut Vec<Receipt>,
+    node: Node,
+    place: usize,
+) -> Result<(), StepFault> {
+    let Some(at) = find(receipts.as_slice(), node, place) else {
+        return Err(StepFault::Unknown);
+    };
+    let _receipt = receipts.swap_remove(at);
+    Ok(())
+}
+
+/// Gives the receipt of a step twice.
+pub(crate) fn double(
+    receipts: &mut Vec<Receipt>,
+    node: Node,
+    place: usize,
+) -> Result<(), StepFault> {
+    let Some(at) = find(receipts.as_slice(), node, place) else {
+        return Err(StepFault::Unknown);
+    };
+    let receipt = &receipts[at];
+    let copy = Receipt {
+        node,
+        place,
+        input: receipt.input.clone()?,
+        taken: receipt.taken.clone()?,
+    };
+    receipts.push(copy)?;
+    Ok(())
+}
+
+/// The receipts of an earlier run in place of these, for one node.
+pub(crate) fn exchange(
+    receipts: &mut Vec<Receipt>,
+    earlier: &mut Vec<Receipt>,
+    node: Node,
+) -> Result<(), AllocError> {
+    receipts.retain(|receipt| receipt.node != node);
+    earlier.retain(|receipt| receipt.node == node);
+    receipts.append(earlier)
+}
+
+/// What an audit found.
+pub(crate) type Found = Run<AnyMaking<Prefixed>>;
+
+/// Audits, and tells what was found.
+pub(crate) fn judge(
+    alloc: Global,
+    traces: Vec<ServedTrace>,
+    receipts: &[Receipt],
+) -> Result<(String, Option<Found>), AllocError> {
+    match audit(alloc, traces, receipts) {
+        Ok(run) => Ok((String::from_str(alloc, "audit yes")?, Some(run))),
+        Err(fault) => Ok((format!(in alloc; "audit no {}", fault.number())?, None)),
+    }
+}
+
+// The machine behind the trace of a node.
+fn machine_of(run: &Found, node: Node) -> Option<&AnyMachine<kx_core::LocalStore, Prefixed>> {
+    for number in 0..run.len() {
+        if run.trace(number)?.node() == node {
+            return run.machine(number);
+        }
+    }
+    None
+}
+
+/// How many committed records a data partition has in the run.
+pub(crate) fn committed(
+    alloc: Global,
+    run: &Found,
+    partition: PartitionId,
+) -> Result<usize, StepFault> {
+    let Some(AnyMachine::Partition(server)) = machine_of(run, Node::Partition(partition)) else {
+        return Err(StepFault::Unknown);
+    };
+    let page = server
+        .partition()
+        .fetch(0, u32::MAX, true)
+        .map_err(|_| StepFault::Unknown)?;
+    let mut count: usize = 0;
+    for _record in Committed::new(alloc, page)? {
+        count = count.saturating_add(1);
+    }
+    Ok(count)
+}

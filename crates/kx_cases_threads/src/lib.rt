@@ -1,0 +1,11 @@
+//! Scripts that threads carry out: nodes under locks are served by workers, and their traces and
+//! receipts are audited.
+#![tactic(auto)]
+
+pub use served::try_served;
+
+mod audits;
+mod gate;
+mod nodes;
+mod served;
+mod serving;

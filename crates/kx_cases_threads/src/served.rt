@@ -1,0 +1,203 @@
+//! A script that threads carry out, and what it has to write. The script has runs, parted by the
+//! line `again`. In a run stand, in this order:
+//!
+//! - lines that make nodes: `world P`, `client N TXN`, `processor N TXN G K` as in scripts, and
+//!   `twin NODE`, which makes a second node of a name;
+//! - `workers N`, or `workers N hold T until U`: so many threads serve them, behind a gate that may
+//!   hold the step of ticket T until that of ticket U is answered;
+//! - lines of scripts in which something is handed to a node, each handed at once; `bring BYTES`,
+//!   which hands the messages of frames to their receivers; `settle`, which waits until no step is
+//!   under way and none is to come; then the line `end`;
+//! - `receipts`, which tells how many there are; `leave NODE PLACE` and `double NODE PLACE`, by
+//!   which one is left out, or stands twice; `exchange NODE`, by which those of the run before stand
+//!   in place of the node's; `audit`, which tells what an audit finds; and `committed P`, which
+//!   tells how many committed records a data partition then has.
+ghost use Rattle.std.specs.Prelude.{◌≡◌, ◌≤◌, IfOk};
+
+use crate::audits::{Found, committed, double, exchange, judge, leave_out, node_named};
+use crate::nodes::{Served, add_nodes, add_twin, traces_of};
+use crate::serving::{Shift, serve};
+use kx_cases::{StepFault, Tally, value};
+use kx_message::PartitionId;
+use kx_nodes::Receipt;
+use kx_script::order_in;
+use std::alloc::{AllocError, Global};
+use std::rt::Files;
+use std::sync::{Arc, Wait};
+use std::thread::Threads;
+use std::{fs, io, mem};
+
+// A run: its nodes, the receipts of its steps and those of the run before, and what is told.
+#[derive(Drop)]
+struct Session {
+    alloc: Global,
+    nodes: Vec<Arc<Served>>,
+    receipts: Vec<Receipt>,
+    earlier: Vec<Receipt>,
+    found: Option<Found>,
+    told: String,
+}
+
+// How many threads serve, and what they hold.
+fn shift_of(words: &[&str]) -> Result<Shift, StepFault> {
+    match words {
+        [count] => Ok(Shift {
+            count: value(count)?,
+            held: 0,
+            until: 0,
+        }),
+        [count, "hold", held, "until", until] => Ok(Shift {
+            count: value(count)?,
+            held: value(held)?,
+            until: value(until)?,
+        }),
+        _ => Err(StepFault::Unknown),
+    }
+}
+
+impl Session {
+    // One in which nothing was done.
+    fn new(alloc: Global) -> Session {
+        Session {
+            alloc,
+            nodes: Vec::new(alloc),
+            receipts: Vec::new(alloc),
+            earlier: Vec::new(alloc),
+            found: None,
+            told: String::new(alloc),
+        }
+    }
+
+    // Makes the nodes of a line.
+    fn make(&mut self, line: &str) -> Result<(), StepFault> {
+        if let Some(name) = line.strip_prefix("twin ") {
+            let name = node_named(name).ok_or(StepFault::Unknown)?;
+            return add_twin(self.alloc, &mut self.nodes, name);
+        }
+        let Some(order) = order_in(line.as_bytes()) else {
+            return Err(StepFault::Unknown);
+        };
+        add_nodes(self.alloc, &mut self.nodes, order)
+    }
+
+    // Audits what was done.
+    fn audit(&mut self) -> Result<(), StepFault> {
+        let nodes = mem::replace(&mut self.nodes, Vec::new(self.alloc));
+        let traces = traces_of(self.alloc, nodes)?;
+        let (told, found) = judge(self.alloc, traces, self.receipts.as_slice())?;
+        self.found = found;
+        Ok(writeln!(self.told, "{told}")?)
+    }
+
+    // Tells how many committed records a partition has.
+    fn tell_committed(&mut self, partition: &str) -> Result<(), StepFault> {
+        let number: u16 = value(partition)?;
+        let number = PartitionId::try_from(number).map_err(|_| StepFault::Unknown)?;
+        let run = self.found.as_ref().ok_or(StepFault::Unknown)?;
+        let count = committed(self.alloc, run, number)?;
+        Ok(writeln!(self.told, "committed {count}")?)
+    }
+
+    // The receipts of the run before in place of those of one node.
+    fn exchange(&mut self, name: &str) -> Result<(), StepFault> {
+        let name = node_named(name).ok_or(StepFault::Unknown)?;
+        Ok(exchange(&mut self.receipts, &mut self.earlier, name)?)
+    }
+
+    // Carries out a line that stands behind the steps.
+    fn look(&mut self, line: &str) -> Result<(), StepFault> {
+        let words: Vec<&str> = line.split(' ').collect(self.alloc)?;
+        match words.as_slice() {
+            ["receipts"] => Ok(writeln!(self.told, "receipts {}", self.receipts.len())?),
+            ["leave", name, place] => {
+                let name = node_named(name).ok_or(StepFault::Unknown)?;
+                leave_out(&mut self.receipts, name, value(place)?)
+            }
+            ["double", name, place] => {
+                let name = node_named(name).ok_or(StepFault::Unknown)?;
+                double(&mut self.receipts, name, value(place)?)
+            }
+            ["exchange", name] => self.exchange(name),
+            ["audit"] => self.audit(),
+            ["committed", partition] => self.tell_committed(partition),
+            _ => Err(StepFault::Unknown),
+        }
+    }
+
+    // Carries out a run.
+    fn run<R: Threads + Wait + Copy + Send + 'static>(
+        &mut self,
+        rt: R,
+        run: &str,
+    ) -> Result<(), StepFault> {
+        let (front, behind) = run.split_once("\nend\n").ok_or(StepFault::Unknown)?;
+        let (makings, served) = front.split_once("\nworkers ").ok_or(StepFault::Unknown)?;
+        let (shift, lines) = served.split_once('\n').unwrap_or((served, ""));
+        for line in makings.lines() {
+            if !line.starts_with('#') {
+                self.make(line)?;
+            }
+        }
+        let words: Vec<&str> = shift.split(' ').collect(self.alloc)?;
+        let shift = shift_of(words.as_slice())?;
+        self.receipts = serve(rt, self.alloc, self.nodes.as_slice(), shift, lines)?;
+        for line in behind.lines() {
+            self.look(line)?;
+        }
+        Ok(())
+    }
+
+    // Sets the receipts of a run aside, and begins anew.
+    fn go_on(&mut self) {
+        self.earlier = mem::replace(&mut self.receipts, Vec::new(self.alloc));
+        self.nodes = Vec::new(self.alloc);
+        self.found = None;
+    }
+}
+
+// What a script tells.
+fn told<R: Threads + Wait + Copy + Send + 'static>(
+    rt: R,
+    alloc: Global,
+    script: &str,
+) -> Result<String, StepFault> {
+    let mut session = Session::new(alloc);
+    for run in script.split("\nagain\n") {
+        session.go_on();
+        session.run(rt, run)?;
+    }
+    Ok(session.told)
+}
+
+// Tells what came in place of what is wanted.
+fn tell_other(rt: &impl Print, told: Result<String, StepFault>) -> io::Result<()> {
+    match told {
+        Ok(told) => print!(rt; "{told}"),
+        Err(fault) => println!(rt; "{fault}"),
+    }
+}
+
+/// Carries out the script NAME.served, which has to tell NAME.out, and prints `ok NAME` or
+/// `FAILED NAME`.
+pub fn try_served<R: Files + Print + AllocGlobal + Threads + Wait + Copy + Send + 'static>(
+    rt: &R,
+    name: &str,
+) -> io::Result<Tally>
+    ensures { IfOk result (λ tally. (tally.tried ≡ 1) × (tally.failed ≤ 1)) }
+{
+    let alloc = rt.alloc();
+    let script = fs::read_to_string(rt, format!(in alloc; "{name}.served")?)?;
+    let wanted = fs::read_to_string(rt, format!(in alloc; "{name}.out")?)?;
+    let told = told(*rt, alloc, script.as_str());
+    let is_right = matches!(&told, Ok(told) if told.as_str() == wanted.as_str());
+    if is_right {
+        println!(rt; "ok {name}")?;
+    } else {
+        println!(rt; "FAILED {name}")?;
+        tell_other(rt, told)?;
+    }
+    Ok(Tally {
+        tried: 1,
+        failed: u64::from(!is_right),
+    })
+}

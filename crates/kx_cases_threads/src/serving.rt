@@ -1,0 +1,148 @@
+//! The lines that are carried out while workers run.
+use crate::gate::Hold;
+use crate::nodes::input_of;
+use kx_cases::{StepFault, Texts};
+use kx_machine::{Input, Machine};
+use kx_message::Node as NodeName;
+use kx_nodes::{Made, Node, Receipt, Workers};
+use kx_script::{Order, order_in};
+use kx_wire::Frames;
+use std::alloc::{AllocError, Global};
+use std::sync::atomic::Ordering;
+use std::sync::{Arc, Wait};
+use std::thread::Threads;
+
+/// How many threads serve, and which ticket they hold until which is answered.
+#[derive(Clone, Copy)]
+pub(crate) struct Shift {
+    pub(crate) count: usize,
+    pub(crate) held: u64,
+    pub(crate) until: u64,
+}
+
+// The place of the node of this name.
+fn place_of<M: Machine, B: Made>(
+    nodes: &[Arc<Node<M, B>>],
+    name: NodeName,
+) -> Result<usize, StepFault> {
+    nodes
+        .iter()
+        .position(|node| node.name() == name)
+        .ok_or(StepFault::Unknown)
+}
+
+// Hands a node an input.
+fn hand<
+    M: Machine + Send + Sync + 'static,
+    B: Made + Send + Sync + 'static,
+    R: Threads + Wait + Copy + Send + 'static,
+>(
+    workers: &Workers<M, B, Hold, R>,
+    nodes: &[Arc<Node<M, B>>],
+    name: NodeName,
+    input: Input,
+) -> Result<(), StepFault> {
+    let place = place_of(nodes, name)?;
+    if place >= workers.served() {
+        return Err(StepFault::Unknown);
+    }
+    let _ticket = workers
+        .hand(place, input)
+        .map_err(|_| StepFault::Memory(AllocError))?;
+    Ok(())
+}
+
+// Hands the messages of frames to their receivers.
+fn bring<
+    M: Machine + Send + Sync + 'static,
+    B: Made + Send + Sync + 'static,
+    R: Threads + Wait + Copy + Send + 'static,
+>(
+    alloc: Global,
+    workers: &Workers<M, B, Hold, R>,
+    nodes: &[Arc<Node<M, B>>],
+    bytes: &[u8],
+) -> Result<(), StepFault> {
+    let mut frames = Frames::new(alloc);
+    let messages = frames.feed(bytes).map_err(|_| StepFault::Unknown)?;
+    for message in messages {
+        let to = message.receiver();
+        hand(workers, nodes, to, Input::Deliver(message))?;
+    }
+    Ok(())
+}
+
+// Carries out a line.
+fn carry_out<
+    M: Machine + Send + Sync + 'static,
+    B: Made + Send + Sync + 'static,
+    R: Threads + Wait + Copy + Send + 'static,
+>(
+    alloc: Global,
+    workers: &Workers<M, B, Hold, R>,
+    nodes: &[Arc<Node<M, B>>],
+    line: &str,
+) -> Result<(), StepFault> {
+    if line == "settle" {
+        workers.settle();
+        return Ok(());
+    }
+    if let Some(bytes) = line.strip_prefix("bring ") {
+        let bytes = Texts::new(alloc).bytes(bytes)?;
+        return bring(alloc, workers, nodes, bytes.as_slice());
+    }
+    let Some(Order::Happen(what)) = order_in(line.as_bytes()) else {
+        return Err(StepFault::Unknown);
+    };
+    let (name, input) = input_of(alloc, what)?;
+    hand(workers, nodes, name, input)
+}
+
+// Carries out all lines.
+fn carry_all<
+    M: Machine + Send + Sync + 'static,
+    B: Made + Send + Sync + 'static,
+    R: Threads + Wait + Copy + Send + 'static,
+>(
+    alloc: Global,
+    workers: &Workers<M, B, Hold, R>,
+    nodes: &[Arc<Node<M, B>>],
+    lines: &str,
+) -> Result<(), StepFault> {
+    for line in lines.lines() {
+        if !line.starts_with('#') {
+            carry_out(alloc, workers, nodes, line)?;
+        }
+    }
+    Ok(())
+}
+
+/// Serves these nodes while lines are carried out, and gives the receipts of all steps.
+pub(crate) fn serve<
+    M: Machine + Send + Sync + 'static,
+    B: Made + Send + Sync + 'static,
+    R: Threads + Wait + Copy + Send + 'static,
+>(
+    rt: R,
+    alloc: Global,
+    nodes: &[Arc<Node<M, B>>],
+    shift: Shift,
+    lines: &str,
+) -> Result<Vec<Receipt>, StepFault> {
+    if shift.count == 0 {
+        return Err(StepFault::Unknown);
+    }
+    let mut theirs = Vec::with_capacity(alloc, nodes.len())?;
+    for node in nodes {
+        theirs.push(Arc::try_clone(node)?)?;
+    }
+    let (gate, late) = Hold::new(alloc, shift.held, shift.until)?;
+    let workers = Workers::start(rt, alloc, theirs, shift.count, gate)?;
+    let done = carry_all(alloc, &workers, nodes, lines);
+    let ended = workers.end();
+    done?;
+    if late.load(Ordering::SeqCst) {
+        return Err(StepFault::Unknown);
+    }
+    Ok(ended?)
+}
