@@ -1,22 +1,23 @@
 -- In a world whose partitions hold and whose markers agree, readers of committed records get
 -- exactly what is visible, and nothing of a transaction that isn't decided to commit.
-use Rattle.std.proofs.Common.{◌≡◌, ℕ, ◌+◌, ℤ, pos, negsuc, Bool, true, false, ◌&&◌, cond}
-use Rattle.std.proofs.Common.{List, ◌∷◌, ◌++◌, filter, Option, Some, Ok, Err}
+use Rattle.std.proofs.Common.{◌≡◌, ℕ, ◌+◌, ℤ, true, false, ◌&&◌}
+use Rattle.std.proofs.Common.{List, [], ◌∷◌, ◌++◌, filter, Option, Some, Ok}
 use Rattle.std.proofs.Common.{None, Contains, refl, sym, ap, ◌∙◌, subst, arith}
-use Rattle.std.specs.Prelude.{IfSome, int_le, int_lt, nat_lt}
+use Rattle.std.specs.Prelude.{IfSome, int_le, int_lt}
 use Rattle.std.specs.Option.{option_map_or}
-use Rattle.kx_message.specs.declared.code.ErrorCode.TheVariants.{OffsetOutOfRange}
 use Rattle.kx_message.specs.declared.message.Message.{Message}
 use Rattle.kx_message.specs.declared.outcome.Outcome.{Outcome}
 use Rattle.kx_message.specs.declared.outcome.Outcome.TheVariants.{Abort, Commit}
 use Rattle.kx_model.specs.Coordinator.{commits, decision, same_outcome}
 use Rattle.kx_model.specs.Headline.{GivesVisible, HasOneOutcome}
-use Rattle.kx_model.specs.Log.{Data, Control, Marker, Sequenced, Stored, end, entries}
-use Rattle.kx_model.specs.Page.{Fetched, Page, answer_to, as_fetched, fetched, fetched_of, page}
+use Rattle.kx_model.specs.Log.{Data, Control, Marker, Sequenced}
+use Rattle.kx_model.specs.Page.{Fetched, answer_to, page}
 use Rattle.kx_model.specs.PartitionNode.{Partition}
 use Rattle.kx_model.specs.Reading.{committed_of, visible}
-use Rattle.kx_model.specs.World.{World, entries_at, log_at, log_in, notes, partition_at}
+use Rattle.kx_model.specs.World.{Event, World, entries_at, log_at, log_in, notes, partition_at, run}
+use Rattle.kx_model.proofs.Schedules.{decision_stands}
 use Rattle.kx_laws.specs.Grown.{IsGrown, Unwritten}
+use Rattle.kx_laws.proofs.CommittedPages.{fetched_page}
 use Rattle.kx_laws.proofs.CommittedRecords.{gives_standing}
 use Rattle.kx_laws.proofs.GrownLogs.{Admits, each_admitted, each_stands}
 use Rattle.kx_laws.proofs.LogRules.{closes_its_own}
@@ -51,43 +52,33 @@ decision_is w one q d m here ids raised =
     ap (λ i. decision (notes w) i d.epoch) (sym ids)
     ∙ ap (decision (notes w) m.id) (sym epochs) ∙ h.2
 
-decided_known : (w : World) (q : ℕ) → HasOneOutcome w → Each Admits (entries_at w q)
-    → KnowsClosed (entries_at w q) (commits (notes w))
-decided_known w q one each = record {
+-- of each closed transaction it is known whether it commits, in the world and in each to which a
+-- schedule leads from there
+pub decided_known : (w : World) (events : List Event) (q : ℕ) → HasOneOutcome w
+    → Each Admits (entries_at w q)
+    → KnowsClosed (entries_at w q) (commits (notes (run events w)))
+decided_known w events q one each = record {
   known = λ before between after d m parts t ids none.
       let raised = closes_its_own before between d m
       (each (before ++ Data d ∷ between) (Control m) after parts) t none ids in
       let here = subst (λ l. Contains l (Control m)) (sym parts)
       (in_the_middle (before ++ Data d ∷ between) after (Control m)) in
       ap (λ o. option_map_or (same_outcome Commit) o false)
-      (decision_is w one q d m here ids raised)
+      (decision_stands events w d.id d.epoch m.outcome
+      (decision_is w one q d m here ids raised))
       ∙ same_either_way Commit m.outcome;
 }
 
 -- a page of any partition
 pub gives_visible : (w : World) → PartitionsHold w → MarkersFit w.sent → HasOneOutcome w
     → (q from room : ℕ) → GivesVisible w q (page (log_at w q) from room true)
-unfolding page
+unfolding page run
 gives_visible w all fit one q from room =
     let grown = grown_at w q all fit in
     gives_standing (log_at w q) (commits (notes w)) from room (each_stands (log_at w q) grown)
-    (decided_known w q one (each_admitted (log_at w q) grown))
+    (decided_known w [] q one (each_admitted (log_at w q) grown))
 
--- a fetch that isn't refused gets the page from the offset that it names
-fetched_page : (log : List Stored) (room : ℕ) (from : ℤ) (got : Fetched)
-    → answer_to log from room true ≡ Ok got
-    → (n : ℕ) × (got ≡ fetched_of (page log n room true))
-unfolding fetched
-fetched_page log room (negsuc n) got e = absurd cc
-fetched_page log room (pos n) got e =
-    (n, by (nat_lt (end (entries log)) n) (page log n room true) e)
-  where
-    by : (b : Bool) (p : Page) → as_fetched (cond b (Err OffsetOutOfRange) (Ok p)) ≡ Ok got
-        → got ≡ fetched_of p
-    by true p e = absurd cc
-    by false p e = cc
-
--- so does what a fetch of committed records was answered with
+-- what a fetch of committed records was answered with
 pub fetch_gives_visible : (w : World) → PartitionsHold w → MarkersFit w.sent → HasOneOutcome w
     → (q room : ℕ) (from : ℤ) (got : Fetched) → answer_to (log_at w q) from room true ≡ Ok got
     → committed_of got ≡ filter (λ s. int_le got.from s.offset && int_lt s.offset got.next)
@@ -96,5 +87,5 @@ fetch_gives_visible w all fit one q room from got e =
     let f = fetched_page (log_at w q) room from got e in
     subst (λ (g : Fetched). committed_of g
     ≡ filter (λ s. int_le g.from s.offset && int_lt s.offset g.next)
-    (visible (entries_at w q) (commits (notes w)))) (sym f.1)
+    (visible (entries_at w q) (commits (notes w)))) (sym f.2)
     (gives_visible w all fit one q f.0 room)

@@ -43,7 +43,7 @@ use Rattle.kx_model.specs.World.{Event, IsEvent, IsSchedule, World, entries_at, 
 use Rattle.kx_model.specs.World.{notes, partition_at, run, start, step}
 use Rattle.kx_model.proofs.Logs.{end_is}
 use Rattle.kx_laws.specs.Grown.{IsGrown}
-use Rattle.kx_laws.proofs.CommittedRecords.{wide_batches}
+use Rattle.kx_laws.proofs.CommittedPages.{page_ends}
 use Rattle.kx_laws.proofs.GrownLogs.{each_stands}
 use Rattle.kx_laws.proofs.Lists.{All-from_contains}
 use Rattle.kx_laws.proofs.Membership.{find_tells}
@@ -129,35 +129,6 @@ module _ (P : Stored → Type 0) where
       (some_have room (within log from (upper_of (entries log) committed))
       (All-filter _ OfItem (placed_by stored_width 0 log) (placed_have 0 log h)))
 
------- where a page of committed records ends
-
-record Bounds (log : List Stored) (from next : ℕ) : Type 0 where
-  starts : from ≤ next
-  stable : (next ≡ from) ⊎ (next ≤ last_stable_offset (entries log))
-
-next_bounds : (log before given : List Stored) (from next : ℕ) → IsNext log before from next given
-    → Begins from (end (entries before)) given → Bounds log from next
-next_bounds log before given from next (nothing e) begins =
-    record { starts = omega (arith, e); stable = inl e }
-next_bounds log before given from next (behind_last s rest e le) begins = record {
-  starts = omega (
-    arith,
-    e,
-    begins,
-    end_is before,
-    end_is (before ++ s ∷ rest),
-    sum_by-append stored_width before (s ∷ rest),
-    sum_by-cons stored_width s rest,
-  );
-  stable = inr le;
-}
-
-page_bounds : (log : List Stored) (from room : ℕ) → IsGrown log
-    → Bounds log from (page log from room true).next
-page_bounds log from room grown =
-    let p = page_parts log from room (wide_batches log (each_stands log grown)) in
-    next_bounds log p.before p.given from (page log from room true).next p.next p.begins
-
 -- the reply reads as the page
 page_again : (log : List Stored) (caller : Caller) (number from room : ℕ) (committed : Bool)
     → All IsRead log
@@ -212,7 +183,7 @@ module _ (w : World) (h : Stands w) (number : ℕ) (p : Partition)
   page_committed from room true low e =
       let log = p.disk.kept in
       let got = page log from room true in
-      let b = page_bounds log from room its_grown in
+      let b = page_ends log from room its_grown in
       let is : answer_to (log_at w number) (pos from) room true ≡ Ok (fetched_of got) =
       ap (λ l. answer_to l (pos from) room true) log_is
       ∙ ap (λ t. as_fetched (cond t (Err code.OffsetOutOfRange) (Ok got))) low in
