@@ -1,7 +1,7 @@
 -- Over every schedule: a reply without error answers a fetch with a page, and where committed
 -- records were asked for the page holds what is visible of its range, then and ever after.
 use Rattle.std.proofs.Common.{◌≡◌, ◌⊎◌, inl, inr, ⊎_elim, ◌≤◌, ◌+◌, ◌-◌, ℕ, ℤ, pos, negsuc, ◌≤ℤ◌}
-use Rattle.std.proofs.Common.{Bool, true, false, cond, List, [], ◌∷◌, ◌++◌, map, min, All, Contains}
+use Rattle.std.proofs.Common.{Bool, true, false, cond, List, [], ◌∷◌, map, min, All, Contains}
 use Rattle.std.proofs.Common.{Option, Some, None, Ok, Err, ◌==◌, refl, sym, ap, ◌∙◌, subst, arith}
 use Rattle.std.specs.Prelude.{IfSome, nat_le, nat_lt}
 use Rattle.std.proofs.lemmas.Bool.{cond_both}
@@ -10,7 +10,6 @@ use Rattle.std.proofs.lemmas.Int.{ints}
 use Rattle.std.proofs.lemmas.List.Elements.{All-append, All-cons, All-contains, All-filter}
 use Rattle.std.proofs.lemmas.List.Elements.{All-head, All-map, All-nil, All-tail, All-weaker}
 use Rattle.std.proofs.lemmas.List.Elements.{Contains-append_left}
-use Rattle.std.proofs.lemmas.List.Sums.{sum_by-append, sum_by-cons}
 use Rattle.kx_message.specs.Messages as the
 use Rattle.kx_message.specs.Ranges.{offsets_partition}
 use Rattle.kx_message.specs.declared.code.ErrorCode.{ErrorCode}
@@ -41,13 +40,10 @@ use Rattle.kx_model.specs.Verification.{judge_request, pair_of, parked_for, repl
 use Rattle.kx_model.specs.Verification.{request_of, without}
 use Rattle.kx_model.specs.World.{Event, IsEvent, IsSchedule, World, entries_at, log_at, log_in}
 use Rattle.kx_model.specs.World.{notes, partition_at, run, start, step}
-use Rattle.kx_model.proofs.Logs.{end_is}
 use Rattle.kx_laws.specs.Grown.{IsGrown}
 use Rattle.kx_laws.proofs.CommittedPages.{page_ends}
-use Rattle.kx_laws.proofs.GrownLogs.{each_stands}
 use Rattle.kx_laws.proofs.Lists.{All-from_contains}
 use Rattle.kx_laws.proofs.Membership.{find_tells}
-use Rattle.kx_laws.proofs.Pages.{Begins, IsNext, behind_last, nothing, page_parts}
 use Rattle.kx_headline.proofs.CoordinatorAlways.{turn_does}
 use Rattle.kx_headline.proofs.CoordinatorDoes.{IsCoordinators, Out}
 use Rattle.kx_headline.proofs.CoordinatorDoes

@@ -1,33 +1,22 @@
 -- The texts of a log's batches, one behind the other, read as those batches, whatever their bytes
 -- are: each was read whole before it was appended, and its place in the log changes nothing of
 -- what is read.
-use Rattle.std.proofs.Common.{◌≡◌, ◌≤◌, ◌<◌, ◌+◌, ◌-◌, ℕ, zero, suc, ℤ, pos, negsuc, ◌≤ℤ◌, Bool}
-use Rattle.std.proofs.Common.{true, false, ◌&&◌, cond, eqb, ltb, get_or, List, [], ◌∷◌, ◌++◌}
-use Rattle.std.proofs.Common.{length, take, drop, All, Result, Ok, Err, refl, sym, ap, ◌∙◌, arith}
+use Rattle.std.proofs.Common.{◌≡◌, ◌≤◌, ◌<◌, ◌-◌, ℕ, zero, suc, ℤ, pos, ◌≤ℤ◌, Bool}
+use Rattle.std.proofs.Common.{true, false, cond, ltb, List, [], ◌∷◌, ◌++◌}
+use Rattle.std.proofs.Common.{length, All, Ok, Err, refl, sym, ap, ◌∙◌, arith}
 use Rattle.std.proofs.Common.{append-nil, length-append}
-use Rattle.std.specs.Prelude.{◌-ℤ◌, ◌%◌, int_le, int_lt, is_some, ◌==◌}
-use Rattle.std.specs.Ordering.{int_eq}
-use Rattle.std.specs.Int.{w16, w32, w64, cast_signed, cast_unsigned}
-use Rattle.std.specs.Int.RustNames.{unsigned_abs}
-use Rattle.std.proofs.lemmas.Bool.{le-ltb, ltb-false}
+use Rattle.std.specs.Prelude.{int_le}
+use Rattle.std.proofs.lemmas.Bool.{ltb-false}
 use Rattle.std.proofs.lemmas.Int.{ints}
-use Rattle.std.proofs.lemmas.List.{drop-append-le, drop-drop, drop_at, get_or-drop, length-drop}
-use Rattle.std.proofs.lemmas.List.{length-take, nil_from_length, take-append-drop, take-append-le}
-use Rattle.std.proofs.lemmas.List.{take_at}
+use Rattle.std.proofs.lemmas.List.{nil_from_length}
 use Rattle.std.proofs.lemmas.List.Elements.{All-head, All-nil, All-push, All-tail}
 use Rattle.std.proofs.lemmas.List.Sums.{sum_by-append, sum_by-cons}
-use Rattle.kx_varint.specs.BigEndian.{place_value, signed_at, signed_text, unsigned_at}
-use Rattle.kx_varint.proofs.FixedWidth.{wide32, wide64}
 use Rattle.kx_message.specs.declared.code.ErrorCode.TheVariants.{InvalidRecord, MessageTooLarge}
 use Rattle.kx_message.specs.declared.message.Message.{Message}
-use Rattle.kx_batch.specs.Batch.{Spelled, batch_at, batch_limit, checked, count_of, has_records}
-use Rattle.kx_batch.specs.Batch.{is_uncompressed, size_of, spelled, with_base}
-use Rattle.kx_batch.specs.Crc.{crc32c_of}
+use Rattle.kx_batch.specs.Batch.{batch_at, batch_limit}
+use Rattle.kx_batch.specs.Batch.{spelled}
 use Rattle.kx_batch.specs.Marker.{marker_batch}
-use Rattle.kx_batch.specs.Record.{records_in}
-use Rattle.kx_batch.specs.declared.fault.BatchFault.{BatchFault}
-use Rattle.kx_batch.specs.declared.fault.BatchFault.TheVariants.{Compressed, Crc, Length, Magic}
-use Rattle.kx_batch.specs.declared.fault.BatchFault.TheVariants.{Records, Short, TooLarge}
+use Rattle.kx_batch.specs.declared.fault.BatchFault.TheVariants.{Records}
 use Rattle.kx_batch.proofs.Whole.{batch_again}
 use Rattle.kx_model.specs.Log.{Entry, Marker, MarkerFits, Stored, end, entries, stored_width}
 use Rattle.kx_model.specs.PartitionNode.{marker_of}
