@@ -68,13 +68,13 @@ log_is made_as t node is =
     batches_same (made_as t.made) t.steps node (again (made_as t.made) t.steps) is
     (replays_again (made_as t.made) t.steps node is)
 
-prefix_more : {A : Type 0} (xs ys zs : List A) → IsPrefix xs ys → GrowsTo ys zs → IsPrefix xs zs
+pub prefix_more : {A : Type 0} (xs ys zs : List A) → IsPrefix xs ys → GrowsTo ys zs → IsPrefix xs zs
 prefix_more {A} xs ys zs p g = (
   p.0 ++ g.more,
   sym (append_assoc xs p.0 g.more) ∙ ap (λ (l : List A). l ++ g.more) p.1 ∙ sym g.parts,
 )
 
-wrote_step : (node : NodeState) (store : Store) (input : Input) → WroteItself node
+pub wrote_step : (node : NodeState) (store : Store) (input : Input) → WroteItself node
     → MarkerComesRight (comes_with input) → WroteItself (node_step node store input).state
 wrote_step (AtCoordinator co) store input wrote right = tt
 wrote_step (AtPartition number p) store input wrote right =
@@ -127,7 +127,7 @@ behind_taken adds {B} made_as t after receipt input node o is same replays right
 
 ------ a log that is published
 
-wrote_log : (node : NodeState) → WroteItself node → IsWritten (batches_of node)
+pub wrote_log : (node : NodeState) → WroteItself node → IsWritten (batches_of node)
 wrote_log (AtCoordinator co) wrote = Unwritten
 wrote_log (AtPartition number p) wrote = wrote.kept
 wrote_log (AtClient c) wrote = Unwritten

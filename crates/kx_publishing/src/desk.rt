@@ -45,9 +45,9 @@ impl<'a, M: Machine, B: Made> GrownLog for Growing<'a, M, B> {
     }
 }
 
-// A marker that is handed in has numbers that a control batch holds, as its types see to. This
-// does nothing when it runs.
-fn marker_comes_right(input: &Input)
+/// A marker that is handed in has numbers that a control batch holds, as its types see to. This
+/// does nothing when it runs.
+pub fn marker_comes_right(input: &Input)
     ensures { MarkerComesRight (comes_with (input_of input.now)) }
 {
     if let Input::Deliver(Message::WriteMarker(it)) = input {

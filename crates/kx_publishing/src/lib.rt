@@ -9,6 +9,6 @@ mod desk;
 mod fault;
 mod node;
 
-pub use desk::Desk;
+pub use desk::{Desk, marker_comes_right};
 pub use fault::PublishFault;
 pub use node::PublishedNode;
