@@ -1,0 +1,3 @@
+pub mod Brokers
+pub mod Logs
+pub mod Serving
