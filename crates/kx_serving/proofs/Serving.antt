@@ -82,14 +82,17 @@ pub shows_told : {E : Type 0} (told : Result Known E) (log : List Stored) (old n
     × (new.known.logs ≡ old.known.logs ++ record { log = log } ∷ []) × (new.shown ≡ log))
     (λ (refused : E). new.shown ≡ old.shown)
     → Shows (is_ok told) log (Some old) (Some new)
-shows_told (Ok t) log old new partition done = (t, record {
-  old = old;
-  new = new;
-  before_is = refl;
-  after_is = refl;
-  told_is = done.0;
-  partition = partition;
-  logs = done.1;
-  shown = done.2;
-})
+shows_told (Ok t) log old new partition done = (
+  t,
+  record {
+    old = old;
+    new = new;
+    before_is = refl;
+    after_is = refl;
+    told_is = done.0;
+    partition = partition;
+    logs = done.1;
+    shown = done.2;
+  },
+)
 shows_told (Err refused) log old new partition same = ap Some same

@@ -34,7 +34,7 @@ returns-clause-shows g c =
     let new = c.publish-publisher.result.0 in
     let log = g.M.Logging.log in
     let told = shows_told c.publish-publisher.result.1 (log old.machine) c.in-Some.publisher new
-        c.publish-publisher.ensures.partition c.publish-publisher.ensures.published in
+    c.publish-publisher.ensures.partition c.publish-publisher.ensures.published in
     let is : old.publisher ≡ Some c.in-Some.publisher = search rules in
     subst (λ (h : Held g.row.M.Denot). Shows c.is_ok.result (log h.machine) h.published (Some new))
     c.self.view_is
