@@ -32,7 +32,7 @@ use Rattle.kx_coord.specs.Calls.{IsCutTo, IsOpen, Reads, RestartBreaks, closed_o
 use Rattle.kx_coord.specs.Calls as calls
 use Rattle.kx_coord.specs.CoordinatorState.{CoordinatorState}
 use Rattle.kx_coord.specs.Noted.{SameAnswered}
-use Rattle.kx_coord_node.specs.Stands.{Keeps, RunsAs, Stands, Takes}
+use Rattle.kx_coord_node.specs.Stands.{Keeps, RunsAs, Stands, Takes, opened_coordinator}
 use Rattle.kx_coord_node.proofs.Logs.{read_as}
 use Rattle.kx_coord_node.proofs.Steps.{stored_left, stored_whole}
 use Rattle.kx_coord_node.proofs.Stores.{entry_size, left, readable, reopened, unread}
@@ -104,6 +104,15 @@ runs_open store log now new handed o same =
           (holds_read store o.read.store o.read.notes o.reads.opened) o.log);
       behind = λ e. refl;
     }
+
+-- it stands for the coordinator of its log
+pub stands_open : (store : StoreState) (now : ℕ) (new : CoordinatorState) (handed : List Message)
+    → IsOpen store now new handed → RunsAs (opened_coordinator new.log.notes now) new
+stands_open store now new handed o =
+    let notes : new.log.notes ≡ o.read.notes ++ o.note ∷ [] =
+    ap (λ (l : LogState). l.notes) o.log.rest in
+    subst (λ (log : List Note). RunsAs (opened_coordinator log now) new) (sym notes)
+    (runs_open store o.read.notes now new handed o refl)
 
 -- an empty store is read as an empty log, whose opening has the first epoch
 no_notes : (bytes : List ℕ) (len : ℕ) (notes : List Note) → AreIn bytes len notes → bytes ≡ []

@@ -1,5 +1,5 @@
 -- For which coordinator of the definitions a running one stands.
-use Rattle.std.specs.Prelude.{◌≡◌, ℕ, List, None, false}
+use Rattle.std.specs.Prelude.{◌≡◌, ℕ, List, [], None, false}
 use Rattle.kx_coord.specs.CoordinatorState.{CoordinatorState}
 use Rattle.kx_coord.specs.Noted.{SameAnswered}
 use Rattle.kx_machine.specs.Meaning.{NodeState, AtCoordinator, AtPartition, AtClient, IsTaken}
@@ -8,10 +8,14 @@ use Rattle.kx_machine.specs.Stores.{Allows}
 use Rattle.kx_machine.specs.declared.taken.Taken.{Taken}
 use Rattle.kx_model.specs.Coordinator.{Note}
 use Rattle.kx_model.specs.CoordinatorNode.{Coordinator}
-use Rattle.kx_model.specs.Disk.{Store, reread}
+use Rattle.kx_model.specs.Disk.{Store, made, reread}
 use Rattle.kx_model.specs.Step.{Input}
 use Rattle.kx_txnlog.specs.Opening.{IsRight}
 use Rattle.kx_txnlog.specs.Reading.{notes_in}
+
+-- a coordinator whose log was opened at this moment, with the entry of its opening
+abbrev pub opened_coordinator : List Note → ℕ → Coordinator
+opened_coordinator log now = record { disk = made log; clock = now; answered = [] }
 
 -- the bytes spell these notes, and behind them nothing, or the front of one
 pub record ReadAs (bytes : List ℕ) (notes : List Note) : Type 0 where

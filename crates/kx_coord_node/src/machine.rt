@@ -1,8 +1,8 @@
 //! The coordinator, and what it does with each input.
 ghost use Rattle.std.specs.Prelude.{◌≡◌, ◌&&◌, ◌-◌, not, length, false, [], IfOk, MatchResult};
-ghost use Rattle.kx_coord.specs.Calls.{OpenRefuses};
-ghost use Rattle.kx_coord_node.specs.Stands.{Keeps, MayDo, Stands, Takes};
-ghost use Rattle.kx_machine.specs.Meaning.{made_as};
+ghost use Rattle.kx_coord.specs.Calls.{IsOpen, OpenRefuses};
+ghost use Rattle.kx_coord_node.specs.Stands.{Keeps, MayDo, Stands, Takes, opened_coordinator};
+ghost use Rattle.kx_machine.specs.Meaning.{AtCoordinator, made_as};
 ghost use Rattle.kx_machine.specs.declared.machine.Making.TheVariants as making;
 ghost use Rattle.kx_machine.specs.declared.taken.Note.TheVariants as note;
 ghost use Rattle.kx_message.specs.declared.message.Message.TheVariants as msg;
@@ -33,19 +33,46 @@ impl<S: Store> Model for CoordinatorMachine<S> {
 }
 
 impl<S: Store> CoordinatorMachine<S> {
-    /// The coordinator of an empty store, opened at moment 0. Its log has one entry, the first
-    /// coordinator epoch. Memory is taken from `alloc`, now and later.
+    /// The coordinator of the log that a store holds, opened at this moment in milliseconds, any
+    /// u64, as [`Coordinator::open`] does, and the markers that it hands out. Memory is taken from
+    /// `alloc`, now and later.
     ///
     /// # Errors
     ///
     /// As [`Coordinator::open`]: the store comes back beside the fault.
+    pub fn open(
+        alloc: Global,
+        store: S,
+        now: u64,
+    ) -> Result<(CoordinatorMachine<S>, Messages), (OpenFault, S)>
+        ensures value { MatchResult result (λ made. IsOpen (S.state store) now made.0 made.1)
+            (λ refused. OpenRefuses (S.state store) (S.state refused.1) refused.0) }
+        // It stands for the coordinator whose log was opened.
+        ensures opened { IfOk result (λ made.
+            Stands (AtCoordinator (opened_coordinator made.0.log.notes now)) made.0) }
+    {
+        let (coordinator, handed) = Coordinator::open(alloc, store, now)?;
+        let machine = CoordinatorMachine { alloc, coordinator };
+        Ok((machine, Messages::from_vec(handed)))
+    }
+
+    /// The coordinator of the log that a store holds, [opened](CoordinatorMachine::open) at moment
+    /// 0. The log of an empty store then has one entry, the first coordinator epoch, and no markers
+    /// go out; those of another log go out with the next reminder.
+    ///
+    /// # Errors
+    ///
+    /// As [`open`](CoordinatorMachine::open).
     pub fn new(alloc: Global, store: S) -> Result<CoordinatorMachine<S>, (OpenFault, S)>
-        ensures { MatchResult result
+        ensures value { MatchResult result
             (λ m. (S.state store).bytes ≡ [] → Stands (made_as making.Coordinator) m)
             (λ refused. OpenRefuses (S.state store) (S.state refused.1) refused.0) }
+        // It stands for the coordinator whose log was opened.
+        ensures opened { IfOk result (λ m.
+            Stands (AtCoordinator (opened_coordinator m.log.notes 0)) m) }
     {
-        let (coordinator, _none) = Coordinator::open(alloc, store, 0)?;
-        Ok(CoordinatorMachine { alloc, coordinator })
+        let (machine, _none) = CoordinatorMachine::open(alloc, store, 0)?;
+        Ok(machine)
     }
 
     /// The coordinator, lent.
