@@ -5,6 +5,7 @@ pub mod Growing
 pub mod Parked
 pub mod Resuming
 pub mod Served
+pub mod Fetching
 pub mod Opening
 pub mod Taking
 pub mod Building

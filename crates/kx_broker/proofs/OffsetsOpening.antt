@@ -1,30 +1,22 @@
 -- Opening the offsets partition finds the log of the definitions, and it is one of groups.
-use Rattle.std.proofs.Common.{◌≡◌, inl, inr, ℕ, List, []}
-use Rattle.std.proofs.Common.{refl, sym, ap, ◌∙◌, subst, arith}
+use Rattle.std.proofs.Common.{◌≡◌, inl, inr, ℕ}
+use Rattle.std.proofs.Common.{refl, sym, ap, subst}
 use Rattle.std.specs.Prelude.{◌≢◌, Result, Ok, Err, MatchResult}
 use Rattle.std.specs.declared.alloc.AllocError.{AllocError}
-use Rattle.std.proofs.lemmas.List.Elements.{All-nil}
-use Rattle.kx_broker.specs.Offsets.{CommitsAt0, IsOffsetsLog, KeepsOffsets, OpensOffsets}
-use Rattle.kx_broker.specs.Serving.{Restarts, Serving, Waits}
+use Rattle.kx_broker.specs.Offsets.{CommitsAt0, IsOffsetsLog, KeepsOffsets}
+use Rattle.kx_broker.specs.Serving.{Restarts, Serving}
 use Rattle.kx_broker.specs.declared.restart.Restarted.{Restarted}
 use Rattle.kx_broker.specs.declared.restart.Restarted.TheVariants as restarted
-use Rattle.kx_broker.proofs.Disks.{plain_disk}
 use Rattle.kx_broker.proofs.Opening.{cut_disk, never_damaged, never_used_up, read_is, unread}
 use Rattle.kx_broker.proofs.Opening.{unloaded_still}
 use Rattle.kx_broker.proofs.Served.{serving}
-use Rattle.kx_group.specs.Log.{NoBatch}
 use Rattle.kx_group.specs.Opening.{IsNoGroups, NotReloaded}
 use Rattle.kx_group.proofs.Growing.{never_unfit}
-use Rattle.kx_laws.specs.Grown.{Unwritten}
-use Rattle.kx_log.proofs.Reading.{read_again}
-use Rattle.kx_log.specs.Log.{IsLog, IsStored, NoTail, ReadLog, log_in, texts}
 use Rattle.kx_log.specs.LogState.{LogState}
-use Rattle.kx_log.specs.Store.{StoreState}
 use Rattle.kx_log.specs.declared.fault.OpenFault.{OpenFault}
 use Rattle.kx_log.specs.declared.fault.OpenFault.TheVariants as fault
 use Rattle.kx_message.specs.Ranges.{offsets_partition}
-use Rattle.kx_model.specs.PartitionNode.{Partition, empty_partition}
-use Rattle.kx_model.specs.Verification.{Parked, parked_for}
+use Rattle.kx_model.specs.PartitionNode.{Partition}
 
 module _ (p : Partition) (old : Serving) (is : KeepsOffsets p old) where
   -- its log is one of groups
@@ -72,25 +64,3 @@ module _ (p : Partition) (old : Serving) (is : KeepsOffsets p old) where
   closed_by new fault.UsedUp (Ok done) h (inr no_groups) = absurd no_groups.faults
   closed_by new given (Err refused) h faults =
       still_by new (subst (NotReloaded old.log new) h faults)
-
--- on an empty store it stands for the node as it was made
-pub made_groups : (store : StoreState) (log : LogState) (parked : List Parked)
-    → OpensOffsets store log → store.bytes ≡ [] → parked ≡ []
-    → KeepsOffsets empty_partition (serving offsets_partition log parked)
-made_groups store log parked h empty none =
-    let placed : IsLog [] =
-    record { stored = All-nil IsStored; stand = tt; room = omega arith } in
-    let read : log_in store.bytes ≡ record { batches = []; tail = NoTail } =
-    ap log_in empty ∙ read_again [] placed.stored placed.stand in
-    let opened = h.rebuilds.opens.opened in
-    let batches : log.batches ≡ [] =
-    opened.log_is ∙ ap (λ (r : ReadLog). r.batches) read in
-    let bytes : log.store.bytes ≡ texts [] =
-    ap (λ (s : StoreState). s.bytes) opened.store ∙ ap texts batches in
-    record {
-      number_is = refl;
-      disk = plain_disk IsOffsetsLog [] log batches h.rebuilds.opens.not_closed bytes placed
-          (record { grown = Unwritten; groups = NoBatch });
-      parked = λ held. ap (λ (l : List Parked). parked_for l held) none;
-      waits = All-nil (λ q. Waits CommitsAt0 [] q.held q);
-    }

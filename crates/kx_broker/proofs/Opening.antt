@@ -10,19 +10,19 @@ use Rattle.std.proofs.lemmas.List.Elements.{All-nil}
 use Rattle.std.specs.declared.alloc.AllocError.{AllocError}
 use lib.Signed.{lt_z}
 use mir.Val.{of_z, to_z}
-use Rattle.kx_broker.specs.Serving.{GoesTo, IsDisk, IsServed, IsServedBy, Restarts, Serving, Waits}
-use Rattle.kx_broker.specs.Serving.{closes}
+use Rattle.kx_broker.specs.Serving.{IsDisk, IsServedBy, Restarts, Serving, Waits}
+use Rattle.kx_broker.specs.Serving.{closes, opened_partition}
 use Rattle.kx_broker.specs.declared.restart.Restarted.{Restarted}
 use Rattle.kx_broker.specs.declared.restart.Restarted.TheVariants as restarted
 use Rattle.kx_broker.proofs.Disks.{plain_disk}
 use Rattle.kx_broker.proofs.Served.{serving}
 use Rattle.kx_broker.proofs.Stores.{CanLoad, loaded, unloaded}
-use Rattle.kx_laws.specs.Grown.{IsGrown, Unwritten}
+use Rattle.kx_laws.specs.Grown.{IsGrown}
 use Rattle.kx_laws.proofs.GrownLogs.{each_stands}
 use Rattle.kx_log.proofs.Contents.{same_number}
 use Rattle.kx_log.proofs.Reading.{read_again}
 use Rattle.kx_log.specs.Log.{IsLog, IsStored, NoTail, ReadLog, Tail, Wrong, log_in, texts}
-use Rattle.kx_log.specs.LogState.{LogState}
+use Rattle.kx_log.specs.LogState.{LogState, Opens}
 use Rattle.kx_log.specs.Opening.{IsOpened, IsRight}
 use Rattle.kx_log.specs.Store.{StoreState}
 use Rattle.kx_log.specs.declared.fault.OpenFault.{OpenFault}
@@ -36,7 +36,7 @@ use Rattle.kx_model.proofs.Growth.{end-push}
 use Rattle.kx_model.proofs.Logs.{entries-push, width-entry_in}
 use Rattle.kx_model.specs.Verification.{Parked, Request, parked_for}
 use Rattle.kx_partition.proofs.Rebuilding.{none_untaken}
-use Rattle.kx_partition.specs.Opening.{Rebuilds, ReloadsGrown, RereadFaults}
+use Rattle.kx_partition.specs.Opening.{ReloadsGrown, RereadFaults}
 
 -- the same bytes hold the same
 same_disk : (Fits : List Stored → Type 0) (disk : Disk Stored) (old new : LogState)
@@ -238,25 +238,33 @@ module _ (Fits : List Stored → Type 0) (grows : (log : List Stored) → Fits l
   unread_by new given (Err refused) h faults =
       unloaded_still new (subst (RereadFaults old.log new) h faults)
 
+-- a log that was opened stands alone in its store, and nothing is parked
+pub opened_server : (Fits : List Stored → Type 0) (Here : Request → Type 0) (number : ℕ)
+    (store : StoreState) (log : LogState) (parked : List Parked) → Opens store log
+    → IsLog log.batches → Fits log.batches → parked ≡ []
+    → IsServedBy Fits Here number (opened_partition log.batches) (serving number log parked)
+opened_server Fits Here number store log parked opens placed fits none = record {
+  number_is = refl;
+  disk = plain_disk Fits log.batches log refl opens.not_closed
+      (ap (λ (s : StoreState). s.bytes) opens.opened.store) placed fits;
+  parked = λ held. ap (λ (l : List Parked). parked_for l held) none;
+  waits = All-nil (λ q. Waits Here (entries log.batches) q.held q);
+}
+
+-- an empty store holds no batches
+none_held : (store : StoreState) (log : LogState) → Opens store log → store.bytes ≡ []
+    → log.batches ≡ []
+none_held store log opens empty =
+    opens.opened.log_is
+    ∙ ap (λ (r : ReadLog). r.batches) (ap log_in empty ∙ read_again [] (All-nil IsStored) tt)
+
 -- on an empty store it stands for the node as it was made
-pub made_server : (number : ℕ) (store : StoreState) (log : LogState) (parked : List Parked)
-    → Rebuilds store log → store.bytes ≡ [] → parked ≡ []
-    → IsServed number empty_partition (serving number log parked)
-made_server number store log parked h empty none =
-    let placed : IsLog [] =
-    record { stored = All-nil IsStored; stand = tt; room = omega arith } in
-    let read : log_in store.bytes ≡ record { batches = []; tail = NoTail } =
-    ap log_in empty ∙ read_again [] placed.stored placed.stand in
-    let batches : log.batches ≡ [] =
-    h.opens.opened.log_is ∙ ap (λ (r : ReadLog). r.batches) read in
-    let bytes : log.store.bytes ≡ texts [] =
-    ap (λ (s : StoreState). s.bytes) h.opens.opened.store ∙ ap texts batches in
-    record {
-      number_is = refl;
-      disk = plain_disk IsGrown [] log batches h.opens.not_closed bytes placed Unwritten;
-      parked = λ held. ap (λ (l : List Parked). parked_for l held) none;
-      waits = All-nil (λ q. Waits (GoesTo number) [] q.held q);
-    }
+pub made_server : (Stands : Partition → Serving → Type 0) (store : StoreState) (log : LogState)
+    (server : Serving) → Opens store log → store.bytes ≡ []
+    → Stands (opened_partition log.batches) server → Stands empty_partition server
+made_server Stands store log server opens empty stands =
+    subst (λ (l : List Stored). Stands (opened_partition l) server)
+    (none_held store log opens empty) stands
 
 -- whether the log became longer, as code compares ends
 pub found_by : (before after : ℤ) (old new : List Stored) → IsLog old → IsLog new

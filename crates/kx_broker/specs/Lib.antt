@@ -1,2 +1,3 @@
+pub mod Fetching
 pub mod Offsets
 pub mod Serving

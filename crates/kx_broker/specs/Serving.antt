@@ -17,6 +17,7 @@ use Rattle.kx_message.specs.Ranges.{offsets_partition}
 use Rattle.kx_message.specs.declared.message.Held.{Held}
 use Rattle.kx_message.specs.declared.message.Message.{Message}
 use Rattle.kx_model.specs.Client.{value_records}
+use Rattle.kx_model.specs.Disk as disks
 use Rattle.kx_model.specs.Disk.{Disk, Store, reopening, reread}
 use Rattle.kx_model.specs.Log.{Entry, Data, Sequenced, Stored, entry_in}
 use Rattle.kx_model.specs.PartitionNode.{Partition, Served, Taken, entries_of, partition_restarts}
@@ -72,6 +73,10 @@ abbrev pub AllWait : (Request → Type 0) → List Entry → List Parked → Typ
 AllWait Here log parked = All (λ q. Waits Here log q.held q) parked
 
 ------ the node
+
+-- a partition whose log was opened, and which has parked nothing
+abbrev pub opened_partition : List Stored → Partition
+opened_partition log = record { disk = disks.made log; parked = [] }
 
 -- the server stands for the node of a partition
 pub record IsServedBy (Fits : List Stored → Type 0) (Here : Request → Type 0) (number : ℕ)

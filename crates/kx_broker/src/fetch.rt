@@ -1,10 +1,9 @@
 //! Pages that are fetched.
-ghost use Rattle.std.specs.Prelude.{◌≡◌, ◌∷◌, [], Err, IfOk, flat_map, min};
+ghost use Rattle.std.specs.Prelude.{◌≡◌, Err, IfOk, MatchResult, Result, flat_map, min};
 ghost use Rattle.kx_batch.specs.Batch.{batch_limit};
-ghost use Rattle.kx_message.specs.Messages as the;
-ghost use Rattle.kx_message.specs.declared.code.ErrorCode.TheVariants.{NoError};
-ghost use Rattle.kx_message.specs.declared.code.ErrorCode.TheVariants.{UnknownTopicOrPartition};
-ghost use Rattle.kx_model.specs.Page.{fetched};
+ghost use Rattle.kx_broker.specs.Fetching.{AnswersFetch, IsFetched, MayWantMemory, page_reply};
+ghost use Rattle.kx_message.specs.declared.code.ErrorCode as refusal;
+ghost use Rattle.kx_model.specs.Page.{Page, fetched};
 ghost use Rattle.kx_model.specs.PartitionNode.{fetch_reply};
 
 use kx_batch::BATCH_LIMIT;
@@ -35,10 +34,7 @@ fn texts_of(alloc: Global, batches: Batches<'_>, len: usize) -> Result<Bytes, Al
 
 // The reply that carries a page.
 fn page_reply(alloc: Global, it: &Fetch, page: FetchPage<'_>) -> Result<Message, AllocError>
-    ensures { IfOk result (λ message. message
-        ≡ the.FetchReply it.now.caller it.now.partition NoError
-        page.entry.next page.entry.stable page.entry.end page.entry.aborted
-        (flat_map (λ s. s.text) page.entry.batches)) }
+    ensures { IfOk result (λ message. message ≡ page_reply it.now page.entry) }
 {
     let batches = texts_of(alloc, page.batches(), len_of(page.batches()))?;
     let next = page.next();
@@ -56,8 +52,8 @@ fn page_reply(alloc: Global, it: &Fetch, page: FetchPage<'_>) -> Result<Message,
     }))
 }
 
-/// The reply to a fetch that is refused.
-pub(crate) fn refused_fetch(alloc: Global, it: &Fetch, code: ErrorCode) -> Message
+/// The reply to a fetch that is refused with this code. No memory is asked for.
+pub fn refused_fetch(alloc: Global, it: &Fetch, code: ErrorCode) -> Message
     ensures { result ≡ fetch_reply it.now.caller it.now.partition (Err code) }
 {
     Message::FetchReply(FetchReply {
@@ -72,8 +68,41 @@ pub(crate) fn refused_fetch(alloc: Global, it: &Fetch, code: ErrorCode) -> Messa
     })
 }
 
-/// The reply to a fetch of this partition. The room counts as at most the bytes of the largest
-/// batch, so that the reply fits a frame.
+/// The room of a page in bytes: what the fetch asks for, but at most the bytes of the largest
+/// batch, 1,048,588, so that the reply fits a frame.
+pub fn page_room(it: &Fetch) -> u32
+    ensures { result ≡ min it.now.max batch_limit }
+{
+    it.max.min(BATCH_LIMIT as u32)
+}
+
+/// The reply to a fetch of a partition by what came of fetching from it: from its log, or from a
+/// copy of that. It carries the page, or the code of the refusal. Memory is taken from `alloc`.
+///
+/// # Errors
+///
+/// Only for want of memory, which was wanted already where `page` is [`FetchFault::Memory`], and
+/// never is for the reply to a refusal.
+pub fn answer_fetch(
+    alloc: Global,
+    it: &Fetch,
+    page: Result<FetchPage<'_>, FetchFault>,
+) -> Result<Message, AllocError>
+    ensures answer { MatchResult result (AnswersFetch it.now page.entry)
+        (λ refused. MayWantMemory page.entry) }
+    // Where fetching gave what the definitions do, it is their reply.
+    ensures defined { (answer : Result Page refusal.ErrorCode) → IsFetched answer page.entry
+        → IfOk result (λ message.
+        message ≡ fetch_reply it.now.caller it.now.partition answer) }
+{
+    match page {
+        Ok(page) => page_reply(alloc, it, page),
+        Err(FetchFault::Refused(code)) => Ok(refused_fetch(alloc, it, code)),
+        Err(FetchFault::Memory) => Err(AllocError),
+    }
+}
+
+/// The reply to a fetch of this partition.
 ///
 /// # Errors
 ///
@@ -86,10 +115,6 @@ pub(crate) fn fetch<S: Store>(
     ensures { IfOk result (λ message. message ≡ fetch_reply it.now.caller it.now.partition
         (fetched partition.now.batches it.now.from (min it.now.max batch_limit) it.now.committed)) }
 {
-    let room = it.max.min(BATCH_LIMIT as u32);
-    match partition.fetch(it.from, room, it.committed) {
-        Ok(page) => page_reply(alloc, it, page),
-        Err(FetchFault::Refused(code)) => Ok(refused_fetch(alloc, it, code)),
-        Err(FetchFault::Memory) => Err(AllocError),
-    }
+    let page = partition.fetch(it.from, page_room(it), it.committed);
+    answer_fetch(alloc, it, page)
 }

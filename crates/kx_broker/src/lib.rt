@@ -19,5 +19,6 @@ mod restart;
 mod resume;
 mod waiting;
 
+pub use fetch::{answer_fetch, page_room, refused_fetch};
 pub use machine::PartitionMachine;
 pub use offsets::OffsetsMachine;

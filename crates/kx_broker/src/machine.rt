@@ -2,7 +2,7 @@
 ghost use Rattle.std.specs.Prelude.{◌≡◌, ◌==◌, ◌∷◌, ℕ, [], false, Err, IfOk, MatchResult, OnErr};
 ghost use Rattle.std.specs.Prelude.{if◌then◌else◌, min};
 ghost use Rattle.kx_batch.specs.Batch.{batch_limit};
-ghost use Rattle.kx_broker.specs.Serving.{IsServed, MayDo, Serves, StandsFor};
+ghost use Rattle.kx_broker.specs.Serving.{IsServed, MayDo, Serves, StandsFor, opened_partition};
 ghost use Rattle.kx_log.specs.Store.{StoreState};
 ghost use Rattle.kx_message.specs.declared.code.ErrorCode.TheVariants.{UnknownTopicOrPartition};
 ghost use Rattle.kx_machine.specs.Meaning.{IsTaken, NodeState, input_of};
@@ -51,10 +51,15 @@ impl<S: Store> PartitionMachine<S> {
         ensures value { MatchResult result (λ machine. (machine.number ≡ number)
             × Rebuilds (S.state store) machine.log × (machine.parked ≡ []))
             (λ refused. RebuildFaults (S.state store) (S.state refused.1) refused.0) }
-        // On an empty store it stands for the node as it was made.
+        // It stands for the node whose log was opened, which has parked nothing.
+        ensures opened { IfOk result (λ machine.
+            IsServed number (opened_partition machine.log.batches) machine) }
+        // On an empty store that is the node as it was made.
         ensures made { (S.state store).bytes ≡ [] → IfOk result (IsServed number empty_partition) }
     {
         let partition = Partition::rebuild(alloc, store)?;
+        // Each batch stands in its place.
+        let _end = partition.end();
         Ok(PartitionMachine {
             alloc,
             number,

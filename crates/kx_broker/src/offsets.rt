@@ -2,7 +2,7 @@
 ghost use Rattle.std.specs.Prelude.{◌≡◌, [], pos, IfOk, MatchResult, OnErr};
 ghost use Rattle.kx_broker.specs.Offsets.{HasOtherLog, IsKept, KeepsOffsets, OpensOffsets};
 ghost use Rattle.kx_broker.specs.Offsets.{StandsForGroups};
-ghost use Rattle.kx_broker.specs.Serving.{MayDo, Serves};
+ghost use Rattle.kx_broker.specs.Serving.{MayDo, Serves, opened_partition};
 ghost use Rattle.kx_log.specs.Store.{StoreState};
 ghost use Rattle.kx_machine.specs.Meaning.{IsTaken, NodeState, input_of};
 ghost use Rattle.kx_message.specs.Ranges.{offsets_partition};
@@ -65,7 +65,10 @@ impl<S: Store> OffsetsMachine<S> {
             (λ refused. MatchResult refused.1
             (λ back. RebuildFaults (S.state store) (S.state back) refused.0)
             (λ opened. HasOtherLog (S.state store) opened refused.0)) }
-        // On an empty store it stands for the node as it was made.
+        // It stands for the node whose log was opened, which has parked nothing.
+        ensures opened { IfOk result (λ machine.
+            KeepsOffsets (opened_partition machine.log.batches) machine) }
+        // On an empty store that is the node as it was made.
         ensures made { (S.state store).bytes ≡ [] → IfOk result (KeepsOffsets empty_partition) }
     {
         let partition = match Partition::rebuild(alloc, store) {
@@ -73,11 +76,15 @@ impl<S: Store> OffsetsMachine<S> {
             Err((fault, store)) => return Err((fault, Ok(store))),
         };
         match Groups::open(alloc, partition) {
-            Ok(groups) => Ok(OffsetsMachine {
-                alloc,
-                groups,
-                parked: ParkedCommits::new(alloc),
-            }),
+            Ok(groups) => {
+                // Each batch stands in its place.
+                let _end = end_of(&groups);
+                Ok(OffsetsMachine {
+                    alloc,
+                    groups,
+                    parked: ParkedCommits::new(alloc),
+                })
+            }
             Err((fault, partition)) => Err((fault, Err(partition))),
         }
     }
