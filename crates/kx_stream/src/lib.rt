@@ -11,4 +11,5 @@ mod stream;
 
 pub use fault::StreamFault;
 pub use pages::served_pages_are_read;
+pub use sending::send;
 pub use stream::serve_stream;

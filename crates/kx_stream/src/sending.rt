@@ -18,8 +18,15 @@ fn written(done: io::Result<()>) -> Result<(), StreamFault>
     }
 }
 
-// Writes the frame of a message; the record batches that it carries, from where they lie.
-fn send<W: Write>(alloc: Global, writer: &mut W, message: &Message) -> Result<(), StreamFault>
+/// Writes the frame of a message; the record batches that it carries, from where they lie.
+///
+/// # Errors
+///
+/// As those of [`serve_stream`](crate::serve_stream) that are of writing: [`StreamFault::Write`]
+/// where the writer failed; [`StreamFault::Frame`] with [`FrameFault::Memory`] for want of memory,
+/// and with [`FrameFault::TooLong`] where the message is longer than a frame, and then nothing is
+/// written.
+pub fn send<W: Write>(alloc: Global, writer: &mut W, message: &Message) -> Result<(), StreamFault>
     ensures { Sends message.now (W.contents writer.old) (W.contents writer.new) result }
 {
     if !message.fits() {
