@@ -10,8 +10,10 @@ mod growing;
 mod logging;
 mod machine;
 mod node;
+mod opened;
 
 pub use desk::{Desk, Served};
 pub use logging::Logging;
 pub use machine::BrokerMachine;
 pub use node::ServedNode;
+pub use opened::wrote_itself;
