@@ -54,9 +54,9 @@ static void bench_crc(void)
     uint8_t *bytes = get_room(len);
     for (size_t i = 0; i < len; i++)
         bytes[i] = (uint8_t)(i * 2654435761u >> 24);
-    uint32_t sum = crc_slicing(bytes, len);
+    uint32_t sum = crc_eight(bytes, len);
     double own = time_crc(kx_bench_crc32c, bytes, len, sum);
-    double slicing = time_crc(crc_slicing, bytes, len, sum);
+    double slicing = time_crc(crc_eight, bytes, len, sum);
     double instruction = time_crc(crc_instruction, bytes, len, sum);
     printf("crc32c / slicing-by-8 in C        %7.2f   (%.3f and %.3f ns a byte)\n", own / slicing,
         own, slicing);

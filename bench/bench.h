@@ -2,6 +2,7 @@
 #ifndef BENCH_H
 #define BENCH_H
 
+#include <stdbool.h>
 #include <stddef.h>
 #include <stdint.h>
 
@@ -24,9 +25,11 @@ void bench_serve(void);
 /* txns.c: transactions of a coordinator. */
 void bench_transactions(void);
 
-/* crc.c: CRC-32C by tables of eight bytes a step, and by the processor's instruction. */
+/* crc.c: CRC-32C by tables, of eight and of sixteen bytes a step, and by the processor's
+ * instruction. */
 void crc_tables(void);
-uint32_t crc_slicing(const uint8_t *bytes, size_t len);
+uint32_t crc_eight(const uint8_t *bytes, size_t len);
+uint32_t crc_sixteen(const uint8_t *bytes, size_t len);
 uint32_t crc_instruction(const uint8_t *bytes, size_t len);
 
 /* batch.c: the text of a record batch of Kafka's message format, magic 2. */
@@ -38,6 +41,13 @@ struct producer {
 };
 extern const struct producer no_producer;
 size_t put_batch(uint8_t *out, int records, size_t value_len, const struct producer *producer);
+
+/* parse.c: reading a batch and all its records in plain C, with the same checks as the library's:
+ * how many bytes the values have, 0 where the bytes are no batch. In one go, with each record used
+ * as it is checked; and after all was checked. */
+bool check_batch(const uint8_t *bytes, size_t len);
+size_t parse_once(const uint8_t *bytes, size_t len);
+size_t parse_twice(const uint8_t *bytes, size_t len);
 
 /* the library: crates/kx_bench */
 uint32_t kx_bench_crc32c(const uint8_t *bytes, size_t len);
