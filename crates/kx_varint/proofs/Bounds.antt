@@ -28,3 +28,15 @@ low_below b t m some low last =
           ap (λ k. (t + 1) * 128 ^ (k - 1)) e ∙ omega arith in
           omega (arith, f, last e)
     ]
+
+-- the first two of more than two groups
+pub two_below : (n t m : ℕ) → 2 < m → n < 16384 → n < (t + 1) * 128 ^ (m - 1)
+two_below n t m more low =
+    let many : 1 < m = omega arith in
+    let again : 1 < m - 1 = omega arith in
+    omega (
+      arith,
+      limit_step (t + 1) m many,
+      limit_step (t + 1) (m - 1) again,
+      mul-le-mul_left (t + 1) (pow_128 (m - 1 - 1 - 1)),
+    )

@@ -32,18 +32,47 @@ fn read_groups(bytes: &[u8], most: usize, top: u8) -> Result<(u64, usize), VarFa
     Ok((u64::from(first % 128) + 128 * high, count + 1))
 }
 
+// The same, the first and the second without a call: most numbers have no more.
+#[inline(always)]
+fn front_groups(bytes: &[u8], most: usize, top: u8) -> Result<(u64, usize), VarFault>
+    requires some { 2 < most }
+    requires last { top < 128 }
+    requires fits { (top + 1) * 128 ^ (most - 1) ≤ 2 ^ 64 }
+    ensures exact { result ≡ groups_at most top bytes.now }
+    ensures bound { IfOk result (λ r. r.0 < (top + 1) * 128 ^ (most - 1)) }
+    ensures within { IfOk result (λ r. r.1 ≤ length bytes.now) }
+{
+    if bytes.is_empty() {
+        return Err(VarFault::Short);
+    }
+    let first = bytes[0];
+    if first < 128 {
+        return Ok((u64::from(first), 1));
+    }
+    if bytes.len() < 2 {
+        return Err(VarFault::Short);
+    }
+    let second = bytes[1];
+    if second < 128 {
+        return Ok((u64::from(first % 128) + 128 * u64::from(second), 2));
+    }
+    read_groups(bytes, most, top)
+}
+
+#[inline(always)]
 fn varint_of(bytes: &[u8]) -> Result<(i32, usize), VarFault>
     ensures { result ≡ value_at varint bytes.now }
 {
-    let (bits, count) = read_groups(bytes, 5, 15)?;
+    let (bits, count) = front_groups(bytes, 5, 15)?;
     let half = (bits / 2) as i32;
     Ok((if bits % 2 == 0 { half } else { -1 - half }, count))
 }
 
+#[inline(always)]
 fn varlong_of(bytes: &[u8]) -> Result<(i64, usize), VarFault>
     ensures { result ≡ value_at varlong bytes.now }
 {
-    let (bits, count) = read_groups(bytes, 10, 1)?;
+    let (bits, count) = front_groups(bytes, 10, 1)?;
     let half = (bits / 2) as i64;
     Ok((if bits % 2 == 0 { half } else { -1 - half }, count))
 }
@@ -55,6 +84,7 @@ fn varlong_of(bytes: &[u8]) -> Result<(i64, usize), VarFault>
 ///
 /// [`VarFault::Short`] where the bytes are the start of a spelling, [`VarFault::TooLong`] where no
 /// spelling begins so: a fifth byte above 15.
+#[inline(always)]
 pub fn read_varint(bytes: &[u8]) -> Result<(i32, usize), VarFault>
     ensures { Reads varint bytes.now result }
 {
@@ -68,6 +98,7 @@ pub fn read_varint(bytes: &[u8]) -> Result<(i32, usize), VarFault>
 ///
 /// [`VarFault::Short`] where the bytes are the start of a spelling, [`VarFault::TooLong`] where no
 /// spelling begins so: a tenth byte above 1.
+#[inline(always)]
 pub fn read_varlong(bytes: &[u8]) -> Result<(i64, usize), VarFault>
     ensures { Reads varlong bytes.now result }
 {
