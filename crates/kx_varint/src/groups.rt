@@ -1,7 +1,7 @@
 //! Varints, as Kafka's record format takes them from Protocol Buffers: zig-zag, then groups of
 //! seven bits, lowest first, the high bit set on all but the last.
 ghost use Rattle.std.specs.Prelude.{◌≡◌, ◌++◌, ◌<◌, ◌≤◌, ◌+◌, ◌-◌, ◌*◌, ◌^◌, ℕ, ℤ, List, length};
-ghost use Rattle.std.specs.Prelude.{IfOk, OnOk, OnErr, Ok};
+ghost use Rattle.std.specs.Prelude.{IfOk, IsOk, OnOk, OnErr, Ok};
 ghost use Rattle.kx_varint.specs.Varint.{groups_at, value_at, varint, varlong, groups_of};
 ghost use Rattle.kx_varint.specs.Varint.{shortest_text, zigzag, IsShortest, Shape, Spells, Reads};
 
@@ -59,6 +59,30 @@ fn front_groups(bytes: &[u8], most: usize, top: u8) -> Result<(u64, usize), VarF
     read_groups(bytes, most, top)
 }
 
+// The same of bytes that are known to begin with groups: nothing is tested again.
+#[inline(always)]
+fn known_groups(bytes: &[u8], most: usize, top: u8) -> (u64, usize)
+    requires some { 2 < most }
+    requires last { top < 128 }
+    requires fits { (top + 1) * 128 ^ (most - 1) ≤ 2 ^ 64 }
+    requires there { IsOk (groups_at most top bytes.now) }
+    ensures exact { groups_at most top bytes.now ≡ Ok (result.0, result.1) }
+    ensures bound { result.0 < (top + 1) * 128 ^ (most - 1) }
+{
+    let first = bytes[0];
+    if first < 128 {
+        return (u64::from(first), 1);
+    }
+    let second = bytes[1];
+    if second < 128 {
+        return (u64::from(first % 128) + 128 * u64::from(second), 2);
+    }
+    match read_groups(bytes, most, top) {
+        Ok(found) => found,
+        Err(_) => unreachable!(),
+    }
+}
+
 #[inline(always)]
 fn varint_of(bytes: &[u8]) -> Result<(i32, usize), VarFault>
     ensures { result ≡ value_at varint bytes.now }
@@ -105,6 +129,30 @@ pub fn read_varlong(bytes: &[u8]) -> Result<(i64, usize), VarFault>
     varlong_of(bytes)
 }
 
+/// The 32-bit number at the front of bytes that are known to begin with one, as
+/// [`read_varint`] reads it, and how many bytes it takes, 1 to 5. Takes no memory.
+#[inline(always)]
+pub fn known_varint(bytes: &[u8]) -> (i32, usize)
+    requires { IsOk (value_at varint bytes.now) }
+    ensures { value_at varint bytes.now ≡ Ok (result.0, result.1) }
+{
+    let (bits, count) = known_groups(bytes, 5, 15);
+    let half = (bits / 2) as i32;
+    (if bits % 2 == 0 { half } else { -1 - half }, count)
+}
+
+/// The 64-bit number at the front of bytes that are known to begin with one, as
+/// [`read_varlong`] reads it, and how many bytes it takes, 1 to 10. Takes no memory.
+#[inline(always)]
+pub fn known_varlong(bytes: &[u8]) -> (i64, usize)
+    requires { IsOk (value_at varlong bytes.now) }
+    ensures { value_at varlong bytes.now ≡ Ok (result.0, result.1) }
+{
+    let (bits, count) = known_groups(bytes, 10, 1);
+    let half = (bits / 2) as i64;
+    (if bits % 2 == 0 { half } else { -1 - half }, count)
+}
+
 // Appends a number in groups, lowest first: built apart, so that a refusal of memory leaves `out`.
 fn put_groups(out: &mut Vec<u8>, n: u64) -> Result<(), AllocError>
     ensures ok { OnOk result (out.new.items ≡ out.old.items ++ groups_of 9 n) }
@@ -120,6 +168,20 @@ fn put_groups(out: &mut Vec<u8>, n: u64) -> Result<(), AllocError>
     }
     text[len] = rest as u8;
     out.extend_from_slice(&text[..len + 1])
+}
+
+// The same, of one group without a call: most numbers have no more.
+#[inline(always)]
+#[tactic(auto, unfolding(crate::specs::Varint::groups_of))]
+fn put_bits(out: &mut Vec<u8>, n: u64) -> Result<(), AllocError>
+    ensures ok { OnOk result (out.new.items ≡ out.old.items ++ groups_of 9 n) }
+    ensures err { OnErr result (out.new.items ≡ out.old.items) }
+{
+    if n < 128 {
+        out.push(n as u8)?;
+        return Ok(());
+    }
+    put_groups(out, n)
 }
 
 // 0, -1, 1, -2 are 0, 1, 2, 3.
@@ -144,7 +206,7 @@ pub fn put_varint(out: &mut Vec<u8>, n: i32) -> Result<(), AllocError>
     ensures shortest { IsShortest varint n (shortest_text n) }
     ensures err { OnErr result (out.new.items ≡ out.old.items) }
 {
-    put_groups(out, folded(i64::from(n)))
+    put_bits(out, folded(i64::from(n)))
 }
 
 /// Appends the shortest spelling of a 64-bit number, 1 to 10 bytes.
@@ -158,7 +220,7 @@ pub fn put_varlong(out: &mut Vec<u8>, n: i64) -> Result<(), AllocError>
     ensures shortest { IsShortest varlong n (shortest_text n) }
     ensures err { OnErr result (out.new.items ≡ out.old.items) }
 {
-    put_groups(out, folded(n))
+    put_bits(out, folded(n))
 }
 
 /// The round trip, as a law: a spelling of a number is read as that number, whatever follows it. So

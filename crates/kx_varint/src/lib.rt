@@ -13,4 +13,7 @@ pub use fixed::{
     put_u16, put_u32, put_u64, read_i8, read_i16, read_i32, read_i64, read_u8, read_u16, read_u32,
     read_u64, u32_at,
 };
-pub use groups::{put_varint, put_varlong, read_varint, read_varlong, varints_are_read_again};
+pub use groups::{
+    known_varint, known_varlong, put_varint, put_varlong, read_varint, read_varlong,
+    varints_are_read_again,
+};
