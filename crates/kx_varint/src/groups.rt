@@ -68,6 +68,7 @@ fn known_groups(bytes: &[u8], most: usize, top: u8) -> (u64, usize)
     requires there { IsOk (groups_at most top bytes.now) }
     ensures exact { groups_at most top bytes.now ≡ Ok (result.0, result.1) }
     ensures bound { result.0 < (top + 1) * 128 ^ (most - 1) }
+    ensures within { result.1 ≤ length bytes.now }
 {
     let first = bytes[0];
     if first < 128 {
@@ -134,7 +135,8 @@ pub fn read_varlong(bytes: &[u8]) -> Result<(i64, usize), VarFault>
 #[inline(always)]
 pub fn known_varint(bytes: &[u8]) -> (i32, usize)
     requires { IsOk (value_at varint bytes.now) }
-    ensures { value_at varint bytes.now ≡ Ok (result.0, result.1) }
+    ensures exact { value_at varint bytes.now ≡ Ok (result.0, result.1) }
+    ensures within { result.1 ≤ length bytes.now }
 {
     let (bits, count) = known_groups(bytes, 5, 15);
     let half = (bits / 2) as i32;
@@ -146,7 +148,8 @@ pub fn known_varint(bytes: &[u8]) -> (i32, usize)
 #[inline(always)]
 pub fn known_varlong(bytes: &[u8]) -> (i64, usize)
     requires { IsOk (value_at varlong bytes.now) }
-    ensures { value_at varlong bytes.now ≡ Ok (result.0, result.1) }
+    ensures exact { value_at varlong bytes.now ≡ Ok (result.0, result.1) }
+    ensures within { result.1 ≤ length bytes.now }
 {
     let (bits, count) = known_groups(bytes, 10, 1);
     let half = (bits / 2) as i64;
