@@ -60,6 +60,22 @@ written_all text len n size room small =
     take_more_set text len n within ∙ ap (λ (x : List ℕ). take len text ++ x)
     (sym (groups_of_small (9 - len) n small))
 
+-- ---- a loop that counts them
+
+pub counted_more : (more n : ℕ) → more ≤ 8 → 128 ≤ n
+    → more + 1 + length (groups_of (9 - (more + 1)) (n / 128))
+    ≡ more + length (groups_of (9 - more) n)
+counted_more more n room large =
+    let e : 9 - more ≡ suc (9 - (more + 1)) = omega arith in
+    let f : length (groups_of (9 - more) n) ≡ suc (length (groups_of (9 - (more + 1)) (n / 128))) =
+    ap length (ap (λ k. groups_of k n) e ∙ groups_of_large (9 - (more + 1)) n large) in
+    omega arith
+
+pub counted_all : (more n : ℕ) → n < 128 → more + 1 ≡ more + length (groups_of (9 - more) n)
+counted_all more n small =
+    let f : length (groups_of (9 - more) n) ≡ 1 = ap length (groups_of_small (9 - more) n small) in
+    omega arith
+
 -- ---- they spell the number
 
 pub Fits_of : (fuel most top n : ℕ) → 0 < most → top < 128 → most ≤ suc fuel

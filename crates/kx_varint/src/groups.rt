@@ -198,6 +198,27 @@ fn folded(n: i64) -> u64
     }
 }
 
+// How many groups a number has.
+fn groups_len(n: u64) -> usize
+    ensures { result ≡ length (groups_of 9 n) }
+{
+    let mut more = 0;
+    let mut rest = n;
+    while 128 <= rest {
+        rest /= 128;
+        more += 1;
+    }
+    more + 1
+}
+
+/// How many bytes the shortest spelling of a 32-bit number takes, 1 to 5. Takes no memory.
+#[tactic(auto, unfolding(crate::specs::Varint::shortest_text))]
+pub fn varint_len(n: i32) -> usize
+    ensures { result ≡ length (shortest_text n) }
+{
+    groups_len(folded(i64::from(n)))
+}
+
 /// Appends the shortest spelling of a 32-bit number, 1 to 5 bytes.
 ///
 /// # Errors

@@ -15,5 +15,5 @@ pub use fixed::{
 };
 pub use groups::{
     known_varint, known_varlong, put_varint, put_varlong, read_varint, read_varlong,
-    varints_are_read_again,
+    varint_len, varints_are_read_again,
 };
