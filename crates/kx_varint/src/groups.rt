@@ -200,7 +200,8 @@ fn folded(n: i64) -> u64
 
 // How many groups a number has.
 fn groups_len(n: u64) -> usize
-    ensures { result ≡ length (groups_of 9 n) }
+    ensures value { result ≡ length (groups_of 9 n) }
+    ensures bound { result ≤ 10 }
 {
     let mut more = 0;
     let mut rest = n;
@@ -214,7 +215,8 @@ fn groups_len(n: u64) -> usize
 /// How many bytes the shortest spelling of a 32-bit number takes, 1 to 5. Takes no memory.
 #[tactic(auto, unfolding(crate::specs::Varint::shortest_text))]
 pub fn varint_len(n: i32) -> usize
-    ensures { result ≡ length (shortest_text n) }
+    ensures value { result ≡ length (shortest_text n) }
+    ensures bound { result ≤ 10 }
 {
     groups_len(folded(i64::from(n)))
 }

@@ -14,6 +14,6 @@ pub use fixed::{
     read_u64, u32_at,
 };
 pub use groups::{
-    known_varint, known_varlong, put_varint, put_varlong, read_varint, read_varlong,
-    varint_len, varints_are_read_again,
+    known_varint, known_varlong, put_varint, put_varlong, read_varint, read_varlong, varint_len,
+    varints_are_read_again,
 };

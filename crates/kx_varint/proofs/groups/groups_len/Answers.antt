@@ -12,7 +12,7 @@ loop-rest-preserved c =
       left = left_more l.more l.rest room l.invariant.left;
     }
 
-pub returns : goal.returns
-returns c =
+pub returns-clause-value : goal.returns-clause-value
+returns-clause-value c =
     let l = c.loop-rest in
     counted_all l.more l.rest (omega arith) ∙ l.invariant.so_far
