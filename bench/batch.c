@@ -58,6 +58,6 @@ size_t put_batch(uint8_t *out, int records, size_t value_len, const struct produ
     put_big(out + 8, len - 12, 4);
     put_big(out + 12, 0, 4);
     out[16] = 2;
-    put_big(out + 17, crc_eight(out + 21, len - 21), 4);
+    put_big(out + 17, crc_sixteen(out + 21, len - 21), 4);
     return len;
 }

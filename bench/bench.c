@@ -1,20 +1,12 @@
 /* Compares the library with other implementations of the same, in one run on one machine. Each line
- * gives a ratio first, and the times that it comes from. */
+ * begins with a ratio of times and its spread. */
 #include "bench.h"
 
 #include <stdio.h>
 #include <stdlib.h>
-#include <string.h>
 #include <time.h>
 
-enum { MIB = 1 << 20 };
-
-double now(void)
-{
-    struct timespec t;
-    clock_gettime(CLOCK_MONOTONIC, &t);
-    return t.tv_sec * 1e9 + t.tv_nsec;
-}
+enum { MOST_TURNS = 64 };
 
 void fail(const char *what)
 {
@@ -30,86 +22,47 @@ void *get_room(size_t len)
     return bytes;
 }
 
-typedef uint32_t crc_of(const uint8_t *, size_t);
-
-/* The least nanoseconds per byte of some turns. */
-static double time_crc(crc_of *crc, const uint8_t *bytes, size_t len, uint32_t wanted)
+/* The nanoseconds that this thread had a processor for: other work on the machine isn't counted. */
+static double now(void)
 {
-    double best = 1e18;
-    for (int turn = 0; turn < TURNS; turn++) {
-        double start = now();
-        uint32_t sum = crc(bytes, len);
-        double taken = now() - start;
-        if (sum != wanted)
-            fail("checksums differ");
-        if (taken < best)
-            best = taken;
+    struct timespec t;
+    clock_gettime(CLOCK_THREAD_CPUTIME_ID, &t);
+    return t.tv_sec * 1e9 + t.tv_nsec;
+}
+
+/* The nanoseconds of a piece of a task's work. */
+static double time_of(struct task task)
+{
+    double start = now();
+    task.run(task.what);
+    return (now() - start) / task.units;
+}
+
+static int by_size(const void *left, const void *right)
+{
+    double a = *(const double *)left, b = *(const double *)right;
+    return (a > b) - (a < b);
+}
+
+void compare(const char *line, struct task own, struct task other, int turns, const char *unit)
+{
+    double owns[MOST_TURNS], others[MOST_TURNS], ratios[MOST_TURNS];
+    for (int turn = 0; turn < turns; turn++) {
+        if (turn % 2 == 0) {
+            owns[turn] = time_of(own);
+            others[turn] = time_of(other);
+        } else {
+            others[turn] = time_of(other);
+            owns[turn] = time_of(own);
+        }
+        ratios[turn] = owns[turn] / others[turn];
     }
-    return best / len;
-}
-
-static void bench_crc(void)
-{
-    size_t len = 16 * MIB;
-    uint8_t *bytes = get_room(len);
-    for (size_t i = 0; i < len; i++)
-        bytes[i] = (uint8_t)(i * 2654435761u >> 24);
-    uint32_t sum = crc_eight(bytes, len);
-    double own = time_crc(kx_bench_crc32c, bytes, len, sum);
-    double slicing = time_crc(crc_eight, bytes, len, sum);
-    double instruction = time_crc(crc_instruction, bytes, len, sum);
-    printf("crc32c / slicing-by-8 in C        %7.2f   (%.3f and %.3f ns a byte)\n", own / slicing,
-        own, slicing);
-    printf("crc32c / the crc32 instruction    %7.2f   (%.3f and %.3f ns a byte)\n",
-        own / instruction, own, instruction);
-    free(bytes);
-}
-
-/* Batches of 100-byte records, 16 KiB each. */
-enum { VALUE = 100, RECORDS = 150, BATCHES = 400 };
-
-static double read_with_kafka_python(const char *path, size_t wanted)
-{
-    char command[512];
-    snprintf(command, sizeof command, "/usr/bin/python3 read_kafka_python.py %s", path);
-    FILE *pipe = popen(command, "r");
-    double taken = 0;
-    size_t size = 0;
-    if (!pipe || fscanf(pipe, "%lf %zu", &taken, &size) != 2 || pclose(pipe) != 0)
-        return 0;
-    if (size != wanted)
-        fail("kafka-python reads something else");
-    return taken;
-}
-
-static void bench_read(const char *path)
-{
-    uint8_t *bytes = get_room((size_t)BATCHES * 20000);
-    size_t len = 0;
-    for (int i = 0; i < BATCHES; i++)
-        len += put_batch(bytes + len, RECORDS, VALUE, &no_producer);
-    size_t one = len / BATCHES, wanted = (size_t)RECORDS * VALUE;
-    double best = 1e18;
-    for (int turn = 0; turn < TURNS; turn++) {
-        double start = now();
-        for (size_t at = 0; at < len; at += one)
-            if (kx_bench_read(bytes + at, len - at) != wanted)
-                fail("a batch isn't read");
-        double taken = (now() - start) / ((double)BATCHES * RECORDS);
-        if (taken < best)
-            best = taken;
-    }
-    FILE *file = fopen(path, "wb");
-    if (!file || fwrite(bytes, 1, len, file) != len || fclose(file) != 0)
-        fail("can't write the batches");
-    double python = read_with_kafka_python(path, wanted * BATCHES);
-    if (python > 0)
-        printf("reading / kafka-python            %7.4f   (%.1f and %.1f ns a record of 100 bytes)\n",
-            best / python, best, python);
-    else
-        printf("reading                                     (%.1f ns a record of 100 bytes; no kafka-python)\n",
-            best);
-    free(bytes);
+    qsort(owns, (size_t)turns, sizeof owns[0], by_size);
+    qsort(others, (size_t)turns, sizeof others[0], by_size);
+    qsort(ratios, (size_t)turns, sizeof ratios[0], by_size);
+    printf("%8.3f (%.3f to %.3f)  %s: %.4g and %.4g %s\n", ratios[turns / 2], ratios[0],
+        ratios[turns - 1], line, owns[turns / 2], others[turns / 2], unit);
+    fflush(stdout);
 }
 
 int main(int argc, char **argv)
@@ -119,6 +72,7 @@ int main(int argc, char **argv)
     crc_tables();
     bench_crc();
     bench_read(argv[1]);
+    bench_build();
     bench_produce();
     bench_growth();
     bench_pages();

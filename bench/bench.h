@@ -6,13 +6,29 @@
 #include <stddef.h>
 #include <stdint.h>
 
-/* How often each is measured; the least time counts. */
-enum { TURNS = 9 };
-
-/* bench.c: the time in nanoseconds, the end of a run that can't go on, and memory. */
-double now(void);
+/* bench.c: the end of a run that can't go on, and memory. */
 _Noreturn void fail(const char *what);
 void *get_room(size_t len);
+
+/* bench.c: something to be timed, and how many pieces of work it does. */
+struct task {
+    void (*run)(void *what);
+    void *what;
+    double units;
+};
+
+/* Runs two tasks so often, one after the other, each first in every other turn, and prints a line:
+ * the ratio of the times of a piece of the first and one of the second, as the median of the turns,
+ * with the least and the most; and the median times of a piece. */
+void compare(const char *line, struct task own, struct task other, int turns, const char *unit);
+
+/* bench.c: how often a pair is run, unless it takes long. */
+enum { TURNS = 21 };
+
+/* reads.c: checksums, reading and building batches. */
+void bench_crc(void);
+void bench_read(const char *path);
+void bench_build(void);
 
 /* logs.c: appending, and reading pages. */
 void bench_produce(void);
@@ -52,6 +68,7 @@ size_t parse_twice(const uint8_t *bytes, size_t len);
 /* the library: crates/kx_bench */
 uint32_t kx_bench_crc32c(const uint8_t *bytes, size_t len);
 size_t kx_bench_read(const uint8_t *bytes, size_t len);
+size_t kx_bench_build(uint64_t records, uint64_t count);
 int64_t kx_bench_produce(const uint8_t *text, size_t len, uint64_t count);
 int64_t kx_bench_pages(uint64_t transactions, uint64_t pages);
 int64_t kx_bench_serve(const uint8_t *stream, size_t len);

@@ -1,14 +1,13 @@
 /* Streams of frames through the server of a partition: batches that it appends, and pages. */
 #include "bench.h"
 
-#include <stdio.h>
 #include <stdlib.h>
 #include <string.h>
 
 /* A batch of 16 KiB: 150 records of 100 bytes. Pages have up to 1 MiB. */
-enum { RECORDS = 150, VALUE = 100, PRODUCES = 4000, FETCHES = 2000, FETCHED_BATCHES = 64 };
+enum { RECORDS = 150, VALUE = 100, PRODUCES = 1000, FETCHES = 500, FETCHED_BATCHES = 64 };
 
-enum { PAGE = 1 << 20, FRAME_ROOM = 20100 };
+enum { PAGE = 1 << 20, FRAME_ROOM = 20100, SERVE_TURNS = 9 };
 
 static uint8_t *put_number(uint8_t *out, uint64_t number, int bytes)
 {
@@ -46,73 +45,70 @@ static uint8_t *put_fetch(uint8_t *out)
     return put_number(out, 0, 1);
 }
 
-/* The least nanoseconds that it takes to serve a stream, and the bytes that are answered. */
-static double time_serve(const uint8_t *stream, size_t len, int64_t *answered)
+struct stream {
+    const uint8_t *at;
+    size_t len;
+    int64_t answered;
+};
+
+static void serve(void *what)
 {
-    double best = 1e18;
-    for (int turn = 0; turn < TURNS; turn++) {
-        double start = now();
-        *answered = kx_bench_serve(stream, len);
-        double taken = now() - start;
-        if (*answered < 0)
-            fail("a stream isn't served");
-        if (taken < best)
-            best = taken;
-    }
-    return best;
+    struct stream *stream = what;
+    stream->answered = kx_bench_serve(stream->at, stream->len);
+    if (stream->answered < 0)
+        fail("a stream isn't served");
 }
 
-/* The least nanoseconds that it takes to copy so many bytes, a page at a time. */
-static double time_copy(size_t len)
+struct copies {
+    uint8_t *from;
+    uint8_t *to;
+    size_t len;
+};
+
+/* Copies so many bytes, a page at a time. */
+static void copy(void *what)
 {
-    uint8_t *from = get_room(PAGE), *to = get_room(PAGE);
-    memset(from, 1, PAGE);
-    double best = 1e18;
-    for (int turn = 0; turn < TURNS; turn++) {
-        double start = now();
-        for (size_t done = 0; done < len; done += PAGE) {
-            from[0]++;
-            memcpy(to, from, PAGE);
-            if (to[PAGE / 2] != 1)
-                fail("a copy differs");
-        }
-        double taken = now() - start;
-        if (taken < best)
-            best = taken;
+    struct copies *copies = what;
+    for (size_t done = 0; done < copies->len; done += PAGE) {
+        copies->from[0]++;
+        memcpy(copies->to, copies->from, PAGE);
+        if (copies->to[PAGE / 2] != 1)
+            fail("a copy differs");
     }
-    free(from);
-    free(to);
-    return best;
 }
 
-static void print(const char *what, double own, double least, size_t frames, size_t bytes)
+/* Serves a stream of so many frames beside a copy of as many bytes as it sends or is answered. */
+static void compare_stream(const char *line, struct stream stream, size_t len, size_t frames)
 {
-    printf("%-35s %7.2f   (%.0f frames a second, %.2f GB a second; a copy %.2f GB a second)\n", what,
-        own / least, frames * 1e9 / own, bytes / own, bytes / least);
+    struct copies copies = {get_room(PAGE), get_room(PAGE), len};
+    memset(copies.from, 1, PAGE);
+    memset(copies.to, 1, PAGE);
+    struct task own = {serve, &stream, (double)frames}, other = {copy, &copies, (double)frames};
+    compare(line, own, other, SERVE_TURNS, "ns a frame");
+    free(copies.from);
+    free(copies.to);
 }
 
 void bench_serve(void)
 {
     uint8_t *text = get_room(20000);
     size_t len = put_batch(text, RECORDS, VALUE, &no_producer);
-    uint8_t *stream = get_room((size_t)PRODUCES * FRAME_ROOM);
-    int64_t answered;
+    uint8_t *bytes = get_room((size_t)PRODUCES * FRAME_ROOM);
 
-    uint8_t *end = stream;
+    uint8_t *end = bytes;
     for (int i = 0; i < PRODUCES; i++)
         end = put_produce(end, text, len);
-    size_t sent = (size_t)(end - stream);
-    double own = time_serve(stream, sent, &answered);
-    print("serving Produce / a copy in C", own, time_copy(sent), PRODUCES, sent);
+    struct stream produces = {bytes, (size_t)(end - bytes), 0};
+    compare_stream("serving Produce of 16 KiB / a copy", produces, produces.len, PRODUCES);
 
-    end = stream;
+    end = bytes;
     for (int i = 0; i < FETCHED_BATCHES; i++)
         end = put_produce(end, text, len);
     for (int i = 0; i < FETCHES; i++)
         end = put_fetch(end);
-    own = time_serve(stream, (size_t)(end - stream), &answered);
-    print("serving Fetch / a copy in C", own, time_copy((size_t)answered), FETCHES,
-        (size_t)answered);
-    free(stream);
+    struct stream fetches = {bytes, (size_t)(end - bytes), 0};
+    serve(&fetches);
+    compare_stream("serving Fetch of 1 MiB / a copy", fetches, (size_t)fetches.answered, FETCHES);
+    free(bytes);
     free(text);
 }

@@ -1,36 +1,33 @@
 /* Transactions of a coordinator in memory, of few and of many transactional ids. */
 #include "bench.h"
 
-#include <stdio.h>
+/* Each id begins a transaction, and then so many are committed for each id, each with the answer to
+ * its marker and the beginning of the next. */
+enum { ENDED = 10, TXN_TURNS = 5 };
 
-/* How many transactions are ended; each turn commits one, answers its marker and begins the next. */
-enum { ENDED = 100000 };
+struct ids {
+    uint64_t count;
+    uint64_t times;
+};
 
-/* The least nanoseconds of the first transactions of so many ids, and so many turns. */
-static double time_transactions(uint64_t txns, uint64_t turns)
+static void run_transactions(void *what)
 {
-    double best = 1e18;
-    for (int turn = 0; turn < TURNS; turn++) {
-        double start = now();
+    struct ids *ids = what;
+    uint64_t turns = ENDED * ids->count;
+    for (uint64_t i = 0; i < ids->times; i++)
         /* Two replies for each id; a reply, a marker and a reply for each turn. */
-        if (kx_bench_transactions(txns, turns) != (int64_t)(2 * txns + 3 * turns))
+        if (kx_bench_transactions(ids->count, turns) != (int64_t)(2 * ids->count + 3 * turns))
             fail("a request is refused");
-        double taken = now() - start;
-        if (taken < best)
-            best = taken;
-    }
-    return best;
 }
 
 void bench_transactions(void)
 {
-    static const uint64_t txns[] = {1000, 10000, 100000};
-    double first = 0;
-    for (int i = 0; i < 3; i++) {
-        double taken = (time_transactions(txns[i], ENDED) - time_transactions(txns[i], 0)) / ENDED;
-        if (i == 0)
-            first = taken;
-        printf("a transaction of %7llu ids / of 1000            %7.2f   (%.0f ns)\n",
-            (unsigned long long)txns[i], taken / first, taken);
-    }
+    struct ids few = {1000, 10}, more = {10000, 1}, many = {100000, 1};
+    struct task one = {run_transactions, &few, (double)few.count * few.times * ENDED};
+    struct task two = {run_transactions, &more, (double)more.count * more.times * ENDED};
+    struct task three = {run_transactions, &many, (double)many.count * many.times * ENDED};
+    compare("a coordinator's transactions, of 10^4 ids / of 10^3", two, one, TXN_TURNS,
+        "ns a transaction");
+    compare("a coordinator's transactions, of 10^5 ids / of 10^3", three, one, TXN_TURNS,
+        "ns a transaction");
 }

@@ -101,9 +101,14 @@ fn records_from(alloc: Global, partition: &Partition<MemStore>, from: i64) -> Op
     Some(count)
 }
 
+// How many offsets a page of 64 KiB has at most: no page begins within the last ones, so each is
+// full, in a short log as in a long one.
+const PAGE_OFFSETS: i64 = 400;
+
 // The offset of the next page: they go through the log in steps that share no factor with most
 // lengths, so that no page is near the one before it.
 fn next_offset(offset: i64, end: i64) -> i64 {
+    let end = end.saturating_sub(PAGE_OFFSETS);
     if end <= 0 {
         return 0;
     }

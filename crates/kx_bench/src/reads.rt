@@ -1,10 +1,11 @@
-//! Checksums and reading.
-ghost use Rattle.std.specs.Prelude.{◌≡◌, min};
-ghost use Rattle.kx_batch.specs.Batch.{batch_at};
+//! Checksums, reading and building.
+ghost use Rattle.std.specs.Prelude.{◌≡◌, ◌≤◌, IfOk, min};
+ghost use Rattle.kx_batch.specs.Batch.{batch_at, batch_limit};
 ghost use Rattle.kx_batch.specs.Crc.{crc32c_of};
 ghost use Rattle.kx_bench.specs.Reads.{read_size, value_size, values_size};
 
-use kx_batch::{BatchView, RecordView, Records, crc32c};
+use kx_batch::{BatchBuilder, BatchView, BuildFault, RecordView, Records, crc32c};
+use std::alloc::Global;
 
 /// The CRC-32C of the bytes, as [`crc32c`] gives it (RFC 3720).
 #[unsafe(no_mangle)]
@@ -43,4 +44,35 @@ pub extern "C" fn kx_bench_read(bytes: &[u8]) -> usize
         Ok((batch, _)) => values_size(batch.records()),
         Err(_) => 0,
     }
+}
+
+// The value of each record that is built.
+const VALUE: [u8; 100] = [b'x'; 100];
+
+// How many bytes a batch of so many records has.
+fn built_size(alloc: Global, records: u64) -> Result<usize, BuildFault>
+    ensures { IfOk result (λ size. size ≤ batch_limit) }
+{
+    let mut builder = BatchBuilder::new(alloc, 0, -1, -1, -1);
+    for _ in 0..records {
+        builder.push(None, Some(&VALUE), &[])?;
+    }
+    let text = builder.finish()?;
+    Ok(text.len())
+}
+
+/// Builds a plain batch of so many records of 100 bytes so often: how many bytes it has, or 0 where
+/// it isn't built.
+#[unsafe(no_mangle)]
+pub extern "C" fn kx_bench_build(alloc: Global, records: u64, count: u64) -> usize
+    ensures { result ≤ batch_limit }
+{
+    let mut size = 0;
+    for _ in 0..count {
+        size = match built_size(alloc, records) {
+            Ok(size) => size,
+            Err(_) => return 0,
+        };
+    }
+    size
 }
