@@ -72,7 +72,8 @@ static void read_all(void *what)
 static double read_with_kafka_python(const char *path, size_t wanted)
 {
     char command[512];
-    snprintf(command, sizeof command, "/usr/bin/python3 read_kafka_python.py %s 2> /dev/null", path);
+    snprintf(command, sizeof command, "/usr/bin/python3 read_kafka_python.py %s 2> /dev/null",
+        path);
     FILE *pipe = popen(command, "r");
     double taken = 0;
     size_t size = 0;

@@ -1,6 +1,6 @@
-//! What the benchmark of `bench/` measures, for C: checksums, reading, building and appending batches, pages
-//! of a log, transactions of a coordinator, and a stream of frames, each in one call over the
-//! crates that do it.
+//! What the benchmark of `bench/` measures, for C: checksums, reading, building and appending
+//! batches, pages of a log, transactions of a coordinator, and a stream of frames, each in one call
+//! over the crates that do it.
 #![tactic(auto)]
 
 mod coordinators;
