@@ -23,7 +23,7 @@ struct task {
 void compare(const char *line, struct task own, struct task other, int turns, const char *unit);
 
 /* bench.c: how often a pair is run, unless it takes long. */
-enum { TURNS = 21 };
+enum { TURNS = 61 };
 
 /* reads.c: checksums, reading and building batches. */
 void bench_crc(void);

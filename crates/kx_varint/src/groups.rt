@@ -199,6 +199,7 @@ fn folded(n: i64) -> u64
 }
 
 // How many groups a number has.
+#[inline(always)]
 fn groups_len(n: u64) -> usize
     ensures value { result ≡ length (groups_of 9 n) }
     ensures bound { result ≤ 10 }
@@ -214,6 +215,7 @@ fn groups_len(n: u64) -> usize
 
 /// How many bytes the shortest spelling of a 32-bit number takes, 1 to 5. Takes no memory.
 #[tactic(auto, unfolding(crate::specs::Varint::shortest_text))]
+#[inline(always)]
 pub fn varint_len(n: i32) -> usize
     ensures value { result ≡ length (shortest_text n) }
     ensures bound { result ≤ 10 }
@@ -227,6 +229,7 @@ pub fn varint_len(n: i32) -> usize
 ///
 /// Only for want of memory; then `out` is as before.
 #[tactic(auto, unfolding(crate::specs::Varint::shortest_text))]
+#[inline(always)]
 pub fn put_varint(out: &mut Vec<u8>, n: i32) -> Result<(), AllocError>
     ensures ok { OnOk result (out.new.items ≡ out.old.items ++ shortest_text n) }
     ensures shortest { IsShortest varint n (shortest_text n) }
@@ -241,6 +244,7 @@ pub fn put_varint(out: &mut Vec<u8>, n: i32) -> Result<(), AllocError>
 ///
 /// Only for want of memory; then `out` is as before.
 #[tactic(auto, unfolding(crate::specs::Varint::shortest_text))]
+#[inline(always)]
 pub fn put_varlong(out: &mut Vec<u8>, n: i64) -> Result<(), AllocError>
     ensures ok { OnOk result (out.new.items ≡ out.old.items ++ shortest_text n) }
     ensures shortest { IsShortest varlong n (shortest_text n) }
