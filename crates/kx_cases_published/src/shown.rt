@@ -1,0 +1,157 @@
+//! A script over one node whose log is published, and what it has to tell. A line that begins with
+//! `#` says nothing. The first other line is `node N`, which makes the node, of partition 0, with
+//! places for N readers, and `session` has the lines behind it; or `locked R N`, which stands alone:
+//! R threads take pages of 64 KiB under a node's lock while N batches are put under it, and it tells
+//! how many.
+ghost use Rattle.std.specs.Prelude.{◌≡◌, ◌≤◌, IfOk};
+ghost use Rattle.kx_broker.specs.Serving.{StandsFor};
+ghost use Rattle.kx_machine.specs.Meaning.{AtPartition};
+ghost use Rattle.kx_model.specs.PartitionNode.{empty_partition};
+
+use crate::locked::compare;
+use crate::session::Session;
+use kx_broker::PartitionMachine;
+use kx_cases::{StepFault, Tally, value};
+use kx_log::MemStore;
+use kx_machine::Making;
+use kx_message::PartitionId;
+use kx_nodes::Locked;
+use kx_published::book::{Naming, Opened};
+use kx_publishing::PublishedNode;
+use std::alloc::{AllocError, Global};
+use std::marker::Brand;
+use std::rt::Files;
+use std::sync::Wait;
+use std::thread::Threads;
+use std::{fs, io};
+
+// The server of a partition, as it is made, with an empty log in memory. The offsets partition's is
+// another one.
+fn empty_server(alloc: Global, number: PartitionId) -> Result<PartitionMachine<MemStore>, StepFault>
+    ensures { IfOk result (StandsFor (AtPartition number empty_partition)) }
+{
+    if number == PartitionId::OFFSETS {
+        return Err(StepFault::Unknown);
+    }
+    match PartitionMachine::new(alloc, number, MemStore::new(Vec::new(alloc))) {
+        Ok(server) => Ok(server),
+        Err(_) => Err(StepFault::Memory(AllocError)),
+    }
+}
+
+// What a script tells, of the node of the partition whose book was opened.
+fn told_by<J: Naming + Send + 'static, R: Threads + Wait + Copy + Send + 'static>(
+    rt: R,
+    alloc: Global,
+    opened: Opened,
+    readers: u32,
+    script: String,
+) -> Result<String, StepFault>
+    requires { opened.seen.book ≡ J.book opened.partition }
+{
+    let number = opened.partition;
+    if readers == 0 {
+        return Err(StepFault::Unknown);
+    }
+    let machine = empty_server(alloc, number)?;
+    let node = PublishedNode::<_, _, J, R>::publishing(
+        rt,
+        alloc,
+        Making::Partition(number),
+        machine,
+        opened,
+        readers as usize,
+    )?;
+    Session::new(rt, alloc, node).run(script.as_str())
+}
+
+// The same, of partition 0. The name of the partition's book is picked here.
+fn told_of<R: Threads + Wait + Copy + Send + 'static>(
+    rt: R,
+    alloc: Global,
+    readers: u32,
+    script: String,
+) -> Result<String, StepFault> {
+    let number = PartitionId::try_from(0).map_err(|_| StepFault::Unknown)?;
+    told_by::<Brand, R>(rt, alloc, Opened::new(number), readers, script)
+}
+
+// What so many threads tell that take pages under a node's lock, while so many batches are put.
+fn told_locked<R: Threads + Wait + Copy + Send + 'static>(
+    rt: R,
+    alloc: Global,
+    readers: usize,
+    count: u64,
+) -> Result<String, StepFault> {
+    let number = PartitionId::try_from(0).map_err(|_| StepFault::Unknown)?;
+    let machine = empty_server(alloc, number)?;
+    let node = Locked::new(alloc, Making::Partition(number), machine);
+    compare(rt, alloc, node, readers, count)
+}
+
+// What a script is about.
+#[derive(Clone, Copy)]
+enum Stage {
+    // a node with places for so many readers
+    Node(u32),
+    // so many threads that take pages under a lock, while so many batches are put
+    Locked(usize, u64),
+}
+
+fn stage_of(script: &str) -> Result<Stage, StepFault> {
+    let line = script
+        .lines()
+        .find(|line| !line.starts_with('#'))
+        .unwrap_or("");
+    if let Some(readers) = line.strip_prefix("node ") {
+        return Ok(Stage::Node(value(readers)?));
+    }
+    let words = line.strip_prefix("locked ").unwrap_or("");
+    let (readers, count) = words.split_once(' ').ok_or(StepFault::Unknown)?;
+    Ok(Stage::Locked(value(readers)?, value(count)?))
+}
+
+// What a script tells.
+fn told<R: Threads + Wait + Copy + Send + 'static>(
+    rt: R,
+    alloc: Global,
+    script: String,
+) -> Result<String, StepFault> {
+    match stage_of(script.as_str())? {
+        Stage::Node(readers) => told_of(rt, alloc, readers, script),
+        Stage::Locked(readers, count) => told_locked(rt, alloc, readers, count),
+    }
+}
+
+// Tells what came in place of what is wanted.
+fn tell_other(rt: &impl Print, told: Result<String, StepFault>) -> io::Result<()> {
+    match told {
+        Ok(told) => print!(rt; "{told}"),
+        Err(fault) => println!(rt; "{fault}"),
+    }
+}
+
+/// Carries out the script NAME.shown, which has to tell NAME.out, and prints `ok NAME` or
+/// `FAILED NAME`.
+pub fn try_shown<R: Files + Print + AllocGlobal + Threads + Wait + Copy + Send + 'static>(
+    rt: &R,
+    name: &str,
+) -> io::Result<Tally>
+    ensures { IfOk result (λ tally. (tally.tried ≡ 1) × (tally.failed ≤ 1)) }
+{
+    let alloc = rt.alloc();
+    let script = fs::read_to_string(rt, format!(in alloc; "{name}.shown")?)?;
+    let wanted = fs::read_to_string(rt, format!(in alloc; "{name}.out")?)?;
+    let told = told(*rt, alloc, script);
+    let is_right = matches!(&told, Ok(told) if told.as_str() == wanted.as_str());
+    if is_right {
+        println!(rt; "ok {name}")?;
+    } else {
+        println!(rt; "FAILED {name}")?;
+        tell_other(rt, told)?;
+    }
+    Ok(Tally {
+        tried: 1,
+        failed: u64::from(!is_right),
+    })
+}
