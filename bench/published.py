@@ -1,10 +1,11 @@
 #!/usr/bin/env python3
-"""Pages a second of a log that grows meanwhile: published.py [PUTS [TURNS]].
+"""Pages a second of a log that grows meanwhile: published.py [SECONDS].
 
 One thread puts batches of one record of 64 bytes and publishes each at once, while 1, 2 and 4 others
 take pages of 64 KiB of the published log; then the same with the log under a lock, which each
-reader takes for its page and the writer for each put. Of TURNS turns the one with the most pages a
-second is told. It runs crates/kx_cases_published_run, which `rt run` there proves and builds.
+reader takes for its page and the writer for each put. Each is done with twice as many puts until it
+takes SECONDS (2), or there are 800,000 puts. It runs crates/kx_cases_published_run, which `rt run`
+there proves and builds.
 """
 import os
 import subprocess
@@ -16,8 +17,8 @@ PROGRAM = os.path.join(
     os.path.dirname(os.path.abspath(__file__)),
     "../crates/kx_cases_published_run/out/kx_cases_published_run",
 )
-PUTS = int(sys.argv[1]) if len(sys.argv) > 1 else 20_000
-TURNS = int(sys.argv[2]) if len(sys.argv) > 2 else 5
+SECONDS = float(sys.argv[1]) if len(sys.argv) > 1 else 2.0
+MOST_PUTS = 800_000
 
 
 def run(folder, script):
@@ -32,19 +33,23 @@ def run(folder, script):
     return taken, done.stdout.splitlines()[-2]
 
 
+def measure(folder, name, form):
+    """Tells the pages and puts a second of a script with enough puts."""
+    puts, taken, told = 50, 0.0, ""
+    while taken < SECONDS and puts < MOST_PUTS:
+        puts *= 2
+        taken, told = run(folder, form.format(puts))
+    pages = int(told.split()[3])
+    print(f"{name}: {pages / taken:,.0f} pages and {puts / taken:,.0f} puts a second", end="")
+    print(f" ({puts:,} puts in {taken:.1f} s)", flush=True)
+
+
 def main():
     with tempfile.TemporaryDirectory() as folder:
         for readers in (1, 2, 4):
-            for name, script in (
-                ("published", f"node {readers}\npages {readers} {PUTS}\n"),
-                ("locked", f"locked {readers} {PUTS}\n"),
-            ):
-                turns = []
-                for _ in range(TURNS):
-                    taken, told = run(folder, script)
-                    turns.append((int(told.split()[3]) / taken, PUTS / taken))
-                pages, puts = max(turns)
-                print(f"{name} {readers} readers: {pages:,.0f} pages, {puts:,.0f} puts a second")
+            form = f"node {readers}\npages {readers} {{}}\n"
+            measure(folder, f"published, {readers} readers", form)
+            measure(folder, f"locked, {readers} readers", f"locked {readers} {{}}\n")
 
 
 if __name__ == "__main__":
