@@ -1,0 +1,28 @@
+-- The nodes of partitions, as their logs were opened.
+use Rattle.std.specs.Prelude.{◌≡◌, ◌<◌, ◌+◌, ℕ, List, [], ◌∷◌}
+use Rattle.logbook.specs.Pages.{Book}
+use Rattle.kx_broker.specs.Serving.{opened_partition}
+use Rattle.kx_laws.specs.Grown.{IsGrown}
+use Rattle.kx_log.specs.Log.{IsLog}
+use Rattle.kx_machine.specs.Meaning.{AtPartition}
+use Rattle.kx_message.specs.Ranges.{data_partitions}
+use Rattle.kx_published.specs.declared.book.Opened.{Opened}
+use Rattle.kx_serving.specs.Brokers.{broker_log, broker_stands}
+use Rattle.kx_serving.specs.declared.machine.BrokerMachine.{BrokerMachine}
+
+-- the machine is the server of the partition whose log was opened, and has parked nothing
+pub record IsOpened {S : Type 0} (number : ℕ) (machine : BrokerMachine S) : Type 0 where
+  pub stands : broker_stands
+      (AtPartition number (opened_partition (broker_log machine))) machine
+  pub placed : IsLog (broker_log machine)
+  pub grown : IsGrown (broker_log machine)
+
+-- the book of a data partition's publishes is the one that its name stands for
+pub record HasBook (named : ℕ → Book) (opened : Opened) : Type 0 where
+  pub is_data : opened.partition < data_partitions
+  pub book : opened.seen.book ≡ named opened.partition
+
+-- books of partitions, from this one on
+abbrev pub InOrder : ℕ → List Opened → Type 0
+InOrder number [] = Unit {0}
+InOrder number (opened ∷ more) = (opened.partition ≡ number) × InOrder (number + 1) more
