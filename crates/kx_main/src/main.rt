@@ -1,22 +1,30 @@
 //! The program. `kx_main sim` runs a script over a world of nodes whose logs are held in memory;
-//! `kx_main dump FILE` prints the record batches that a file holds. The world is kx_core's, what a
-//! script's lines do kx_script's, and dumps are kx_text's; here are the arguments, streams and
-//! files, and which status each outcome ends with.
+//! `kx_main dump FILE` prints the record batches that a file holds; `kx_main serve` serves clients
+//! over sockets. The world is kx_core's, what a script's lines do kx_script's, dumps are kx_text's,
+//! and the server is kx_server's; here are the arguments, streams and files, and which status each
+//! outcome ends with.
 #![tactic(auto)]
 
+mod serving;
+
+use crate::serving::{serve, serve_usage};
 use clap::error::ErrorKind as UsageFault;
 use clap::{Arg, ArgAction, Command};
 use kx_script::run_sim;
 use kx_text::{DumpFault, Ending, ScriptFault, run_dump};
 use std::alloc::{AllocError, Global};
 use std::env::Env;
-use std::io::{BufReader, BufWriter, ErrorKind};
+use std::fs::{File, Files};
+use std::io::{BufReader, BufWriter, ErrorKind, IsTerminal};
+use std::net::{Net, TcpListener, TcpStream};
 use std::process::ExitCode;
-use std::rt::Files;
+use std::sync::Wait;
+use std::thread::Threads;
+use std::time::Clock;
 use std::{env, fmt, fs, io};
 
 // One line on standard error, where it can be written, and how the program ends.
-fn failed(rt: &impl Eprint, fault: impl fmt::Display + Drop) -> Ending {
+pub(crate) fn failed(rt: &impl Eprint, fault: impl fmt::Display + Drop) -> Ending {
     let _ = eprintln!(rt; "kx_main: {fault}");
     Ending::Failed
 }
@@ -62,7 +70,7 @@ fn dump(rt: &(impl Files + Print + Eprint + AllocGlobal), path: &str) -> Ending 
     }
 }
 
-// The command line: `kx_main sim` or `kx_main dump FILE`.
+// The command line: `kx_main sim`, `kx_main dump FILE` or `kx_main serve`.
 fn usage<'a>(alloc: Global) -> Result<Command<'a>, AllocError> {
     let sim = Command::new(alloc, "sim").about(
         "Runs the script on standard input and writes its answers to standard output",
@@ -78,7 +86,8 @@ fn usage<'a>(alloc: Global) -> Result<Command<'a>, AllocError> {
         .about("An exactly-once core for Kafka's protocol")
         .subcommand_required(true)
         .subcommand(sim)?
-        .subcommand(dump)
+        .subcommand(dump)?
+        .subcommand(serve_usage(alloc)?)
 }
 
 // The arguments, or how the program ends where they can't be had. Those that aren't text are wrong.
@@ -111,8 +120,24 @@ fn refused(rt: &(impl Print + Eprint), error: &clap::Error) -> Ending {
     }
 }
 
-// Does what the arguments ask for.
-fn run(rt: &(impl Env + Files + Input + Print + Eprint + AllocGlobal)) -> Ending {
+// Does what the arguments ask for; standard error may be a terminal, where somebody watches.
+fn run<
+    R: Env
+        + Files<File = File>
+        + Input
+        + Print
+        + Eprint
+        + AllocGlobal
+        + Net<Listener = TcpListener, Stream = TcpStream>
+        + Threads
+        + Wait
+        + Clock
+        + Copy
+        + Send
+        + Sync
+        + Drop
+        + 'static,
+>(rt: &R, is_watched: bool) -> Ending {
     let words = match arguments(rt) {
         Ok(words) => words,
         Err(ending) => return ending,
@@ -128,6 +153,7 @@ fn run(rt: &(impl Env + Files + Input + Print + Eprint + AllocGlobal)) -> Ending
                 Some(path) => dump(rt, path),
                 None => Ending::WrongArguments,
             },
+            Some(("serve", options)) => serve(rt, &options, is_watched),
             Some(_) | None => Ending::WrongArguments,
         },
         Err(error) => refused(rt, &error),
@@ -135,5 +161,5 @@ fn run(rt: &(impl Env + Files + Input + Print + Eprint + AllocGlobal)) -> Ending
 }
 
 fn main(rt: HostRuntime) -> ExitCode {
-    ExitCode::from(run(&rt).status())
+    ExitCode::from(run(&rt, rt.stderr().is_terminal()).status())
 }
