@@ -8,22 +8,8 @@
 
 enum { MOST_TURNS = 64 };
 
-void fail(const char *what)
-{
-    fprintf(stderr, "bench: %s\n", what);
-    exit(1);
-}
-
-void *get_room(size_t len)
-{
-    void *bytes = malloc(len);
-    if (!bytes)
-        fail("out of memory");
-    return bytes;
-}
-
 /* The nanoseconds that this thread had a processor for: other work on the machine isn't counted. */
-static double now(void)
+static double processor_time(void)
 {
     struct timespec t;
     clock_gettime(CLOCK_THREAD_CPUTIME_ID, &t);
@@ -33,9 +19,9 @@ static double now(void)
 /* The nanoseconds of a piece of a task's work. */
 static double time_of(struct task task)
 {
-    double start = now();
+    double start = processor_time();
     task.run(task.what);
-    return (now() - start) / task.units;
+    return (processor_time() - start) / task.units;
 }
 
 static int by_size(const void *left, const void *right)

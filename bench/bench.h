@@ -6,9 +6,21 @@
 #include <stddef.h>
 #include <stdint.h>
 
-/* bench.c: the end of a run that can't go on, and memory. */
+/* common.c: the time in nanoseconds, the end of a run that can't go on, and memory. */
+double now(void);
 _Noreturn void fail(const char *what);
 void *get_room(size_t len);
+
+/* common.c: prints what a load came to: how many commits or batches were asked for and answered,
+ * how many records they had, how many nanoseconds all took, and how many requests were refused at
+ * first and asked again. There is a time in nanoseconds for each that was asked for. */
+struct load {
+    size_t asked;
+    size_t records;
+    size_t again;
+    double taken;
+};
+void print_load(const struct load *load, double *times);
 
 /* bench.c: something to be timed, and how many pieces of work it does. */
 struct task {

@@ -23,6 +23,8 @@ import threading
 import time
 
 PARTITIONS = 4
+MOST_CLIENTS = 1024
+CONCURRENT = 51
 TABLE = []
 for byte in range(256):
     for _ in range(8):
@@ -106,15 +108,17 @@ class Client(threading.Thread):
     def __init__(self, server, number, count):
         super().__init__(daemon=True)
         self.server, self.number, self.left = server, number, count
-        self.name = b"t%d" % number
-        self.text = bytes([len(self.name)]) + self.name
-        self.answered, self.tried = [], 0
+        txn = b"t%d" % number
+        self.text = bytes([len(txn)]) + txn
+        self.answered, self.tried, self.begun = [], 0, 0
 
     def begin(self):
-        """Connects, and gets the id at an epoch of its own."""
+        """Connects, and gets the id at an epoch of its own: by a higher client number each time,
+        since the owner of an id isn't given another epoch."""
         while True:
             try:
-                connection = Connection(self.server.port, self.number)
+                self.begun += 1
+                connection = Connection(self.server.port, self.number + MOST_CLIENTS * self.begun)
                 while True:
                     reply = connection.ask(1, self.text + struct.pack(">I", 60000))
                     code, producer, epoch = struct.unpack(">hqh", reply)
@@ -126,8 +130,11 @@ class Client(threading.Thread):
 
     def transact(self, connection, producer, epoch, value, partition):
         text = batch(value, producer, epoch, 0)
-        reply = connection.ask(5, self.text + struct.pack(">HI", partition, len(text)) + text)
-        if struct.unpack(">Hhq", reply)[1] != 0:
+        code = CONCURRENT
+        while code == CONCURRENT:  # the markers of the transaction before are on their way
+            reply = connection.ask(5, self.text + struct.pack(">HI", partition, len(text)) + text)
+            code = struct.unpack(">Hhq", reply)[1]
+        if code != 0:
             return None
         reply = connection.ask(3, self.text + struct.pack(">qhB", producer, epoch, 1))
         code, producer, epoch = struct.unpack(">hqh", reply)
@@ -214,7 +221,7 @@ def main():
     for client in clients:
         client.join()
     took = time.monotonic() - began
-    # Fences what is still open, so that every page ends at the log's end.
+    # Each client's last transaction was committed, so no transaction stays open.
     stood = collections.Counter()
     for partition in range(PARTITIONS):
         stood.update(read_all(server.port, partition))
