@@ -20,6 +20,9 @@ use std::sync::{Mutex, Wait};
 /// A machine that threads share, with the trace of what it took, and the writer's end of its log,
 /// if that is published. Steps and publishes are made under the node's own lock, as [`Desk`] makes
 /// them. Readers take no lock.
+///
+/// Dropping a node waits for readers that are in its log, so whatever holds both drops the reader
+/// first.
 #[derive(Drop)]
 pub struct PublishedNode<M: Machine, B: Made, J: Naming, R: Wait + Drop> {
     name: NodeName,

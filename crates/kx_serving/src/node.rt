@@ -19,6 +19,9 @@ use std::sync::{Mutex, Wait};
 
 /// A machine that threads share, and the writer's end of its log, if that is published. Steps are
 /// made under the node's own lock, as [`Desk`] makes them. Readers take no lock.
+///
+/// Dropping a node waits for readers that are in its log, so whatever holds both drops the reader
+/// first.
 #[derive(Drop)]
 pub struct ServedNode<M: Logging, J: Naming, R: Wait + Drop> {
     name: NodeName,
