@@ -16,6 +16,8 @@ import sys
 import threading
 import time
 
+from frames import connect, crc32c, next_frame, varint
+
 soft, hard = resource.getrlimit(resource.RLIMIT_NOFILE)
 resource.setrlimit(resource.RLIMIT_NOFILE, (min(8192, hard), hard))
 
@@ -25,24 +27,8 @@ def frame(kind, client, correlation, fields):
     return struct.pack(">I", len(body)) + body
 
 
-def connect(port):
-    it = socket.create_connection(("127.0.0.1", port), timeout=30)
-    it.setsockopt(socket.IPPROTO_TCP, socket.TCP_NODELAY, 1)
-    return it
-
-
-def take(it, length):
-    got = b""
-    while len(got) < length:
-        piece = it.recv(length - len(got))
-        if not piece:
-            raise ConnectionError("closed")
-        got += piece
-    return got
-
-
 def reply(it):
-    return take(it, struct.unpack(">I", take(it, 4))[0])
+    return next_frame(it)[4:]
 
 
 def memory(process):
@@ -55,30 +41,30 @@ def main():
     server = subprocess.Popen([sys.argv[1], "serve", "--partitions", "1", "--connections", "1024"],
         stdout=subprocess.PIPE, text=True)
     port = int(server.stdout.readline().split()[1])
-    good = connect(port)
+    good = connect(port, 30)
     # One page of about 1 MiB.
     value = b"v" * 1_000_000
-    record = bytes([0, 0, 0, 1]) + zigzag(len(value)) + value + b"\0"
-    body = struct.pack(">hiqqqhii", 0, 0, 0, 0, -1, -1, -1, 1) + zigzag(len(record)) + record
+    record = bytes([0, 0, 0, 1]) + varint(len(value)) + value + b"\0"
+    body = struct.pack(">hiqqqhii", 0, 0, 0, 0, -1, -1, -1, 1) + varint(len(record)) + record
     text = struct.pack(">qiibI", 0, len(body) + 9, 0, 2, crc32c(body)) + body
     good.sendall(frame(5, 1, 0, b"\0" + struct.pack(">HI", 0, len(text)) + text))
     assert struct.unpack(">Hhq", reply(good)[9:])[1] == 0
     fetch = struct.pack(">HqIB", 0, 0, 1 << 20, 0)
     ask = frame(1, 1, 1, b"\1a" + struct.pack(">I", 60000))
     before = memory(server)
-    silent = [connect(port) for _ in range(900)]
+    silent = [connect(port, 30) for _ in range(900)]
     print("900 silent connections: %.0f MB more" % (memory(server) - before))
-    deaf = [connect(port) for _ in range(40)]
+    deaf = [connect(port, 30) for _ in range(40)]
     for number, it in enumerate(deaf):
         it.setsockopt(socket.SOL_SOCKET, socket.SO_RCVBUF, 65536)
         it.sendall(frame(11, 100 + number, 0, fetch) * 500)
-    half = [connect(port) for _ in range(40)]
+    half = [connect(port, 30) for _ in range(40)]
     for it in half:
         it.sendall(ask[:7])
-    for it in [connect(port) for _ in range(20)]:
+    for it in [connect(port, 30) for _ in range(20)]:
         it.sendall(b"GET / HTTP/1.1\r\n\r\n")
         assert it.recv(1) == b""
-    slow = connect(port)
+    slow = connect(port, 30)
 
     def trickle():
         for byte in frame(1, 77, 1, b"\1b" + struct.pack(">I", 60000)) * 53_000:
@@ -105,28 +91,6 @@ def main():
     print("a million bytes one by one: 53,000 replies")
     print("in the end: %.0f MB more" % (memory(server) - before))
     server.kill()
-
-
-def zigzag(number):
-    number <<= 1
-    out = bytearray()
-    while number >= 0x80:
-        out.append(number & 0x7F | 0x80)
-        number >>= 7
-    out.append(number)
-    return bytes(out)
-
-
-def crc32c(data):
-    table = []
-    for byte in range(256):
-        for _ in range(8):
-            byte = byte >> 1 ^ (0x82F63B78 if byte & 1 else 0)
-        table.append(byte)
-    crc = 0xFFFFFFFF
-    for byte in data:
-        crc = crc >> 8 ^ table[(crc ^ byte) & 0xFF]
-    return crc ^ 0xFFFFFFFF
 
 
 main()

@@ -14,7 +14,6 @@ import os
 import random
 import shutil
 import signal
-import socket
 import struct
 import subprocess
 import sys
@@ -22,33 +21,11 @@ import tempfile
 import threading
 import time
 
+from frames import connect, crc32c, next_frame, varint
+
 PARTITIONS = 4
 MOST_CLIENTS = 1024
 CONCURRENT = 51
-TABLE = []
-for byte in range(256):
-    for _ in range(8):
-        byte = byte >> 1 ^ (0x82F63B78 if byte & 1 else 0)
-    TABLE.append(byte)
-
-
-def crc32c(data):
-    crc = 0xFFFFFFFF
-    for byte in data:
-        crc = crc >> 8 ^ TABLE[(crc ^ byte) & 0xFF]
-    return crc ^ 0xFFFFFFFF
-
-
-def varint(number):
-    number = number << 1 ^ number >> 63
-    out = bytearray()
-    while number >= 0x80:
-        out.append(number & 0x7F | 0x80)
-        number >>= 7
-    out.append(number)
-    return bytes(out)
-
-
 def batch(value, producer, epoch, sequence):
     record = bytes([0, 0, 0]) + varint(-1) + varint(len(value)) + value + b"\0"
     body = struct.pack(">hiqqqhii", 16, 0, 0, 0, producer, epoch, sequence, 1)
@@ -61,24 +38,14 @@ class Connection:
 
     def __init__(self, port, client):
         self.client, self.correlation = client, 0
-        self.socket = socket.create_connection(("127.0.0.1", port), timeout=10)
-        self.socket.setsockopt(socket.IPPROTO_TCP, socket.TCP_NODELAY, 1)
-
-    def take(self, length):
-        got = b""
-        while len(got) < length:
-            piece = self.socket.recv(length - len(got))
-            if not piece:
-                raise ConnectionError("closed")
-            got += piece
-        return got
+        self.socket = connect(port, 10)
 
     def ask(self, kind, fields):
         self.correlation += 1
         body = struct.pack(">BII", kind, self.client, self.correlation) + fields
         self.socket.sendall(struct.pack(">I", len(body)) + body)
         while True:
-            reply = self.take(struct.unpack(">I", self.take(4))[0])
+            reply = next_frame(self.socket)[4:]
             if struct.unpack(">I", reply[5:9])[0] == self.correlation:
                 return reply[9:]
 

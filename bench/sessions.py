@@ -16,17 +16,18 @@ The lines of a session:
     until A BYTES REPLY sends a request again and again, and tells whether that reply came
     finish A            sends nothing more; drop A closes the connection
     rival DIR           has a second server try that folder, and tells how it ended
-    end                 waits for the server, and tells what it printed behind the port, or its fault
+    end                 waits for the server, and tells what it printed behind the port, and its fault
     clear DIR           removes a folder; append FILE BYTES puts bytes behind those of a file
 """
 import os
 import shutil
 import socket
-import struct
 import subprocess
 import sys
 import tempfile
 import time
+
+from frames import connect, next_frame
 
 
 class Session:
@@ -42,34 +43,16 @@ class Session:
         words = [self.program, "serve", "--partitions", partitions, "--connections", connections]
         if folder:
             words += ["--dir", os.path.join(self.folder, folder)]
-        return subprocess.Popen(words, stdout=subprocess.PIPE, stderr=subprocess.DEVNULL, text=True)
+        return subprocess.Popen(words, stdout=subprocess.PIPE, stderr=subprocess.PIPE, text=True)
 
     def serve(self, partitions, connections, folder=None):
         self.server = self.start(partitions, connections, folder)
         words = self.server.stdout.readline().split()
         self.port = int(words[1]) if words else 0
 
-    def connect(self):
-        it = socket.create_connection(("127.0.0.1", self.port), timeout=20)
-        it.setsockopt(socket.IPPROTO_TCP, socket.TCP_NODELAY, 1)
-        return it
-
-    def take(self, it, length):
-        got = b""
-        while len(got) < length:
-            piece = it.recv(length - len(got))
-            if not piece:
-                raise ConnectionError("closed")
-            got += piece
-        return got
-
-    def frame(self, it):
-        front = self.take(it, 4)
-        return front + self.take(it, struct.unpack(">I", front)[0])
-
     def receive(self, name):
         try:
-            self.told.append("%s %s" % (name, self.frame(self.clients[name]).hex()))
+            self.told.append("%s %s" % (name, next_frame(self.clients[name]).hex()))
         except OSError:
             self.told.append("%s nothing" % name)
 
@@ -83,26 +66,27 @@ class Session:
     def until(self, name, request, reply):
         for _ in range(2000):
             self.clients[name].sendall(request)
-            if self.frame(self.clients[name]) == reply:
+            if next_frame(self.clients[name]) == reply:
                 self.told.append("%s came" % name)
                 return
             time.sleep(0.005)
         self.told.append("%s never" % name)
 
     def crowd(self, count, request):
-        crowd, answered = [self.connect() for _ in range(count)], 0
+        crowd, answered = [connect(self.port, 20) for _ in range(count)], 0
         # One after the other: they all speak for one client.
         for it in crowd:
             it.sendall(request)
-            answered += len(self.frame(it)) > 0
+            answered += len(next_frame(it)) > 0
         self.told.append("%d answered" % answered)
         for it in crowd:
             it.close()
 
     def end(self, server):
-        lines = server.stdout.read().split("\n")[:-1]
-        status = server.wait()
-        self.told += lines if status == 0 else ["fault"]
+        lines, words = server.communicate()
+        self.told += lines.split("\n")[:-1]
+        if server.returncode != 0:
+            self.told.append("status %d, %s" % (server.returncode, words.strip()))
 
     def step(self, words):
         kind = words[0]
@@ -111,7 +95,7 @@ class Session:
         elif kind == "serve":
             self.serve(words[1], words[2], words[4] if len(words) > 3 else None)
         elif kind == "open":
-            self.clients[words[1]] = self.connect()
+            self.clients[words[1]] = connect(self.port, 20)
         elif kind == "crowd":
             self.crowd(int(words[1]), self.bytes(words[2]))
         elif kind == "send":
