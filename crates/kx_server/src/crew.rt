@@ -1,4 +1,4 @@
-//! The threads of a server.
+//! Threads that are joined in the end.
 ghost use Rattle.std.specs.Prelude.{◌<◌, OnOk, vec_len};
 ghost use Rattle.std.specs.Vec.{vec_capacity};
 
@@ -8,14 +8,14 @@ use std::thread::{JoinHandle, Threads};
 
 /// Threads that are joined in the end.
 #[derive(Drop)]
-pub(crate) struct Crew<R: Threads + Wait + Drop> {
+pub struct Crew<R: Threads + Wait + Drop> {
     rt: R,
     handles: Vec<JoinHandle<()>>,
 }
 
 impl<R: Threads + Wait + Drop> Crew<R> {
     /// No thread.
-    pub(crate) fn new(rt: R, alloc: Global) -> Self {
+    pub fn new(rt: R, alloc: Global) -> Self {
         Crew {
             rt,
             handles: Vec::new(alloc),
@@ -23,21 +23,21 @@ impl<R: Threads + Wait + Drop> Crew<R> {
     }
 
     /// Makes room for one more thread, so that none that runs is lost.
-    pub(crate) fn make_room(&mut self) -> Result<(), AllocError>
+    pub fn make_room(&mut self) -> Result<(), AllocError>
         ensures { OnOk result (vec_len self.new.handles < vec_capacity self.new.handles) }
     {
         self.handles.reserve(1)
     }
 
     /// Takes a thread, for which there is room.
-    pub(crate) fn push(&mut self, handle: JoinHandle<()>)
+    pub fn push(&mut self, handle: JoinHandle<()>)
         requires { vec_len self.old.handles < vec_capacity self.old.handles }
     {
         self.handles.push_reserved(handle);
     }
 
     /// Waits until all have ended.
-    pub(crate) fn join(self) {
+    pub fn join(self) {
         let Crew { rt, handles } = self;
         for handle in handles {
             handle.join(&rt);

@@ -19,6 +19,7 @@ mod server;
 mod ticking;
 
 pub use asking::{asker, missing_partition};
+pub use crew::Crew;
 pub use fault::ServeFault;
 pub use files::LogFile;
 pub use options::{Connections, Partitions, ServeOptions};

@@ -1,0 +1,31 @@
+//! The demonstration: both ends of the core in one process over loopback, with a relay between them
+//! that repeats frames, loses some and holds others back. Two producers fill the input partitions;
+//! two processors of one group write the images of what they read, and one of them is dropped in
+//! the middle. All nodes, the clients among them, stand under locks and keep their traces; when all
+//! threads have ended, the traces and receipts are audited, and what the audited run has is counted.
+//!
+//! `options` and `fault` are what is asked for and what may fail. `serving` has the nodes of the
+//! core behind their connections, `stage` the threads of these, `client` a client before its own, `producers` and `members` what
+//! the clients do, `cast` all of them in turn, `play` all of it from the first connection to the last. `report` counts and
+//! prints, and `picture` writes down what happened.
+#![tactic(auto)]
+
+mod cast;
+mod client;
+mod fault;
+mod members;
+mod nodes;
+mod options;
+mod picture;
+mod play;
+mod producers;
+mod report;
+mod serving;
+mod stage;
+mod wires;
+
+pub use fault::DemoFault;
+pub use options::{DemoOptions, Records, WorkerCount};
+pub use picture::write_picture;
+pub use play::{Played, play};
+pub use report::{Counts, Found, count, demo};

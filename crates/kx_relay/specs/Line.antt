@@ -1,0 +1,42 @@
+-- A line that repeats every frame.
+use Rattle.std.specs.Prelude.{ℕ, ◌≤◌, ◌++◌, ◌∷◌, [], List, length, nat_lt, Option, None}
+use Rattle.std.specs.Prelude.{if◌then◌else◌, Bool}
+use Rattle.kx_message.specs.declared.message.Message.{Message}
+
+-- so many of a hundred frames may be lost
+abbrev pub IsLosses : ℕ → Type 0
+IsLosses losses = losses ≤ 50
+
+-- so many frames may go between a frame and its copy
+abbrev pub IsHolding : ℕ → Type 0
+IsHolding holding = holding ≤ 8
+
+-- the copies of the last frames, none of one that was lost
+pub record Holds : Type 0 where
+  holding : ℕ
+  copies : List (Option Message)
+
+-- the copies with one more behind them
+abbrev pub kept : Holds → Option Message → List (Option Message)
+kept held copy = held.copies ++ copy ∷ []
+
+-- more are kept than are held back
+abbrev pub is_due : Holds → Option Message → Bool
+is_due held copy = nat_lt held.holding (length (kept held copy))
+
+abbrev pub first_of : List (Option Message) → Option Message
+first_of [] = None
+first_of (copy ∷ more) = copy
+
+abbrev pub rest_of : List (Option Message) → List (Option Message)
+rest_of [] = []
+rest_of (copy ∷ more) = more
+
+-- the copy that goes out with the frame
+abbrev pub due_of : Holds → Option Message → Option Message
+due_of held copy = if is_due held copy then first_of (kept held copy) else None
+
+abbrev pub held_after : Holds → Option Message → Holds
+held_after held copy = record held {
+  copies = if is_due held copy then rest_of (kept held copy) else kept held copy;
+}
