@@ -5,13 +5,15 @@
 //! threads have ended, the traces and receipts are audited, and what the audited run has is counted.
 //!
 //! `options` and `fault` are what is asked for and what may fail. `serving` has the nodes of the
-//! core behind their connections, `stage` the threads of these, `client` a client before its own, `producers` and `members` what
-//! the clients do, `cast` all of them in turn, `play` all of it from the first connection to the last. `report` counts and
-//! prints, and `picture` writes down what happened.
+//! core behind their connections, `stage` the threads of these, `wires` the connections. `client` is
+//! a client before its own, `producers` and `members` what the clients do, `cast` all of them in
+//! turn, `play` all of it from the first connection to the last thread. `counting` and `report`
+//! count and print what came of it, and `picture` writes down what happened.
 #![tactic(auto)]
 
 mod cast;
 mod client;
+mod counting;
 mod fault;
 mod members;
 mod nodes;
@@ -24,8 +26,9 @@ mod serving;
 mod stage;
 mod wires;
 
+pub use counting::{Counts, Found, count};
 pub use fault::DemoFault;
 pub use options::{DemoOptions, Records, WorkerCount};
 pub use picture::write_picture;
 pub use play::{Played, play};
-pub use report::{Counts, Found, count, demo};
+pub use report::demo;

@@ -1,5 +1,5 @@
 //! What happened in a demonstration, for people to read.
-use crate::report::Found;
+use crate::counting::Found;
 use kx_cluster::AnyMachine;
 use kx_machine::{Command, Input, Machine, Note, Taken};
 use kx_message::Node;

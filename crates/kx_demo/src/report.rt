@@ -1,113 +1,23 @@
-//! What an audited demonstration has, counted and printed.
+//! What a demonstration prints.
+ghost use Rattle.std.specs.Prelude.{◌≡◌, ◌×◌, List, OnOk, MatchResult, IsTrue, IsFalse};
+ghost use Rattle.std.specs.Io.KnownBytes.{Appends};
+ghost use Rattle.kx_audit.specs.Refused as audits;
+ghost use Rattle.kx_demo.specs.Telling.{Tells, counts_text};
+ghost use Rattle.kx_demo.specs.declared.fault.DemoFault.TheVariants.{GaveUp};
+
+use crate::counting::{Counts, Found, count};
 use crate::fault::DemoFault;
-use crate::nodes::{DemoMaking, INPUTS, partition};
 use crate::options::DemoOptions;
 use crate::picture::write_picture;
 use crate::play::{Played, play};
-use kx_audit::{AuditFault, Run, audit};
-use kx_broker::PartitionMachine;
-use kx_cluster::AnyMachine;
-use kx_core::LocalStore;
-use kx_message::{Node, PartitionId};
-use kx_partition::FetchPage;
-use kx_reader::Committed;
-use std::alloc::{AllocError, Global};
-use std::collections::HashSet;
+use kx_audit::{AuditFault, audit};
+use std::alloc::Global;
 use std::io;
 use std::io::Write;
 use std::net::{Net, TcpListener, TcpStream};
 use std::sync::Wait;
 use std::thread::Threads;
 use std::time::Clock;
-
-/// What an audit found of a demonstration.
-pub type Found = Run<DemoMaking>;
-
-/// What is counted in the run that an audit found.
-#[derive(Clone, Copy, Debug, PartialEq, Eq)]
-pub struct Counts {
-    /// The committed records of the input partitions.
-    pub inputs: usize,
-    /// The committed records of the output partitions.
-    pub outputs: usize,
-    /// Those of the outputs whose value stood before.
-    pub doubles: usize,
-}
-
-// The server of a data partition, as its trace left it.
-fn server_of(run: &Found, partition: PartitionId) -> Option<&PartitionMachine<LocalStore>> {
-    for number in 0..run.len() {
-        if run.trace(number)?.node() != Node::Partition(partition) {
-            continue;
-        }
-        if let AnyMachine::Partition(server) = run.machine(number)? {
-            return Some(server);
-        }
-    }
-    None
-}
-
-// All that a data partition's log has committed.
-fn page_of(run: &Found, partition: PartitionId) -> Option<FetchPage<'_>> {
-    let server = server_of(run, partition)?;
-    server.partition().fetch(0, u32::MAX, true).ok()
-}
-
-// How many committed records a data partition has.
-fn count_records(alloc: Global, run: &Found, partition: PartitionId) -> Result<usize, AllocError> {
-    let Some(page) = page_of(run, partition) else {
-        return Ok(0);
-    };
-    let mut count: usize = 0;
-    for _record in Committed::new(alloc, page)? {
-        count = count.saturating_add(1);
-    }
-    Ok(count)
-}
-
-// How many committed records a data partition has whose value is among those that are known; their
-// values are known from then on.
-fn count_doubles<'a>(
-    alloc: Global,
-    run: &'a Found,
-    partition: PartitionId,
-    known: &mut HashSet<&'a [u8]>,
-) -> Result<usize, AllocError> {
-    let Some(page) = page_of(run, partition) else {
-        return Ok(0);
-    };
-    let mut doubles: usize = 0;
-    for (_offset, record) in Committed::new(alloc, page)? {
-        if !known.insert(record.value().unwrap_or(&[]))? {
-            doubles = doubles.saturating_add(1);
-        }
-    }
-    Ok(doubles)
-}
-
-/// Counts what the run has.
-///
-/// # Errors
-///
-/// Only for want of memory.
-pub fn count(alloc: Global, run: &Found) -> Result<Counts, AllocError> {
-    let mut counts = Counts {
-        inputs: 0,
-        outputs: 0,
-        doubles: 0,
-    };
-    let mut known = HashSet::new(alloc);
-    for input in 0..INPUTS {
-        let inputs = count_records(alloc, run, partition(input))?;
-        counts.inputs = counts.inputs.saturating_add(inputs);
-        let output = partition(input + INPUTS);
-        let outputs = count_records(alloc, run, output)?;
-        counts.outputs = counts.outputs.saturating_add(outputs);
-        let doubles = count_doubles(alloc, run, output, &mut known)?;
-        counts.doubles = counts.doubles.saturating_add(doubles);
-    }
-    Ok(counts)
-}
 
 // Writes what was counted.
 fn write_counts<W: Write>(out: &mut W, counts: Counts) -> io::Result<()> {
