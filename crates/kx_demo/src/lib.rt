@@ -7,7 +7,7 @@
 //! `options` and `fault` are what is asked for and what may fail. `serving` has the nodes of the
 //! core behind their connections, `stage` the threads of these, `wires` the connections. `client` is
 //! a client before its own, `producers` and `members` what the clients do, `cast` all of them in
-//! turn, `play` all of it from the first connection to the last thread. `counting` and `report`
+//! turn, `playing` all of it from the first connection to the last thread. `counting` and `report`
 //! count and print what came of it, and `picture` writes down what happened.
 #![tactic(auto)]
 
@@ -19,7 +19,7 @@ mod members;
 mod nodes;
 mod options;
 mod picture;
-mod play;
+mod playing;
 mod producers;
 mod report;
 mod serving;
@@ -30,5 +30,5 @@ pub use counting::{Counts, Found, count};
 pub use fault::DemoFault;
 pub use options::{DemoOptions, Records, WorkerCount};
 pub use picture::write_picture;
-pub use play::{Played, play};
+pub use playing::{Played, play};
 pub use report::demo;

@@ -9,7 +9,7 @@ use crate::counting::{Counts, Found, count};
 use crate::fault::DemoFault;
 use crate::options::DemoOptions;
 use crate::picture::write_picture;
-use crate::play::{Played, play};
+use crate::playing::{Played, play};
 use kx_audit::{AuditFault, audit};
 use std::alloc::Global;
 use std::io;

@@ -6,10 +6,10 @@
 //! outcome ends with.
 #![tactic(auto)]
 
-mod demo;
+mod playing;
 mod serving;
 
-use crate::demo::{demo, demo_usage};
+use crate::playing::{demo, demo_usage};
 use crate::serving::{serve, serve_usage};
 use clap::error::ErrorKind as UsageFault;
 use clap::{Arg, ArgAction, Command};

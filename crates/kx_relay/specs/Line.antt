@@ -13,8 +13,8 @@ IsHolding holding = holding ≤ 8
 
 -- the copies of the last frames, none of one that was lost
 pub record Holds : Type 0 where
-  holding : ℕ
-  copies : List (Option Message)
+  pub holding : ℕ
+  pub copies : List (Option Message)
 
 -- the copies with one more behind them
 abbrev pub kept : Holds → Option Message → List (Option Message)

@@ -1,5 +1,5 @@
 //! What goes out over a line when a frame comes.
-ghost use Rattle.std.specs.Prelude.{◌≡◌, MatchResult, None, Some, if◌then◌else◌};
+ghost use Rattle.std.specs.Prelude.{◌≡◌, [], MatchResult, None, Some, if◌then◌else◌};
 ghost use Rattle.kx_relay.specs.Line.{due_of, held_after};
 
 use crate::held::Held;
