@@ -1,6 +1,7 @@
 -- What is counted in a run that an audit found.
 use Rattle.std.specs.Prelude.{◌≡◌, ◌+◌, ◌-◌, ◌++◌, ◌∷◌, [], ℕ, List, length, map, slice_get, Some}
-use Rattle.std.specs.Prelude.{Option, None, Bool, true, ⊥, if◌then◌else◌}
+use Rattle.std.specs.Prelude.{Bool, true, ⊥, if◌then◌else◌, unwrap_or}
+use Rattle.std.specs.Borrow.{Bor}
 use Rattle.std.specs.List.{list_any}
 use Rattle.std.specs.Str.{bytes_eq}
 use Rattle.kx_audit.specs.Run.{Ran}
@@ -18,13 +19,13 @@ use Rattle.kx_nodes.specs.Replay.{Traced, name_of}
 
 ------ records
 
--- the value of a record; one without a value counts as empty
-abbrev pub value_or_empty : Option (List ℕ) → List ℕ
-value_or_empty None = []
-value_or_empty (Some value) = value
+-- what lies behind references
+abbrev pub texts : List (Bor (List ℕ)) → List (List ℕ)
+texts values = map (λ v. v.now) values
 
+-- the value of a record; one without a value counts as empty
 abbrev pub value_of : Shown → List ℕ
-value_of s = value_or_empty s.shown.value
+value_of s = unwrap_or s.shown.value []
 
 -- what a reader of committed records gets of a log from its beginning, in a page of any length
 abbrev pub committed_in : List Stored → List (List ℕ)
@@ -33,7 +34,7 @@ committed_in log = map value_of (committed_records (page log 0 4294967295 true))
 ------ values that stood before
 
 abbrev pub is_among : List ℕ → List (List ℕ) → Bool
-is_among value before = list_any (bytes_eq value) before
+is_among value before = list_any (λ b. bytes_eq b value) before
 
 -- how many of the values are the first of their kind, behind some others
 abbrev pub firsts : List (List ℕ) → List (List ℕ) → ℕ

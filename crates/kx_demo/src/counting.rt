@@ -1,14 +1,15 @@
 //! What an audited demonstration has, counted.
-ghost use Rattle.std.specs.Prelude.{◌≡◌, ◌≤◌, ◌<◌, ℕ, length, map, IfOk, IfNone, IfSome};
+ghost use Rattle.std.specs.Prelude.{◌≡◌, ◌<◌, [], map, unwrap_or, IfOk, IfNone, IfSome};
 ghost use Rattle.kx_broker.specs.Serving.{Serving};
 ghost use Rattle.kx_cluster.specs.Any.{any_state};
-ghost use Rattle.kx_demo.specs.Counting.{AreCommitted, AreCounts, IsServer, committed_in, doubles};
+ghost use Rattle.kx_demo.specs.Counting.{AreCommitted, AreCounts, IsServer, doubles, texts};
 ghost use Rattle.kx_demo.specs.Counting.{value_of};
 ghost use Rattle.kx_model.specs.Reading.{committed_of};
-ghost use Rattle.kx_script.specs.Prefixed.{image_of};
+ghost use Rattle.kx_script.specs.Prefixed.{images_of};
 
 use crate::nodes::{DemoMaking, partition};
 use kx_audit::Run;
+use kx_batch::RecordView;
 use kx_broker::PartitionMachine;
 use kx_cluster::AnyMachine;
 use kx_core::LocalStore;
@@ -36,9 +37,9 @@ pub struct Counts {
 fn server_of(run: &Found, number: u8) -> Option<&PartitionMachine<LocalStore>>
     requires { number < 16 }
     ensures some { IfSome result (λ server.
-        IsServer (any_state (λ _. image_of)) run.now number server.now) }
+        IsServer (any_state images_of) run.now number server.now) }
     ensures none { IfNone result ((server : Serving)
-        → IsServer (any_state (λ _. image_of)) run.now number server → ⊥) }
+        → IsServer (any_state images_of) run.now number server → ⊥) }
 {
     let place = 1 + usize::from(number);
     if run.trace(place)?.node() != Node::Partition(partition(number)) {
@@ -50,13 +51,20 @@ fn server_of(run: &Found, number: u8) -> Option<&PartitionMachine<LocalStore>>
     }
 }
 
+// The value of a record; one without a value counts as empty.
+fn value_in<'a>(shown: &RecordView<'a>) -> &'a [u8]
+    ensures { result.now ≡ unwrap_or shown.now.value [] }
+{
+    shown.value().unwrap_or(&[])
+}
+
 // The values of the records that a reader of committed records gets of a page.
 fn values_of<'a>(alloc: Global, page: FetchPage<'a>) -> Result<Vec<&'a [u8]>, AllocError>
-    ensures { IfOk result (λ values. values.items ≡ map value_of (committed_of page.entry)) }
+    ensures { IfOk result (λ values. texts values.items ≡ map value_of (committed_of page.entry)) }
 {
     let mut values = Vec::new(alloc);
-    for (_offset, record) in Committed::new(alloc, page)? {
-        values.push(record.value().unwrap_or(&[]))?;
+    for (_, shown) in Committed::new(alloc, page)? {
+        values.push(value_in(&shown))?;
     }
     Ok(values)
 }
@@ -65,7 +73,7 @@ fn values_of<'a>(alloc: Global, page: FetchPage<'a>) -> Result<Vec<&'a [u8]>, Al
 fn values_in(alloc: Global, run: &Found, number: u8) -> Result<Vec<&[u8]>, AllocError>
     requires { number < 16 }
     ensures { IfOk result (λ values.
-        AreCommitted (any_state (λ _. image_of)) run.now number values.items) }
+        AreCommitted (any_state images_of) run.now number (texts values.items)) }
 {
     let Some(server) = server_of(run, number) else {
         return Ok(Vec::new(alloc));
@@ -77,14 +85,15 @@ fn values_in(alloc: Global, run: &Found, number: u8) -> Result<Vec<&[u8]>, Alloc
 }
 
 // How many of the values stood before.
-fn count_doubles(alloc: Global, values: &[&[u8]]) -> Result<usize, AllocError>
-    ensures { IfOk result (λ count. count ≡ doubles values.now) }
+fn count_doubles(alloc: Global, values: Vec<&[u8]>) -> Result<usize, AllocError>
+    ensures { IfOk result (λ count. count ≡ doubles (texts values.entry.items)) }
 {
+    let all = values.len();
     let mut known = HashSet::new(alloc);
     for value in values {
-        known.insert(*value)?;
+        known.insert(value)?;
     }
-    Ok(values.len() - known.len())
+    Ok(all - known.len())
 }
 
 /// Counts what the run has: what is committed in partitions 0 and 1, the inputs, and in 2 and 3, the
@@ -94,7 +103,7 @@ fn count_doubles(alloc: Global, values: &[&[u8]]) -> Result<usize, AllocError>
 ///
 /// Only for want of memory.
 pub fn count(alloc: Global, run: &Found) -> Result<Counts, AllocError>
-    ensures { IfOk result (AreCounts (any_state (λ _. image_of)) run.now) }
+    ensures { IfOk result (AreCounts (any_state images_of) run.now) }
 {
     let mut inputs = values_in(alloc, run, 0)?;
     inputs.append(&mut values_in(alloc, run, 1)?)?;
@@ -103,6 +112,6 @@ pub fn count(alloc: Global, run: &Found) -> Result<Counts, AllocError>
     Ok(Counts {
         inputs: inputs.len(),
         outputs: outputs.len(),
-        doubles: count_doubles(alloc, outputs.as_slice())?,
+        doubles: count_doubles(alloc, outputs)?,
     })
 }

@@ -1,54 +1,83 @@
 //! What a demonstration prints.
-ghost use Rattle.std.specs.Prelude.{◌≡◌, ◌×◌, List, OnOk, MatchResult, IsTrue, IsFalse};
+ghost use Rattle.std.specs.Prelude.{◌≡◌, IfErr, OnOk};
 ghost use Rattle.std.specs.Io.KnownBytes.{Appends};
-ghost use Rattle.kx_audit.specs.Refused as audits;
-ghost use Rattle.kx_demo.specs.Telling.{Tells, counts_text};
-ghost use Rattle.kx_demo.specs.declared.fault.DemoFault.TheVariants.{GaveUp};
+ghost use Rattle.kx_demo.specs.Telling.{Tells, line, yes_text};
+ghost use Rattle.kx_demo.specs.declared.fault.DemoFault.TheVariants.{Write};
 
-use crate::counting::{Counts, Found, count};
+use crate::counting::{Counts, count};
 use crate::fault::DemoFault;
 use crate::options::DemoOptions;
 use crate::picture::write_picture;
 use crate::playing::{Played, play};
 use kx_audit::{AuditFault, audit};
 use std::alloc::Global;
-use std::io;
 use std::io::Write;
 use std::net::{Net, TcpListener, TcpStream};
 use std::sync::Wait;
 use std::thread::Threads;
 use std::time::Clock;
 
-// Writes what was counted.
-fn write_counts<W: Write>(out: &mut W, counts: Counts) -> io::Result<()> {
-    writeln!(out, "inputs {}", counts.inputs)?;
-    writeln!(out, "outputs {}", counts.outputs)?;
-    writeln!(out, "doubles {}", counts.doubles)?;
-    writeln!(out, "audit yes")
+// Writes a line of words and a number.
+fn write_line<W: Write>(out: &mut W, words: &str, number: usize) -> Result<(), DemoFault>
+    ensures written { OnOk result (Appends (W.contents out.old) (W.contents out.new)
+        (line words.now number)) }
+    ensures fault { IfErr result (λ fault. fault ≡ Write) }
+{
+    match writeln!(out, "{words} {number}") {
+        Ok(()) => Ok(()),
+        Err(_) => Err(DemoFault::Write),
+    }
 }
 
-// Writes how a demonstration came out, and says whether the audit said yes.
-fn tell<W: Write, P: Write>(
+// Writes a text.
+fn write_text<W: Write>(out: &mut W, text: &str) -> Result<(), DemoFault>
+    ensures written { OnOk result (Appends (W.contents out.old) (W.contents out.new) text.now) }
+    ensures fault { IfErr result (λ fault. fault ≡ Write) }
+{
+    match out.write_all(text.as_bytes()) {
+        Ok(()) => Ok(()),
+        Err(_) => Err(DemoFault::Write),
+    }
+}
+
+// Writes what was counted, and that the audit said yes.
+fn write_yes<W: Write>(out: &mut W, counts: Counts) -> Result<(), DemoFault>
+    ensures written { OnOk result (Appends (W.contents out.old) (W.contents out.new)
+        (yes_text counts)) }
+    ensures fault { IfErr result (λ fault. fault ≡ Write) }
+{
+    write_line(out, "inputs", counts.inputs)?;
+    write_line(out, "outputs", counts.outputs)?;
+    write_line(out, "doubles", counts.doubles)?;
+    write_text(out, "audit yes\n")
+}
+
+// Audits what was played, and prints what came of it.
+fn judge<W: Write, P: Write>(
     alloc: Global,
-    found: Result<Found, AuditFault>,
+    played: Played,
     out: &mut W,
     picture: Option<&mut P>,
-) -> Result<bool, DemoFault> {
-    let run = match found {
+) -> Result<bool, DemoFault>
+    ensures { Tells (W.contents out.old) (W.contents out.new) result }
+{
+    let Played { traces, receipts } = played;
+    let run = match audit(alloc, traces, receipts.as_slice()) {
         Ok(run) => run,
         Err(AuditFault::Memory) => return Err(DemoFault::Memory),
         Err(fault) => {
-            let written = writeln!(out, "audit no {}", fault.number());
-            return written.map(|()| false).map_err(|_| DemoFault::Write);
+            write_line(out, "audit no", usize::from(fault.number()))?;
+            return Ok(false);
         }
     };
     let counts = count(alloc, &run)?;
     if let Some(picture) = picture {
-        write_picture(&run, picture).map_err(|_| DemoFault::Write)?;
+        if write_picture(&run, picture).is_err() {
+            return Err(DemoFault::Write);
+        }
     }
-    write_counts(out, counts)
-        .map(|()| true)
-        .map_err(|_| DemoFault::Write)
+    write_yes(out, counts)?;
+    Ok(true)
 }
 
 /// Plays the demonstration, audits it, and prints what the audited run has: `inputs`, `outputs` and
@@ -58,7 +87,7 @@ fn tell<W: Write, P: Write>(
 ///
 /// # Errors
 ///
-/// As [`DemoFault`] has them. After `GaveUp`, `gave up` is printed; after the others, no line.
+/// As [`DemoFault`] has them. After `GaveUp`, `gave up` is printed.
 pub fn demo<
     R: Net<Listener = TcpListener, Stream = TcpStream>
         + AllocGlobal
@@ -72,20 +101,16 @@ pub fn demo<
         + 'static,
     W: Write,
     P: Write,
->(rt: R, options: &DemoOptions, out: &mut W, picture: Option<&mut P>) -> Result<bool, DemoFault> {
-    let Played { traces, receipts } = match play(rt, options) {
-        Ok(played) => played,
+>(rt: R, options: &DemoOptions, out: &mut W, picture: Option<&mut P>) -> Result<bool, DemoFault>
+    // What it printed: of a yes, what was counted in a run that keeps the guarantees.
+    ensures { Tells (W.contents out.old) (W.contents out.new) result }
+{
+    match play(rt, options) {
+        Ok(played) => judge(rt.alloc(), played, out, picture),
         Err(DemoFault::GaveUp) => {
-            writeln!(out, "gave up").map_err(|_| DemoFault::Write)?;
-            return Err(DemoFault::GaveUp);
+            write_text(out, "gave up\n")?;
+            Err(DemoFault::GaveUp)
         }
-        Err(fault) => return Err(fault),
-    };
-    let alloc = rt.alloc();
-    tell(
-        alloc,
-        audit(alloc, traces, receipts.as_slice()),
-        out,
-        picture,
-    )
+        Err(fault) => Err(fault),
+    }
 }
