@@ -4,6 +4,7 @@ ghost use Rattle.kx_broker.specs.Serving.{Serving};
 ghost use Rattle.kx_cluster.specs.Any.{any_state};
 ghost use Rattle.kx_demo.specs.Counting.{AreCommitted, AreCounts, IsServer, doubles, texts};
 ghost use Rattle.kx_demo.specs.Counting.{value_of};
+ghost use Rattle.kx_message.specs.Ranges.{data_partitions};
 ghost use Rattle.kx_model.specs.Reading.{committed_of};
 ghost use Rattle.kx_script.specs.Prefixed.{images_of};
 
@@ -35,7 +36,7 @@ pub struct Counts {
 
 // The server of a data partition, as its trace left it.
 fn server_of(run: &Found, number: u8) -> Option<&PartitionMachine<LocalStore>>
-    requires { number < 16 }
+    requires { number < data_partitions }
     ensures some { IfSome result (λ server.
         IsServer (any_state images_of) run.now number server.now) }
     ensures none { IfNone result ((server : Serving)
@@ -71,7 +72,7 @@ fn values_of<'a>(alloc: Global, page: FetchPage<'a>) -> Result<Vec<&'a [u8]>, Al
 
 // The values of the committed records of a data partition.
 fn values_in(alloc: Global, run: &Found, number: u8) -> Result<Vec<&[u8]>, AllocError>
-    requires { number < 16 }
+    requires { number < data_partitions }
     ensures { IfOk result (λ values.
         AreCommitted (any_state images_of) run.now number (texts values.items)) }
 {

@@ -1,4 +1,7 @@
 //! The nodes of the demonstration, those of the core and those of its clients.
+ghost use Rattle.std.specs.Prelude.{◌≡◌, ◌<◌};
+ghost use Rattle.kx_message.specs.Ranges.{data_partitions};
+
 use crate::fault::DemoFault;
 use kx_cluster::{AnyMaking, LocalNode, local_node};
 use kx_machine::{Machine, Making};
@@ -28,7 +31,9 @@ fn server(alloc: Global, making: Making) -> Result<Arc<DemoNode>, AllocError> {
 }
 
 /// The data partition of a number; of none that there is, the offsets partition.
-pub(crate) fn partition(number: u8) -> PartitionId {
+pub(crate) fn partition(number: u8) -> PartitionId
+    ensures { number < data_partitions → result ≡ number }
+{
     PartitionId::try_from(u16::from(number)).unwrap_or(PartitionId::OFFSETS)
 }
 
