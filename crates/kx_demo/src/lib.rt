@@ -8,9 +8,10 @@
 //! core behind their connections, `stage` the threads of these, `wires` the connections. `client` is
 //! a client before its own, `producers` and `members` what the clients do, `cast` all of them in
 //! turn, `playing` all of it from the first connection to the last thread. `counting` and `report`
-//! count and print what came of it, and `picture` writes down what happened.
+//! count and print what came of it, and `picture` writes down what happened, with `arrivals`.
 #![tactic(auto)]
 
+mod arrivals;
 mod cast;
 mod client;
 mod counting;

@@ -1,10 +1,10 @@
 //! What a demonstration prints.
-ghost use Rattle.std.specs.Prelude.{◌≡◌, IfErr, OnOk};
+ghost use Rattle.std.specs.Prelude.{◌≡◌, ◌≢◌, IfErr, OnOk};
 ghost use Rattle.std.specs.Io.KnownBytes.{Appends};
 ghost use Rattle.kx_demo.specs.Telling.{Tells, line, yes_text};
-ghost use Rattle.kx_demo.specs.declared.fault.DemoFault.TheVariants.{Write};
+ghost use Rattle.kx_demo.specs.declared.fault.DemoFault.TheVariants.{GaveUp, Write};
 
-use crate::counting::{Counts, count};
+use crate::counting::{Counts, Found, count};
 use crate::fault::DemoFault;
 use crate::options::DemoOptions;
 use crate::picture::write_picture;
@@ -52,6 +52,17 @@ fn write_yes<W: Write>(out: &mut W, counts: Counts) -> Result<(), DemoFault>
     write_text(out, "audit yes\n")
 }
 
+// Writes what happened.
+fn draw<P: Write>(alloc: Global, run: &Found, picture: &mut P) -> Result<(), DemoFault>
+    ensures { IfErr result (λ fault. fault ≢ GaveUp) }
+{
+    match write_picture(alloc, run, picture) {
+        Ok(()) => Ok(()),
+        Err(DemoFault::Memory) => Err(DemoFault::Memory),
+        Err(_) => Err(DemoFault::Write),
+    }
+}
+
 // Audits what was played, and prints what came of it.
 fn judge<W: Write, P: Write>(
     alloc: Global,
@@ -72,9 +83,7 @@ fn judge<W: Write, P: Write>(
     };
     let counts = count(alloc, &run)?;
     if let Some(picture) = picture {
-        if write_picture(&run, picture).is_err() {
-            return Err(DemoFault::Write);
-        }
+        draw(alloc, &run, picture)?;
     }
     write_yes(out, counts)?;
     Ok(true)
