@@ -47,6 +47,10 @@ void bench_produce(void);
 void bench_growth(void);
 void bench_pages(void);
 
+/* pages.c: makes a log of so many transactions in plain C, as kx_bench_pages does, and reads so many
+ * committed pages of it: how many records they have. */
+int64_t pages_in_c(uint64_t transactions, uint64_t pages);
+
 /* serve.c: a stream of frames, through the server of a partition. */
 void bench_serve(void);
 

@@ -52,7 +52,7 @@ pub extern "C" fn kx_bench_produce(alloc: Global, text: &[u8], count: u64) -> i6
 fn batch_of(alloc: Global, held: Held) -> Result<Vec<u8>, BuildFault> {
     let mut builder = BatchBuilder::new(alloc, 0x10, held.id.get(), held.epoch.get(), 0);
     builder.push(None, Some(&VALUE), &[])?;
-    builder.finish()
+    builder.into_text()
 }
 
 // The producer and the epoch of a transaction, by its number.

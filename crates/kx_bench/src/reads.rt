@@ -57,7 +57,7 @@ fn built_size(alloc: Global, records: u64) -> Result<usize, BuildFault>
     for _ in 0..records {
         builder.push(None, Some(&VALUE), &[])?;
     }
-    let text = builder.finish()?;
+    let text = builder.into_text()?;
     Ok(text.len())
 }
 

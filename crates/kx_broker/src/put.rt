@@ -22,7 +22,7 @@ fn plain_batch(alloc: Global, values: &Values) -> Result<Option<Vec<u8>>, AllocE
     for value in values.more.as_slice() {
         builder.push(None, Some(value.as_slice()), &[])?;
     }
-    match builder.finish() {
+    match builder.into_text() {
         Ok(text) => Ok(Some(text)),
         Err(BuildFault::TooLarge) => Ok(None),
         Err(BuildFault::Memory) => Err(AllocError),
