@@ -5,6 +5,7 @@
 pub use coordinator::CoordinatorNode;
 pub use dump::Dumps;
 pub use events::WorldEvents;
+pub use images::ImageCases;
 pub use pair::try_pair;
 pub use partition::PartitionNode;
 pub use replies::Replies;
@@ -13,6 +14,7 @@ pub use scripts::Scripts;
 mod coordinator;
 mod dump;
 mod events;
+mod images;
 mod lines;
 mod pair;
 mod partition;

@@ -11,7 +11,7 @@ use kx_cases_formats::{BatchCases, FrameCases, NumberCases, ValueCases};
 use kx_cases_groups::{GroupCases, GuardCases, OffsetCases};
 use kx_cases_logs::{AbortedCases, EntryCases, LogCases, OpenCases, ProducerCases, TxnLogCases};
 use kx_cases_nodes::{
-    CoordinatorNode, Dumps, PartitionNode, Replies, Scripts, WorldEvents, try_pair,
+    CoordinatorNode, Dumps, ImageCases, PartitionNode, Replies, Scripts, WorldEvents, try_pair,
 };
 use kx_cases_streams::StreamCases;
 use std::process::ExitCode;
@@ -68,6 +68,7 @@ fn try_nodes(rt: &(impl Print + AllocGlobal), front: &str, text: &str) -> io::Re
         "partition" => try_cases::<PartitionNode>(rt, text),
         "reply" => try_cases::<Replies>(rt, text),
         "events" => try_cases::<WorldEvents>(rt, text),
+        "images" => try_cases::<ImageCases>(rt, text),
         "script" => try_cases::<Scripts>(rt, text),
         "dump" => try_cases::<Dumps>(rt, text),
         "streams" => try_cases::<StreamCases>(rt, text),
