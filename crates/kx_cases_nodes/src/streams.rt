@@ -27,9 +27,8 @@ impl<'a> Giving<'a> {
 
 impl<'a> Read for Giving<'a> {
     fn read(&mut self, buf: &mut [u8]) -> io::Result<usize> {
-        let given = self.fill_buf()?;
-        let count = given.len().min(buf.len());
-        buf[..count].copy_from_slice(&given[..count]);
+        let mut given = self.fill_buf()?;
+        let count = given.read(buf)?;
         self.consume(count);
         Ok(count)
     }
