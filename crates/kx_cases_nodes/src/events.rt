@@ -1,14 +1,17 @@
 //! Events that happen in a world, and what its readers tell. What each step means stands at the
 //! head of `events.cases`.
-use crate::lines::{on_one_line, script_of};
+use crate::lines::on_one_line;
 use crate::parts::{Parts, nothing};
 use kx_cases::{
     StepFault, Subject, Texts, known, told_done, told_name, told_option, told_value, value,
 };
+use kx_client::{ValueList, Values};
 use kx_core::{Config, Event, LocalWorld, PartitionCount};
-use kx_machine::{Input, StoreMode};
-use kx_message::{ClientId, GroupId, Node, PartitionId, Timeout, TxnId};
-use kx_script::{Happening, Order, Prefixed, command_of, order_in, values_of, write_rows};
+use kx_machine::{Command, Input, StoreMode};
+use kx_message::{
+    Bytes, ClientId, GroupId, Node, Offsets, Outcome, PartitionId, PartitionOffset, Timeout, TxnId,
+};
+use kx_script::{Prefixed, write_rows};
 use std::alloc::Global;
 
 type Local = LocalWorld<Prefixed>;
@@ -46,23 +49,57 @@ fn node(word: &str) -> Result<Node, StepFault> {
     }
 }
 
-// What a line of a script hands to a node, whichever node that line names.
-fn input(alloc: Global, what: Happening<'_>) -> Result<Input, StepFault> {
-    match what {
-        Happening::Tell(_, task) => Ok(Input::Command(command_of(alloc, task)?)),
-        Happening::Put(_, batch) => Ok(Input::Put(values_of(alloc, batch)?)),
-        Happening::Expire(now) => Ok(Input::Expire(now)),
-        Happening::Remind => Ok(Input::Remind),
-        Happening::Drop(group, member) => Ok(Input::Drop(group, member)),
-        Happening::Restart(_) => Ok(Input::Restart(0)),
+fn bytes(alloc: Global, word: &str) -> Result<Bytes, StepFault> {
+    Ok(Bytes::from_vec(Vec::from_slice(alloc, word.as_bytes())?))
+}
+
+// The words as the values of a batch.
+fn values(alloc: Global, words: &[&str]) -> Result<Values, StepFault> {
+    let [first, more @ ..] = words else {
+        return Err(StepFault::Unknown);
+    };
+    let first = bytes(alloc, first)?;
+    let mut others = Vec::new(alloc);
+    for word in more {
+        others.push(bytes(alloc, word)?)?;
+    }
+    Ok(Values {
+        first,
+        more: ValueList::from_vec(others),
+    })
+}
+
+// One offset of an input partition.
+fn offsets(alloc: Global, of: &str, at: &str) -> Result<Offsets, StepFault> {
+    let offset = PartitionOffset {
+        partition: partition(of)?,
+        offset: value(at)?,
+    };
+    Ok(Offsets::from_vec(vec![in alloc; offset]?))
+}
+
+// What a client is told to do.
+fn command(alloc: Global, words: &[&str]) -> Result<Command, StepFault> {
+    match words {
+        ["init"] => Ok(Command::Init),
+        ["begin"] => Ok(Command::Begin),
+        ["send", to, given @ ..] => Ok(Command::Send(partition(to)?, values(alloc, given)?)),
+        ["join", group] => Ok(Command::Join(value(group)?)),
+        ["offset", of, at] => Ok(Command::Offsets(offsets(alloc, of, at)?)),
+        ["commit"] => Ok(Command::End(Outcome::Commit)),
         _ => Err(StepFault::Unknown),
     }
 }
 
-fn input_in(alloc: Global, line: &str) -> Result<Input, StepFault> {
-    match order_in(line.as_bytes()) {
-        Some(Order::Happen(what)) => input(alloc, what),
-        _ => Err(StepFault::Unknown),
+// What a node is handed.
+fn input(alloc: Global, words: &[&str]) -> Result<Input, StepFault> {
+    match words {
+        ["put", given @ ..] => Ok(Input::Put(values(alloc, given)?)),
+        ["expire", now] => Ok(Input::Expire(value(now)?)),
+        ["remind"] => Ok(Input::Remind),
+        ["drop", group, member] => Ok(Input::Drop(value(group)?, client(member)?)),
+        ["restart"] => Ok(Input::Restart(0)),
+        _ => Ok(Input::Command(command(alloc, words)?)),
     }
 }
 
@@ -80,9 +117,9 @@ fn event(alloc: Global, words: &[&str]) -> Result<Option<Event<Prefixed>>, StepF
             to: node(to)?,
             store,
         }),
-        ["hand", to, line @ ..] => Some(Event::Hand {
+        ["hand", to, given @ ..] => Some(Event::Hand {
             to: node(to)?,
-            input: input_in(alloc, script_of(alloc, line)?.as_str())?,
+            input: input(alloc, given)?,
             store,
         }),
         _ => None,

@@ -43,7 +43,10 @@ impl<'a> BufRead for Giving<'a> {
             self.reads -= 1;
             self.left = self.most.min(self.rest.len());
         }
-        Ok(self.rest.get(..self.left).unwrap_or(&[]))
+        match self.rest.get(..self.left) {
+            Some(given) => Ok(given),
+            None => Ok(&[]),
+        }
     }
 
     fn consume(&mut self, amount: usize) {
