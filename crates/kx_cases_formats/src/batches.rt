@@ -1,7 +1,7 @@
-//! Record batches. `crc`, `size`, `read`, `header`, `producer`, `records`, `record N`, `end-marker`
-//! tell of bytes; `cuts` reads each front of them, `flips BITS FROM` them with each byte from a
-//! place on changed. `build`, `push`, `built`, `finish` and `based` make a batch, `marker` a
-//! control batch. A text is told as `null`, in digits, or where it is long by its length.
+//! Record batches. `crc`, `size`, `read`, `header`, `layout`, `producer`, `records`, `record N`,
+//! `end-marker` tell of bytes; `cuts` reads each front of them, `flips BITS FROM` them with each
+//! byte from a place on changed. `build`, `push`, `built`, `finish` and `based` make a batch,
+//! `marker` a control batch. A text is told as `null`, in digits, or where it is long by its length.
 use kx_batch::{
     BatchBuilder, BatchView, BuildFault, HeaderView, RecordView, crc32c, marker_text, set_base,
 };
@@ -52,6 +52,16 @@ fn header(alloc: Global, batch: &BatchView<'_>) -> Result<String, StepFault> {
     let transactional = batch.is_transactional();
     let control = batch.is_control();
     Ok(format!(in alloc; "{base} {leader} {first} {last} {attributes} {transactional} {control}")?)
+}
+
+// The length, the magic byte, the checksum, the last offset delta and the count of records.
+fn layout(alloc: Global, batch: &BatchView<'_>) -> Result<String, StepFault> {
+    let length = batch.batch_length();
+    let magic = batch.magic();
+    let crc = batch.crc();
+    let last = batch.last_offset_delta();
+    let count = batch.record_count();
+    Ok(format!(in alloc; "{length} {magic} {crc:08x} {last} {count}")?)
 }
 
 // The producer's id and epoch, and the sequence of its first record.
@@ -198,6 +208,7 @@ fn nullable(texts: &Texts, word: &str) -> Result<Option<Vec<u8>>, StepFault> {
 fn batch_step(alloc: Global, name: &str, bytes: &[u8]) -> Result<String, StepFault> {
     match name {
         "header" => header(alloc, &view(bytes)?),
+        "layout" => layout(alloc, &view(bytes)?),
         "producer" => producer(alloc, &view(bytes)?),
         "records" => records(alloc, &view(bytes)?),
         "end-marker" => end_marker(alloc, &view(bytes)?),

@@ -1,7 +1,7 @@
 //! Steps that dump bytes.
-use crate::parts::nothing;
-use crate::streams::Full;
-use kx_cases::{StepFault, Subject, Texts, told_name, told_value, value};
+use crate::parts::{ended_in_front, nothing};
+use crate::streams::Taking;
+use kx_cases::{Runs, StepFault, Subject, Texts, told_name, told_value, value};
 use kx_text::dump_batches;
 use std::alloc::Global;
 use std::str;
@@ -43,9 +43,24 @@ impl Dumps {
     }
 }
 
-// How a dump ends whose writer has room for so many bytes.
-fn full(alloc: Global, room: usize, bytes: &[u8]) -> Result<String, StepFault> {
-    told_name(alloc, dump_batches(bytes, &mut Full(room)))
+// How a dump ends whose writer has room for so many bytes, from none on, and the front of what it
+// writes is written.
+fn full(alloc: Global, most: usize, bytes: &[u8]) -> Result<String, StepFault> {
+    let mut whole = Vec::new(alloc);
+    let _ended = dump_batches(bytes, &mut whole);
+    let mut runs = Runs::new(alloc);
+    for room in 0..=most {
+        let mut writer = Taking {
+            taken: Vec::new(alloc),
+            room,
+        };
+        let ended = dump_batches(bytes, &mut writer);
+        runs.push(
+            room,
+            ended_in_front(alloc, ended, writer.taken.as_slice(), whole.as_slice())?,
+        )?;
+    }
+    Ok(runs.finish()?)
 }
 
 impl Subject for Dumps {
@@ -61,9 +76,9 @@ impl Subject for Dumps {
         match words {
             ["dump", bytes] => self.dump(texts.bytes(bytes)?.as_slice()),
             ["line"] => self.line(),
-            ["full", room, bytes] => {
-                let room = value(room)?;
-                full(self.alloc, room, texts.bytes(bytes)?.as_slice())
+            ["full", most, bytes] => {
+                let most = value(most)?;
+                full(self.alloc, most, texts.bytes(bytes)?.as_slice())
             }
             _ => Err(StepFault::Unknown),
         }

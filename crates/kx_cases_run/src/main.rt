@@ -10,7 +10,9 @@ use kx_cases_clients::ClientCases;
 use kx_cases_formats::{BatchCases, FrameCases, NumberCases, ValueCases};
 use kx_cases_groups::{GroupCases, GuardCases, OffsetCases};
 use kx_cases_logs::{AbortedCases, EntryCases, LogCases, OpenCases, ProducerCases, TxnLogCases};
-use kx_cases_nodes::{CoordinatorNode, Dumps, PartitionNode, Replies, Scripts, try_pair};
+use kx_cases_nodes::{
+    CoordinatorNode, Dumps, ImageCases, PartitionNode, Replies, Scripts, WorldEvents, try_pair,
+};
 use kx_cases_streams::StreamCases;
 use std::process::ExitCode;
 use std::rt::Files;
@@ -65,6 +67,8 @@ fn try_nodes(rt: &(impl Print + AllocGlobal), front: &str, text: &str) -> io::Re
         "coordinator" => try_cases::<CoordinatorNode>(rt, text),
         "partition" => try_cases::<PartitionNode>(rt, text),
         "reply" => try_cases::<Replies>(rt, text),
+        "events" => try_cases::<WorldEvents>(rt, text),
+        "images" => try_cases::<ImageCases>(rt, text),
         "script" => try_cases::<Scripts>(rt, text),
         "dump" => try_cases::<Dumps>(rt, text),
         "streams" => try_cases::<StreamCases>(rt, text),

@@ -1,0 +1,100 @@
+//! A processor whose images may be too large for a batch. What each step means stands at the head
+//! of `images.cases`.
+use crate::parts::{Parts, nothing};
+use kx_cases::{StepFault, Subject, Texts, known, told_name, value};
+use kx_client::{ClientFault, ProducerClient};
+use kx_message::{ClientId, GroupId, Message, Timeout, TxnId};
+use kx_processor::{Inputs, Processor};
+use kx_script::Prefixed;
+use kx_wire::Frames;
+use std::alloc::Global;
+
+type Prefixing = Processor<Prefixed>;
+
+/// The processor of a case, once it is made.
+#[derive(Drop)]
+pub struct ImageCases {
+    alloc: Global,
+    processor: Option<Prefixing>,
+}
+
+// The requests that are handed out, each as RECEIVER TEXT, or why they aren't.
+fn told_sent(alloc: Global, sent: Result<Vec<Message>, ClientFault>) -> Result<String, StepFault> {
+    let sent = match sent {
+        Ok(sent) => sent,
+        Err(fault) => return told_name(alloc, fault),
+    };
+    let mut parts = Parts::new(alloc, "; ");
+    for message in sent.iter() {
+        parts.push(format!(in alloc; "{} {message}", message.receiver())?)?;
+    }
+    parts.finish()
+}
+
+// The request that is handed out, or why it isn't.
+fn told_one(alloc: Global, sent: Result<Message, ClientFault>) -> Result<String, StepFault> {
+    match sent {
+        Ok(message) => Ok(format!(in alloc; "{} {message}", message.receiver())?),
+        Err(fault) => told_name(alloc, fault),
+    }
+}
+
+// The message of these bytes, which are one frame.
+fn message_of(alloc: Global, bytes: &[u8]) -> Result<Message, StepFault> {
+    let mut messages = known(Frames::new(alloc).feed(bytes))?;
+    messages.pop().ok_or(StepFault::Unknown)
+}
+
+impl ImageCases {
+    // Makes a processor, with a timeout of a minute.
+    fn make(&mut self, words: &[&str]) -> Result<String, StepFault> {
+        let [number, txn, group, inputs] = words else {
+            return Err(StepFault::Unknown);
+        };
+        let alloc = self.alloc;
+        let number = ClientId::from(value::<u32>(number)?);
+        let txn = value::<TxnId>(txn)?;
+        let timeout = known(Timeout::try_from(60_000))?;
+        let group = value::<GroupId>(group)?;
+        let inputs = known(Inputs::try_from(value::<u8>(inputs)?))?;
+        let client = ProducerClient::new(alloc, number, Some(txn), timeout);
+        let process = Prefixed::new(alloc);
+        self.processor = Some(Processor::new(alloc, client, group, inputs, process));
+        nothing(alloc)
+    }
+
+    // A step of a processor that is made.
+    fn within(&mut self, texts: &Texts, words: &[&str]) -> Result<String, StepFault> {
+        let alloc = self.alloc;
+        let Some(processor) = &mut self.processor else {
+            return Err(StepFault::Unknown);
+        };
+        match words {
+            ["init"] => told_one(alloc, processor.init()),
+            ["poll"] => told_sent(alloc, processor.poll()),
+            ["resend"] => told_sent(alloc, processor.resend()),
+            ["take", frame] => {
+                let message = message_of(alloc, texts.bytes(frame)?.as_slice())?;
+                processor.take(&message)?;
+                nothing(alloc)
+            }
+            _ => Err(StepFault::Unknown),
+        }
+    }
+}
+
+impl Subject for ImageCases {
+    fn new(alloc: Global) -> Self {
+        ImageCases {
+            alloc,
+            processor: None,
+        }
+    }
+
+    fn answer(&mut self, texts: &Texts, words: &[&str]) -> Result<String, StepFault> {
+        match words {
+            ["processor", given @ ..] => self.make(given),
+            _ => self.within(texts, words),
+        }
+    }
+}
