@@ -18,7 +18,7 @@ const PAUSE_MILLIS: u64 = 5;
 /// A connection to a server on this machine, by the word that names it.
 #[derive(Drop)]
 pub(crate) struct Client {
-    pub(crate) name: String,
+    name: String,
     stream: TcpStream,
 }
 
@@ -42,6 +42,11 @@ impl Client {
             return Err(StepFault::Unknown);
         }
         Ok(Client { name, stream })
+    }
+
+    /// Whether this is its name.
+    pub(crate) fn is_named(&self, name: &str) -> bool {
+        self.name.as_str() == name
     }
 
     /// Writes bytes, and says whether they were taken.

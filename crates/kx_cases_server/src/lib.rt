@@ -5,6 +5,7 @@
 pub use trial::try_session;
 
 mod client;
+mod clients;
 mod folder;
 mod lines;
 mod running;

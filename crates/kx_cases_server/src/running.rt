@@ -83,11 +83,7 @@ impl Running {
             + Sync
             + Drop
             + 'static,
-    >(
-        rt: R,
-        alloc: Global,
-        wanted: Wanted,
-    ) -> Result<Running, AllocError>
+    >(rt: R, alloc: Global, wanted: Wanted) -> Result<Running, AllocError>
     where
         R::Dir: Send,
     {
@@ -125,10 +121,7 @@ impl Running {
 }
 
 /// Tells the number and the words of the fault of a server, if it has one.
-pub(crate) fn tell_end(
-    told: &mut String,
-    ended: Result<(), ServeFault>,
-) -> Result<(), AllocError> {
+pub(crate) fn tell_end(told: &mut String, ended: Result<(), ServeFault>) -> Result<(), AllocError> {
     match ended {
         Ok(()) => Ok(()),
         Err(fault) => writeln!(told, "fault {} {fault}", fault.number()),

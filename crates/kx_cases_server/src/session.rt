@@ -14,10 +14,10 @@
 //! - `rival FOLDER` has a second server try to serve that folder, and tells its fault;
 //! - `clear FOLDER` removes a folder and what is in it; `append FILE BYTES` puts bytes behind those
 //!   of a file.
-use crate::client::Client;
+use crate::clients::Clients;
 use crate::folder::{append, clear};
 use crate::running::{Running, Wanted, tell_end};
-use kx_cases::{StepFault, Texts, told_bytes, value};
+use kx_cases::{StepFault, Texts, value};
 use kx_server::serve;
 use std::alloc::{AllocError, Global};
 use std::fs::{File, Files};
@@ -25,6 +25,13 @@ use std::net::{Net, TcpListener, TcpStream};
 use std::sync::Wait;
 use std::thread::Threads;
 use std::time::Clock;
+
+/// What a session told, and why it ended before its last line, if it did.
+#[derive(Drop)]
+pub(crate) struct Told {
+    pub(crate) text: String,
+    pub(crate) ended: Result<(), StepFault>,
+}
 
 /// A session: the server, if one runs, its port, its clients, and what is told.
 #[derive(Drop)]
@@ -34,7 +41,7 @@ pub(crate) struct Session<R: Drop> {
     texts: Texts,
     running: Option<Running>,
     port: u16,
-    clients: Vec<Client>,
+    clients: Clients,
     told: String,
 }
 
@@ -64,14 +71,9 @@ where
             texts: Texts::new(alloc),
             running: None,
             port: 0,
-            clients: Vec::new(alloc),
+            clients: Clients::new(alloc),
             told: String::new(alloc),
         }
-    }
-
-    /// What was told.
-    pub(crate) fn told(&self) -> &str {
-        self.told.as_str()
     }
 
     // Starts a server.
@@ -101,87 +103,39 @@ where
 
     // Closes all connections, and waits for the server.
     fn end(&mut self) -> Result<(), StepFault> {
-        self.clients = Vec::new(self.alloc);
+        self.clients.close_all();
         let running = self.running.take().ok_or(StepFault::Unknown)?;
         running.end(&self.rt, self.alloc, &mut self.told)
-    }
-
-    // Connects, under this name.
-    fn connect(&self, name: &str) -> Result<Client, StepFault> {
-        let name = String::from_str(self.alloc, name)?;
-        Client::open(&self.rt, self.port, name)
-    }
-
-    fn open(&mut self, name: &str) -> Result<(), StepFault> {
-        let client = self.connect(name)?;
-        self.clients.push(client)?;
-        Ok(())
     }
 
     // Connects so often, and tells how many are answered.
     fn crowd(&mut self, name: &str, count: usize, request: &str) -> Result<(), StepFault> {
         let request = self.texts.bytes(request)?;
-        let mut answered = 0usize;
-        for _ in 0..count {
-            let client = self.connect(name)?;
-            if client.is_answered(self.alloc, request.as_slice())? {
-                answered = answered.saturating_add(1);
-            }
-            self.clients.push(client)?;
-        }
+        let request = request.as_slice();
+        let answered = self
+            .clients
+            .open_many(&self.rt, self.port, name, count, request)?;
         Ok(writeln!(self.told, "{answered} answered")?)
     }
 
-    // The first connection of a name.
-    fn client(&self, name: &str) -> Result<&Client, StepFault> {
-        self.clients
-            .iter()
-            .find(|client| client.name.as_str() == name)
-            .ok_or(StepFault::Unknown)
-    }
-
-    fn drop_clients(&mut self, name: &str) {
-        self.clients.retain(|client| client.name.as_str() != name);
-    }
-
+    // Writes bytes. What the server does with a connection that it closed is told by other lines.
     fn send(&self, name: &str, bytes: &str) -> Result<(), StepFault> {
         let bytes = self.texts.bytes(bytes)?;
-        // What the server does with a connection that it closed is told by other lines.
-        let _is_sent = self.client(name)?.send(bytes.as_slice());
+        let _is_sent = self.clients.named(name)?.send(bytes.as_slice());
         Ok(())
     }
 
     fn send_bytewise(&self, name: &str, bytes: &str) -> Result<(), StepFault> {
         let bytes = self.texts.bytes(bytes)?;
-        self.client(name)?.send_bytewise(bytes.as_slice());
+        self.clients.named(name)?.send_bytewise(bytes.as_slice());
         Ok(())
-    }
-
-    // Tells the next frame that comes.
-    fn receive(&mut self, name: &str) -> Result<(), StepFault> {
-        let frame = self.client(name)?.receive(self.alloc)?;
-        let told = match frame {
-            Some(frame) => told_bytes(self.alloc, frame.as_slice())?,
-            None => String::from_str(self.alloc, "nothing")?,
-        };
-        Ok(writeln!(self.told, "{name} {told}")?)
-    }
-
-    // Tells whether the server closes a connection.
-    fn closed(&mut self, name: &str) -> Result<(), StepFault> {
-        let word = if self.client(name)?.is_closed() {
-            "closed"
-        } else {
-            "open"
-        };
-        Ok(writeln!(self.told, "{name} {word}")?)
     }
 
     // Sends a request until a reply comes.
     fn until(&mut self, name: &str, request: &str, reply: &str) -> Result<(), StepFault> {
         let request = self.texts.bytes(request)?;
         let reply = self.texts.bytes(reply)?;
-        let client = self.client(name)?;
+        let client = self.clients.named(name)?;
         let has_come = client.ask_until(
             &self.rt,
             self.alloc,
@@ -190,6 +144,11 @@ where
         )?;
         let word = if has_come { "came" } else { "never" };
         Ok(writeln!(self.told, "{name} {word}")?)
+    }
+
+    fn append(&self, file: &str, bytes: &str) -> Result<(), StepFault> {
+        let bytes = self.texts.bytes(bytes)?;
+        append(&self.rt, file, bytes.as_slice())
     }
 
     // Takes a step with a server or its folder.
@@ -205,10 +164,7 @@ where
                 clear(&self.rt, folder);
                 Ok(())
             }
-            ["append", file, bytes] => {
-                let bytes = self.texts.bytes(bytes)?;
-                append(&self.rt, file, bytes.as_slice())
-            }
+            ["append", file, bytes] => self.append(file, bytes),
             _ => Err(StepFault::Unknown),
         }
     }
@@ -217,27 +173,27 @@ where
     fn take(&mut self, words: &[&str]) -> Result<(), StepFault> {
         match words {
             ["bytes", name, "=", bytes] => self.texts.name(name, bytes),
-            ["open", name] => self.open(name),
+            ["open", name] => self.clients.open(&self.rt, self.port, name),
             ["crowd", name, count, bytes] => self.crowd(name, value(count)?, bytes),
             ["send", name, bytes] => self.send(name, bytes),
             ["bytewise", name, bytes] => self.send_bytewise(name, bytes),
-            ["receive", name] => self.receive(name),
-            ["closed", name] => self.closed(name),
+            ["receive", name] => self.clients.tell_next(name, &mut self.told),
+            ["closed", name] => self.clients.tell_closed(name, &mut self.told),
             ["until", name, request, reply] => self.until(name, request, reply),
             ["finish", name] => {
-                self.client(name)?.finish();
+                self.clients.named(name)?.finish();
                 Ok(())
             }
             ["drop", name] => {
-                self.drop_clients(name);
+                self.clients.close(name);
                 Ok(())
             }
             _ => self.take_server(words),
         }
     }
 
-    /// Takes all steps of a session. A line that begins with `#` says nothing.
-    pub(crate) fn take_all(&mut self, session: &str) -> Result<(), StepFault> {
+    // Takes all steps of a session. A line that begins with `#` says nothing.
+    fn take_all(&mut self, session: &str) -> Result<(), StepFault> {
         for line in session.lines() {
             if line.is_empty() || line.starts_with('#') {
                 continue;
@@ -246,5 +202,14 @@ where
             self.take(words.as_slice())?;
         }
         Ok(())
+    }
+
+    /// Takes all steps of a session, up to one that can't be taken.
+    pub(crate) fn run(mut self, session: &str) -> Told {
+        let ended = self.take_all(session);
+        Told {
+            text: self.told,
+            ended,
+        }
     }
 }

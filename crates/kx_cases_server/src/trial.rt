@@ -1,8 +1,8 @@
 //! A session, and what it has to tell.
 ghost use Rattle.std.specs.Prelude.{◌≡◌, ◌≤◌, IfOk};
 
-use crate::session::Session;
-use kx_cases::{StepFault, Tally};
+use crate::session::{Session, Told};
+use kx_cases::Tally;
 use std::alloc::Global;
 use std::fs::{File, Files};
 use std::net::{Net, TcpListener, TcpStream};
@@ -12,8 +12,9 @@ use std::time::Clock;
 use std::{fs, io};
 
 // Tells what came in place of what is wanted.
-fn tell_other(rt: &impl Print, told: &str, ended: Result<(), StepFault>) -> io::Result<()> {
-    print!(rt; "{told}")?;
+fn tell_other(rt: &impl Print, told: Told) -> io::Result<()> {
+    let Told { text, ended } = told;
+    print!(rt; "{text}")?;
     match ended {
         Ok(()) => Ok(()),
         Err(fault) => println!(rt; "{fault}"),
@@ -44,14 +45,13 @@ where
     let alloc = rt.alloc();
     let script = fs::read_to_string(rt, format!(in alloc; "{name}.session")?)?;
     let wanted = fs::read_to_string(rt, format!(in alloc; "{name}.out")?)?;
-    let mut session = Session::new(*rt);
-    let ended = session.take_all(script.as_str());
-    let is_right = ended.is_ok() && session.told() == wanted.as_str();
+    let told = Session::new(*rt).run(script.as_str());
+    let is_right = told.ended.is_ok() && told.text.as_str() == wanted.as_str();
     if is_right {
         println!(rt; "ok {name}")?;
     } else {
         println!(rt; "FAILED {name}")?;
-        tell_other(rt, session.told(), ended)?;
+        tell_other(rt, told)?;
     }
     Ok(Tally {
         tried: 1,
