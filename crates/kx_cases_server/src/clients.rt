@@ -1,0 +1,94 @@
+//! The connections of a session.
+use crate::client::Client;
+use kx_cases::{StepFault, told_bytes};
+use std::alloc::Global;
+use std::net::{Net, TcpStream};
+
+/// The connections of a session, each under a name.
+#[derive(Drop)]
+pub(crate) struct Clients {
+    alloc: Global,
+    clients: Vec<Client>,
+}
+
+impl Clients {
+    /// No connection.
+    pub(crate) fn new(alloc: Global) -> Clients {
+        Clients {
+            alloc,
+            clients: Vec::new(alloc),
+        }
+    }
+
+    /// Connects, under this name.
+    pub(crate) fn open<R: Net<Stream = TcpStream>>(
+        &mut self,
+        rt: &R,
+        port: u16,
+        name: &str,
+    ) -> Result<(), StepFault> {
+        let name = String::from_str(self.alloc, name)?;
+        let client = Client::open(rt, port, name)?;
+        self.clients.push(client)?;
+        Ok(())
+    }
+
+    /// Connects so often under this name, and tells how many of the requests are answered of which
+    /// each connection sends one.
+    pub(crate) fn open_many<R: Net<Stream = TcpStream>>(
+        &mut self,
+        rt: &R,
+        port: u16,
+        name: &str,
+        count: usize,
+        request: &[u8],
+    ) -> Result<usize, StepFault> {
+        let mut answered = 0usize;
+        for _ in 0..count {
+            let name = String::from_str(self.alloc, name)?;
+            let client = Client::open(rt, port, name)?;
+            if client.is_answered(self.alloc, request)? {
+                answered = answered.saturating_add(1);
+            }
+            self.clients.push(client)?;
+        }
+        Ok(answered)
+    }
+
+    /// The first connection of a name.
+    pub(crate) fn named(&self, name: &str) -> Result<&Client, StepFault> {
+        self.clients
+            .iter()
+            .find(|client| client.is_named(name))
+            .ok_or(StepFault::Unknown)
+    }
+
+    /// Closes the connections of a name.
+    pub(crate) fn close(&mut self, name: &str) {
+        self.clients.retain(|client| !client.is_named(name));
+    }
+
+    /// Closes all connections.
+    pub(crate) fn close_all(&mut self) {
+        self.clients.clear();
+    }
+
+    /// Tells the next frame that comes over a connection.
+    pub(crate) fn tell_next(&self, name: &str, told: &mut String) -> Result<(), StepFault> {
+        let frame = match self.named(name)?.receive(self.alloc)? {
+            Some(frame) => told_bytes(self.alloc, frame.as_slice())?,
+            None => String::from_str(self.alloc, "nothing")?,
+        };
+        Ok(writeln!(told, "{name} {frame}")?)
+    }
+
+    /// Tells whether the server closes a connection.
+    pub(crate) fn tell_closed(&self, name: &str, told: &mut String) -> Result<(), StepFault> {
+        let word = if self.named(name)?.is_closed() {
+            "closed"
+        } else {
+            "open"
+        };
+        Ok(writeln!(told, "{name} {word}")?)
+    }
+}

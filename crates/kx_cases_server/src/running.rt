@@ -1,0 +1,129 @@
+//! A server on a thread of its own.
+use crate::lines::{Lines, next_line};
+use crossbeam_channel::Receiver;
+use kx_cases::{StepFault, value};
+use kx_server::{Connections, Partitions, ServeFault, ServeOptions, serve};
+use std::alloc::{AllocError, Global};
+use std::fs::{File, Files};
+use std::net::{Net, TcpListener, TcpStream};
+use std::sync::Wait;
+use std::thread;
+use std::thread::{JoinHandle, Threads};
+use std::time::Clock;
+
+/// What a server is asked for.
+#[derive(Drop)]
+pub(crate) struct Wanted {
+    pub(crate) partitions: Partitions,
+    pub(crate) connections: Connections,
+    pub(crate) dir: Option<String>,
+}
+
+impl Wanted {
+    /// As words have it.
+    pub(crate) fn new(
+        alloc: Global,
+        partitions: &str,
+        connections: &str,
+        dir: Option<&str>,
+    ) -> Result<Wanted, StepFault> {
+        let dir = match dir {
+            Some(dir) => Some(String::from_str(alloc, dir)?),
+            None => None,
+        };
+        Ok(Wanted {
+            partitions: Partitions::new(value(partitions)?).ok_or(StepFault::Unknown)?,
+            connections: Connections::new(value(connections)?).ok_or(StepFault::Unknown)?,
+            dir,
+        })
+    }
+
+    /// The same, on any port that is free.
+    pub(crate) fn options(&self) -> ServeOptions<'_> {
+        ServeOptions {
+            partitions: self.partitions,
+            connections: self.connections,
+            port: 0,
+            dir: self.dir.as_deref(),
+            tells_progress: false,
+        }
+    }
+}
+
+/// A server on a thread of its own.
+#[derive(Drop)]
+pub(crate) struct Running {
+    lines: Receiver<Vec<u8>>,
+    server: JoinHandle<Result<(), ServeFault>>,
+}
+
+// The port that the first line names. None where no line comes.
+fn port_in(line: Option<String>) -> Result<Option<u16>, StepFault> {
+    match line {
+        Some(line) => {
+            let word = line.strip_prefix("listening ").ok_or(StepFault::Unknown)?;
+            Ok(Some(value(word)?))
+        }
+        None => Ok(None),
+    }
+}
+
+impl Running {
+    /// Starts a server.
+    pub(crate) fn start<
+        R: Net<Listener = TcpListener, Stream = TcpStream>
+            + Files<File = File>
+            + AllocGlobal
+            + Eprint
+            + Threads
+            + Wait
+            + Clock
+            + Copy
+            + Send
+            + Sync
+            + Drop
+            + 'static,
+    >(rt: R, alloc: Global, wanted: Wanted) -> Result<Running, AllocError>
+    where
+        R::Dir: Send,
+    {
+        let (mut out, lines) = Lines::new(rt, alloc)?;
+        let Ok(server) = thread::spawn(&rt, move || serve(rt, &wanted.options(), &mut out)) else {
+            return Err(AllocError);
+        };
+        Ok(Running { lines, server })
+    }
+
+    /// Waits until the server takes connections, and gives its port. None where it ends before.
+    pub(crate) fn port<R: Wait>(&self, rt: &R, alloc: Global) -> Result<Option<u16>, StepFault> {
+        port_in(next_line(rt, alloc, &self.lines)?)
+    }
+
+    /// Waits until the server has ended, and tells its fault, if it has one, and the lines that it
+    /// printed since.
+    pub(crate) fn end<R: Threads + Wait>(
+        self,
+        rt: &R,
+        alloc: Global,
+        told: &mut String,
+    ) -> Result<(), StepFault> {
+        let Running { lines, server } = self;
+        let ended = server.join(rt);
+        tell_end(told, ended)?;
+        for _ in rt.forever() {
+            let Some(line) = next_line(rt, alloc, &lines)? else {
+                break;
+            };
+            writeln!(told, "{line}")?;
+        }
+        Ok(())
+    }
+}
+
+/// Tells the number and the words of the fault of a server, if it has one.
+pub(crate) fn tell_end(told: &mut String, ended: Result<(), ServeFault>) -> Result<(), AllocError> {
+    match ended {
+        Ok(()) => Ok(()),
+        Err(fault) => writeln!(told, "fault {} {fault}", fault.number()),
+    }
+}
