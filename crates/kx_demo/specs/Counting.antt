@@ -1,6 +1,6 @@
 -- What is counted in a run that an audit found.
 use Rattle.std.specs.Prelude.{◌≡◌, ◌+◌, ◌-◌, ◌++◌, ◌∷◌, [], ℕ, List, length, map, slice_get, Some}
-use Rattle.std.specs.Prelude.{Bool, true, ⊥, if◌then◌else◌, unwrap_or}
+use Rattle.std.specs.Prelude.{Bool, true, if◌then◌else◌, unwrap_or}
 use Rattle.std.specs.Borrow.{Bor}
 use Rattle.std.specs.List.{list_any}
 use Rattle.std.specs.Str.{bytes_eq}

@@ -1,5 +1,5 @@
 -- What a demonstration may be asked for.
-use Rattle.std.specs.Prelude.{ℕ, ◌≤◌, ◌×◌}
+use Rattle.std.specs.Prelude.{ℕ, ◌≤◌}
 
 -- so many threads may serve
 abbrev pub IsWorkers : ℕ → Type 0

@@ -117,13 +117,9 @@ impl Cast {
     fn consume<R: Wait>(&mut self, rt: &R) -> Result<bool, DemoFault> {
         let staying = self.staying.turn(rt, self.is_at_work)?;
         let leaving = self.leaving.turn(rt, self.is_at_work)?;
-        if let Some(seen) = staying {
-            self.note(seen.committed);
-        }
-        if let Some(seen) = leaving {
-            self.note(seen.committed);
-        }
-        Ok(staying.is_some() || leaving.is_some())
+        self.note(staying.committed);
+        self.note(leaving.committed);
+        Ok(staying.has_come || leaving.has_come)
     }
 
     // Drops the one member when it has sent the images of half an input partition.

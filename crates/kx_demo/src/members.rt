@@ -130,16 +130,15 @@ impl Member {
     }
 
     /// Looks for the next frame, and sends what comes next; a member of the group only where it is
-    /// to work. None where no frame came.
-    pub(crate) fn turn<R: Wait>(
-        &mut self,
-        rt: &R,
-        is_to_work: bool,
-    ) -> Result<Option<Seen>, DemoFault> {
+    /// to work.
+    pub(crate) fn turn<R: Wait>(&mut self, rt: &R, is_to_work: bool) -> Result<Seen, DemoFault> {
         let goes_on = is_to_work || !self.has_joined;
         let is_waiting = self.has_begun && goes_on && !self.has_failed;
         let Some(message) = self.client.look(rt, is_waiting)? else {
-            return Ok(None);
+            return Ok(Seen {
+                has_come: false,
+                committed: None,
+            });
         };
         if let Message::JoinReply(reply) = &message {
             self.has_joined = self.has_joined || reply.code == ErrorCode::NoError;
@@ -148,13 +147,18 @@ impl Member {
         if is_to_work || !self.has_joined {
             self.poll(rt)?;
         }
-        Ok(Some(Seen { committed }))
+        Ok(Seen {
+            has_come: true,
+            committed,
+        })
     }
 }
 
-/// What a member learnt of a frame.
+/// What came of a look.
 #[derive(Clone, Copy)]
 pub(crate) struct Seen {
+    /// Whether a frame came.
+    pub(crate) has_come: bool,
     /// A committed offset of the group.
     pub(crate) committed: Option<Committed>,
 }

@@ -123,13 +123,6 @@ fn start<R: Threads + Wait + Copy + Send + Sync + Drop + 'static>(
     Workers::start(rt, alloc, theirs, options.workers.get(), answers)
 }
 
-// The clients and the threads that serve them.
-struct Begun<R: Threads + Wait + Copy + Send + Sync + Drop + 'static> {
-    cast: Cast,
-    names: Vec<NodeName>,
-    workers: Served<R>,
-}
-
 // Starts all threads but that of the clients.
 fn begin<R: Threads + Wait + Copy + Send + Sync + Drop + 'static>(
     rt: R,
@@ -138,16 +131,11 @@ fn begin<R: Threads + Wait + Copy + Send + Sync + Drop + 'static>(
     wires: Vec<Wire>,
     nodes: &[Arc<DemoNode>],
     options: &DemoOptions,
-) -> Result<Begun<R>, DemoFault> {
+) -> Result<(Cast, Served<R>), DemoFault> {
     let (seats, outboxes) = stage.add_wires(wires)?;
     let cast = cast_of(alloc, seats, options)?;
-    let names = names_of(alloc, nodes)?;
     let workers = start(rt, alloc, nodes, outboxes, options)?;
-    Ok(Begun {
-        cast,
-        names,
-        workers,
-    })
+    Ok((cast, workers))
 }
 
 // The traces of nodes that nobody else has any more.
@@ -165,33 +153,47 @@ fn traces_of(
     Ok(traces)
 }
 
+// Starts the thread of the clients.
+fn start_clients<R: Threads + Wait + Clock + Copy + Send + 'static>(
+    rt: R,
+    cast: Cast,
+    door: Sender<Handed>,
+) -> Result<JoinHandle<Performed>, DemoFault> {
+    let Ok(handle) = thread::spawn(&rt, move || perform(&rt, cast, &door)) else {
+        return Err(DemoFault::Memory);
+    };
+    Ok(handle)
+}
+
+// Waits until the thread of the clients has ended, and gives them where they came to the end.
+fn join_clients<R: Threads + Wait>(
+    rt: &R,
+    playing: Result<JoinHandle<Performed>, DemoFault>,
+) -> Result<Cast, DemoFault> {
+    let Performed { cast, ended } = playing?.join(rt);
+    ended?;
+    Ok(cast)
+}
+
 // Serves the clients, which have a thread of their own, until all have closed.
 fn serve<R: Threads + Wait + Clock + Copy + Send + Sync + Drop + 'static>(
     rt: R,
-    begun: Begun<R>,
+    cast: Cast,
+    workers: Served<R>,
+    names: &[NodeName],
     stage: Stage<R>,
     door: Sender<Handed>,
-    handed: Receiver<Handed>,
+    handed: &Receiver<Handed>,
 ) -> Result<(Cast, Vec<Receipt>), DemoFault> {
-    let Begun {
-        cast,
-        names,
-        workers,
-    } = begun;
-    let playing = thread::spawn(&rt, move || perform(&rt, cast, &door));
+    let playing = start_clients(rt, cast, door);
     if playing.is_err() {
         stage.close();
     }
     let crew = stage.into_crew();
-    let receipts = attend(&rt, workers, names.as_slice(), &handed);
-    let performed = match playing {
-        Ok(playing) => Ok(playing.join(&rt)),
-        Err(_) => Err(DemoFault::Memory),
-    };
+    let receipts = attend(&rt, workers, names, handed);
+    let cast = join_clients(&rt, playing);
     crew.join();
-    let Performed { cast, ended } = performed?;
-    ended?;
-    Ok((cast, receipts?))
+    Ok((cast?, receipts?))
 }
 
 // Plays over these connections.
@@ -202,10 +204,11 @@ fn play_over<R: Threads + Wait + Clock + Copy + Send + Sync + Drop + 'static>(
     options: &DemoOptions,
 ) -> Result<Played, DemoFault> {
     let nodes = core_nodes(alloc)?;
+    let names = names_of(alloc, nodes.as_slice())?;
     let (door, handed) = crossbeam_channel::unbounded(alloc)?;
     let draw = Arc::new(alloc, Draw::new(options.lose, options.seed))?;
     let mut stage = Stage::new(rt, alloc, draw, options.hold, door.clone()?);
-    let begun = match begin(rt, alloc, &mut stage, wires, nodes.as_slice(), options) {
+    let (cast, workers) = match begin(rt, alloc, &mut stage, wires, nodes.as_slice(), options) {
         Ok(begun) => begun,
         Err(fault) => {
             stage.close();
@@ -213,7 +216,8 @@ fn play_over<R: Threads + Wait + Clock + Copy + Send + Sync + Drop + 'static>(
             return Err(fault);
         }
     };
-    let (cast, mut receipts) = serve(rt, begun, stage, door, handed)?;
+    let served = serve(rt, cast, workers, names.as_slice(), stage, door, &handed);
+    let (cast, mut receipts) = served?;
     let mut traces = traces_of(alloc, nodes)?;
     cast.finish(&mut traces, &mut receipts)?;
     Ok(Played { traces, receipts })
