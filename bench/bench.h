@@ -90,4 +90,16 @@ int64_t kx_bench_pages(uint64_t transactions, uint64_t pages);
 int64_t kx_bench_serve(const uint8_t *stream, size_t len);
 int64_t kx_bench_transactions(uint64_t txns, uint64_t turns);
 
+/* The number at the front of bytes that were checked. */
+static inline int32_t checked_varint(const uint8_t **at)
+{
+    uint64_t sum = 0;
+    for (int shift = 0;; shift += 7) {
+        uint8_t byte = *(*at)++;
+        sum |= (uint64_t)(byte & 127) << shift;
+        if (byte < 128)
+            return (int32_t)(sum >> 1 ^ -(sum & 1));
+    }
+}
+
 #endif

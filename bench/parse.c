@@ -170,18 +170,6 @@ bool check_batch(const uint8_t *bytes, size_t len)
     return rest.at == rest.end;
 }
 
-/* The number at the front of bytes that were checked. */
-static inline int32_t checked_varint(const uint8_t **at)
-{
-    uint64_t sum = 0;
-    for (int shift = 0;; shift += 7) {
-        uint8_t byte = *(*at)++;
-        sum |= (uint64_t)(byte & 127) << shift;
-        if (byte < 128)
-            return (int32_t)(sum >> 1 ^ -(sum & 1));
-    }
-}
-
 size_t parse_twice(const uint8_t *bytes, size_t len)
 {
     if (!check_batch(bytes, len))
