@@ -1,9 +1,11 @@
-//! Tries sessions with a server over sockets. Each argument names a file NAME.session, and NAME.out
-//! is what it has to tell. Prints of each whether it told that, and how many didn't.
+//! Tries sessions with a server over sockets, and demonstrations. Each argument names a file
+//! NAME.session, and NAME.out is what it has to tell; or NAME.demo, which says what a demonstration
+//! is asked for, and NAME.out is what it has to print. Prints of each whether it did, and how many
+//! didn't.
 #![tactic(auto)]
 
 use kx_cases::Tally;
-use kx_cases_server::try_session;
+use kx_cases_server::{try_demo, try_session};
 use std::env::Env;
 use std::fs::{File, Files};
 use std::net::{Net, TcpListener, TcpStream};
@@ -12,6 +14,31 @@ use std::sync::Wait;
 use std::thread::Threads;
 use std::time::Clock;
 use std::{env, io};
+
+// Tries what an argument names.
+fn try_argument<
+    R: Files<File = File>
+        + Print
+        + AllocGlobal
+        + Eprint
+        + Net<Listener = TcpListener, Stream = TcpStream>
+        + Threads
+        + Wait
+        + Clock
+        + Copy
+        + Send
+        + Sync
+        + Drop
+        + 'static,
+>(rt: &R, path: &str) -> io::Result<Tally>
+where
+    R::Dir: Send,
+{
+    match path.strip_suffix(".demo") {
+        Some(name) => try_demo(rt, name),
+        None => try_session(rt, path.strip_suffix(".session").unwrap_or("")),
+    }
+}
 
 // Tries what the arguments name.
 fn try_arguments<
@@ -35,14 +62,13 @@ where
 {
     let mut tally = Tally::none();
     for path in env::args(rt)?.skip(1) {
-        let name = path.strip_suffix(".session").unwrap_or("");
-        tally = tally.and(try_session(rt, name)?);
+        tally = tally.and(try_argument(rt, path.as_str())?);
     }
     Ok(tally)
 }
 
 fn main(rt: HostRuntime) -> io::Result<ExitCode> {
     let tally = try_arguments(&rt)?;
-    println!(rt; "{} sessions, {} failed", tally.tried, tally.failed)?;
+    println!(rt; "{} tried, {} failed", tally.tried, tally.failed)?;
     Ok(tally.exit_code())
 }

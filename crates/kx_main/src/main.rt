@@ -1,12 +1,15 @@
 //! The program. `kx_main sim` runs a script over a world of nodes whose logs are held in memory;
 //! `kx_main dump FILE` prints the record batches that a file holds; `kx_main serve` serves clients
-//! over sockets. The world is kx_core's, what a script's lines do kx_script's, dumps are kx_text's,
-//! and the server is kx_server's; here are the arguments, streams and files, and which status each
+//! over sockets; `kx_main demo` plays both ends over a bad line and audits what happened. The world
+//! is kx_core's, what a script's lines do kx_script's, dumps are kx_text's, the server is kx_server's
+//! and the demonstration kx_demo's; here are the arguments, streams and files, and which status each
 //! outcome ends with.
 #![tactic(auto)]
 
+mod playing;
 mod serving;
 
+use crate::playing::{demo, demo_usage};
 use crate::serving::{serve, serve_usage};
 use clap::error::ErrorKind as UsageFault;
 use clap::{Arg, ArgAction, Command};
@@ -70,7 +73,7 @@ fn dump(rt: &(impl Files + Print + Eprint + AllocGlobal), path: &str) -> Ending 
     }
 }
 
-// The command line: `kx_main sim`, `kx_main dump FILE` or `kx_main serve`.
+// The command line: `kx_main sim`, `kx_main dump FILE`, `kx_main serve` or `kx_main demo`.
 fn usage<'a>(alloc: Global) -> Result<Command<'a>, AllocError> {
     let sim = Command::new(alloc, "sim").about(
         "Runs the script on standard input and writes its answers to standard output",
@@ -87,7 +90,8 @@ fn usage<'a>(alloc: Global) -> Result<Command<'a>, AllocError> {
         .subcommand_required(true)
         .subcommand(sim)?
         .subcommand(dump)?
-        .subcommand(serve_usage(alloc)?)
+        .subcommand(serve_usage(alloc)?)?
+        .subcommand(demo_usage(alloc)?)
 }
 
 // The arguments, or how the program ends where they can't be had. Those that aren't text are wrong.
@@ -154,6 +158,7 @@ fn run<
                 None => Ending::WrongArguments,
             },
             Some(("serve", options)) => serve(rt, &options, is_watched),
+            Some(("demo", options)) => demo(rt, &options),
             Some(_) | None => Ending::WrongArguments,
         },
         Err(error) => refused(rt, &error),

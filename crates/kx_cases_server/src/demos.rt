@@ -1,0 +1,111 @@
+//! Demonstrations, and what each has to print.
+ghost use Rattle.std.specs.Prelude.{◌≡◌, ◌≤◌, IfOk};
+
+use kx_cases::{StepFault, Tally, value};
+use kx_demo::{DemoOptions, Records, WorkerCount, demo};
+use kx_relay::{Holding, Losses};
+use std::alloc::Global;
+use std::fs::{File, Files};
+use std::net::{Net, TcpListener, TcpStream};
+use std::sync::Wait;
+use std::thread::Threads;
+use std::time::Clock;
+use std::{fs, io};
+
+// What a demonstration is asked for, as a line has it.
+fn options_in(alloc: Global, line: &str) -> Result<DemoOptions, StepFault> {
+    let words: Vec<&str> = line.split(' ').collect(alloc)?;
+    match words.as_slice() {
+        [
+            "workers",
+            workers,
+            "records",
+            records,
+            "seed",
+            seed,
+            "lose",
+            lose,
+            "hold",
+            hold,
+        ] => {
+            Ok(DemoOptions {
+                workers: WorkerCount::new(value(workers)?).ok_or(StepFault::Unknown)?,
+                records: Records::new(value(records)?).ok_or(StepFault::Unknown)?,
+                seed: value(seed)?,
+                lose: Losses::new(value(lose)?).ok_or(StepFault::Unknown)?,
+                hold: Holding::new(value(hold)?).ok_or(StepFault::Unknown)?,
+            })
+        }
+        _ => Err(StepFault::Unknown),
+    }
+}
+
+// What a demonstration prints, and how it ended.
+fn played<
+    R: Net<Listener = TcpListener, Stream = TcpStream>
+        + AllocGlobal
+        + Threads
+        + Wait
+        + Clock
+        + Copy
+        + Send
+        + Sync
+        + Drop
+        + 'static,
+>(rt: &R, line: &str) -> Result<String, StepFault> {
+    let alloc = rt.alloc();
+    let options = options_in(alloc, line)?;
+    let mut out = Vec::new(alloc);
+    let none: Option<&mut Vec<u8>> = None;
+    let ended = demo(*rt, &options, &mut out, none);
+    let mut told = String::from_utf8(out).map_err(|_| StepFault::Unknown)?;
+    match ended {
+        Ok(true) => {}
+        Ok(false) => writeln!(told, "no")?,
+        Err(fault) => writeln!(told, "fault {}", fault.number())?,
+    }
+    Ok(told)
+}
+
+/// Plays the demonstration that the line NAME.demo asks for, which has to print NAME.out, and prints
+/// `ok NAME` or `FAILED NAME`.
+pub fn try_demo<
+    R: Net<Listener = TcpListener, Stream = TcpStream>
+        + Files<File = File>
+        + Print
+        + AllocGlobal
+        + Threads
+        + Wait
+        + Clock
+        + Copy
+        + Send
+        + Sync
+        + Drop
+        + 'static,
+>(rt: &R, name: &str) -> io::Result<Tally>
+    ensures { IfOk result (λ tally. (tally.tried ≡ 1) × (tally.failed ≤ 1)) }
+{
+    let alloc = rt.alloc();
+    let asked = fs::read_to_string(rt, format!(in alloc; "{name}.demo")?)?;
+    let wanted = fs::read_to_string(rt, format!(in alloc; "{name}.out")?)?;
+    let told = played(rt, asked.as_str().trim_end());
+    let is_right = matches!(&told, Ok(told) if told.as_str() == wanted.as_str());
+    if is_right {
+        println!(rt; "ok {name}")?;
+    } else {
+        println!(rt; "FAILED {name}")?;
+        tell_other(rt, told)?;
+    }
+    Ok(Tally {
+        tried: 1,
+        failed: u64::from(!is_right),
+    })
+}
+
+// Tells what came in place of what is wanted.
+fn tell_other(rt: &impl Print, told: Result<String, StepFault>) -> io::Result<()> {
+    match told {
+        Ok(told) => print!(rt; "{told}"),
+        Err(fault) => println!(rt; "{fault}"),
+    }
+}

@@ -1,0 +1,72 @@
+//! Why a demonstration has no end.
+ghost use Rattle.std.specs.Prelude.{◌≡◌};
+ghost use Rattle.kx_demo.specs.Faults.{fault_number};
+
+use kx_nodes::NodeFault;
+use std::alloc::{AllocError, AllocFailed};
+use thiserror::Error;
+
+/// Why a demonstration comes to no end that could be audited. All its threads have ended then.
+#[derive(Clone, Copy, Debug, PartialEq, Eq, Error)]
+pub enum DemoFault {
+    /// A port of 127.0.0.1 can't be had, or a connection fails.
+    #[error("the network fails")]
+    Net,
+    /// The output can't be written.
+    #[error("the output cannot be written")]
+    Write,
+    /// Memory ran out, or a thread can't be started.
+    #[error("out of memory")]
+    Memory,
+    /// The clients looked for their next frames 1,000,000 times, and hadn't come to the end; or a
+    /// node took as many inputs as a trace holds.
+    #[error("gave up")]
+    GaveUp,
+}
+
+impl DemoFault {
+    /// The number of the fault, by which another program knows it: `Net` 1, `Write` 2, `Memory` 4,
+    /// `GaveUp` 5.
+    pub fn number(self) -> u8
+        ensures { result ≡ fault_number self }
+    {
+        match self {
+            DemoFault::Net => 1,
+            DemoFault::Write => 2,
+            DemoFault::Memory => 4,
+            DemoFault::GaveUp => 5,
+        }
+    }
+}
+
+/// Want of memory.
+impl From<AllocError> for DemoFault {
+    ghost use Rattle.kx_demo.specs.declared.fault.DemoFault.TheVariants.{Memory};
+
+    ghost from_gives = { λ refused fault. fault ≡ Memory };
+
+    fn from(_: AllocError) -> Self {
+        DemoFault::Memory
+    }
+}
+
+/// Want of memory for what is put into a list or made to be shared, which is let go.
+impl<T: Drop> From<AllocFailed<T>> for DemoFault {
+    ghost use Rattle.kx_demo.specs.declared.fault.DemoFault.TheVariants.{Memory};
+
+    ghost from_gives = { λ refused fault. fault ≡ Memory };
+
+    fn from(_: AllocFailed<T>) -> Self {
+        DemoFault::Memory
+    }
+}
+
+/// A node that doesn't take an input: for want of memory, or with a full trace.
+impl From<NodeFault> for DemoFault {
+    fn from(fault: NodeFault) -> Self {
+        match fault {
+            NodeFault::Memory => DemoFault::Memory,
+            NodeFault::TraceFull => DemoFault::GaveUp,
+        }
+    }
+}

@@ -1,0 +1,141 @@
+//! The producers, which fill the input partitions.
+use crate::client::{Client, Done};
+use crate::fault::DemoFault;
+use crate::options::Records;
+use kx_client::{ValueList, Values};
+use kx_machine::Command;
+use kx_message::{Bytes, ErrorCode, Message, PartitionId};
+use std::alloc::{AllocError, Global};
+use std::sync::Wait;
+
+// The most records of a batch.
+const BATCH: usize = 100;
+
+/// A producer: it sends its values batch by batch, each when the one before was appended.
+#[derive(Drop)]
+pub(crate) struct Producer {
+    alloc: Global,
+    client: Client,
+    partition: PartitionId,
+    records: Records,
+    sent: usize,
+    // the correlation of the request that wasn't answered
+    awaited: Option<u32>,
+}
+
+// The value of a record, which no other record has.
+fn value(alloc: Global, partition: PartitionId, number: usize) -> Result<Bytes, AllocError> {
+    let text = format!(in alloc; "{partition}-{number}")?;
+    Ok(Bytes::from_vec(text.into_bytes()))
+}
+
+// The values of the records from one on.
+fn values(
+    alloc: Global,
+    partition: PartitionId,
+    from: usize,
+    to: usize,
+) -> Result<Values, AllocError> {
+    let first = value(alloc, partition, from)?;
+    let mut more = Vec::new(alloc);
+    for number in from.saturating_add(1)..to {
+        more.push(value(alloc, partition, number)?)?;
+    }
+    Ok(Values {
+        first,
+        more: ValueList::from_vec(more),
+    })
+}
+
+// The correlation of a producer's request.
+fn correlation_of(sent: &[Message]) -> Option<u32> {
+    match sent.first()? {
+        Message::InitProducerId(request) => Some(request.caller.correlation),
+        Message::Produce(request) => Some(request.caller.correlation),
+        _ => None,
+    }
+}
+
+// The correlation of what a reply grants.
+fn granted_by(reply: &Message) -> Option<u32> {
+    match reply {
+        Message::InitReply(reply) if reply.code == ErrorCode::NoError => Some(
+            reply.caller.correlation,
+        ),
+        Message::ProduceReply(reply) if reply.code == ErrorCode::NoError => Some(
+            reply.caller.correlation,
+        ),
+        _ => None,
+    }
+}
+
+impl Producer {
+    /// One that is to send so many records to a partition.
+    pub(crate) fn new(
+        alloc: Global,
+        client: Client,
+        partition: PartitionId,
+        records: Records,
+    ) -> Producer {
+        Producer {
+            alloc,
+            client,
+            partition,
+            records,
+            sent: 0,
+            awaited: None,
+        }
+    }
+
+    // Tells it what to do next, and waits for that from now on.
+    fn ask<R: Wait>(&mut self, rt: &R, command: Command) -> Result<(), DemoFault> {
+        let Done { sent, .. } = self.client.tell(rt, command)?;
+        self.awaited = correlation_of(sent.as_slice());
+        Ok(())
+    }
+
+    /// Begins: it asks for a producer id.
+    pub(crate) fn begin<R: Wait>(&mut self, rt: &R) -> Result<(), DemoFault> {
+        self.ask(rt, Command::Init)
+    }
+
+    // Sends the next batch, if there is one.
+    fn go_on<R: Wait>(&mut self, rt: &R) -> Result<(), DemoFault> {
+        self.awaited = None;
+        let (from, all) = (self.sent, self.records.get());
+        if from >= all {
+            return Ok(());
+        }
+        let to = all.min(from.saturating_add(BATCH));
+        let values = values(self.alloc, self.partition, from, to)?;
+        self.sent = to;
+        self.ask(rt, Command::Send(self.partition, values))
+    }
+
+    /// Sends no more.
+    pub(crate) fn close(&self) {
+        self.client.close();
+    }
+
+    /// Its client.
+    pub(crate) fn into_client(self) -> Client {
+        self.client
+    }
+
+    /// Looks for the next frame, and goes on where it is what is waited for.
+    pub(crate) fn turn<R: Wait>(&mut self, rt: &R) -> Result<bool, DemoFault> {
+        let Some(message) = self.client.look(rt, self.awaited.is_some())? else {
+            return Ok(false);
+        };
+        let granted = granted_by(&message);
+        if granted.is_some() && granted == self.awaited {
+            self.go_on(rt)?;
+        }
+        Ok(true)
+    }
+
+    /// Whether all its batches were appended.
+    pub(crate) fn is_done(&self) -> bool {
+        self.awaited.is_none() && self.sent >= self.records.get()
+    }
+}
