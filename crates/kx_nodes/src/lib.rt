@@ -4,6 +4,7 @@
 //! fact, that what the threads did was one schedule.
 #![tactic(auto)]
 
+mod crew;
 mod fault;
 mod finished;
 mod gate;
@@ -17,6 +18,7 @@ mod shared;
 mod trace;
 mod workers;
 
+pub use crew::Crew;
 pub use fault::{HandFault, NodeFault};
 pub use finished::Finished;
 pub use gate::Gate;

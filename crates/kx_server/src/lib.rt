@@ -5,7 +5,6 @@
 
 mod asking;
 mod connection;
-mod crew;
 mod fault;
 mod files;
 mod hub;
@@ -19,7 +18,6 @@ mod server;
 mod ticking;
 
 pub use asking::{asker, missing_partition};
-pub use crew::Crew;
 pub use fault::ServeFault;
 pub use files::LogFile;
 pub use options::{Connections, Partitions, ServeOptions};

@@ -6,7 +6,6 @@ ghost use Rattle.kx_server.specs.Lines.{Prints, line_of};
 ghost use Rattle.kx_server.specs.Opening.{HasBook, InOrder};
 
 use crate::connection::Connection;
-use crate::crew::Crew;
 use crate::fault::ServeFault;
 use crate::hub::Hub;
 use crate::opening::{Folder, InFiles, InMemory, Making};
@@ -15,6 +14,7 @@ use crate::peer::Peer;
 use crate::ticking::{Going, keep_time, moment};
 use crossbeam_channel::Receiver;
 use kx_message::{Message, PartitionId};
+use kx_nodes::Crew;
 use kx_published::book::{Naming, Opened};
 use kx_serving::{Logging, ServedNode};
 use std::alloc::{AllocError, Global};
