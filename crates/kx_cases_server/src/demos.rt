@@ -2,7 +2,8 @@
 ghost use Rattle.std.specs.Prelude.{◌≡◌, ◌≤◌, IfOk};
 
 use kx_cases::{StepFault, Tally, value};
-use kx_demo::{DemoOptions, Records, WorkerCount, demo};
+use kx_demo::demo;
+use kx_play::{PlayOptions, Records, WorkerCount};
 use kx_relay::{Holding, Losses};
 use std::alloc::Global;
 use std::fs::{File, Files};
@@ -13,7 +14,7 @@ use std::time::Clock;
 use std::{fs, io};
 
 // What a demonstration is asked for, as a line has it.
-fn options_in(alloc: Global, line: &str) -> Result<DemoOptions, StepFault> {
+fn options_in(alloc: Global, line: &str) -> Result<PlayOptions, StepFault> {
     let words: Vec<&str> = line.split(' ').collect(alloc)?;
     match words.as_slice() {
         [
@@ -28,7 +29,7 @@ fn options_in(alloc: Global, line: &str) -> Result<DemoOptions, StepFault> {
             "hold",
             hold,
         ] => {
-            Ok(DemoOptions {
+            Ok(PlayOptions {
                 workers: WorkerCount::new(value(workers)?).ok_or(StepFault::Unknown)?,
                 records: Records::new(value(records)?).ok_or(StepFault::Unknown)?,
                 seed: value(seed)?,

@@ -1,4 +1,3 @@
 pub mod Counting
 pub mod Faults
-pub mod Options
 pub mod Telling

@@ -29,19 +29,25 @@ yes_text counts =
     line (codes "inputs") counts.inputs ++ line (codes "outputs") counts.outputs
     ++ line (codes "doubles") counts.doubles ++ codes "audit yes\n"
 
--- what was counted is of a run that keeps the promises of the definitions: its steps, which are
--- those that had receipts, are a schedule of a whole system
-pub record IsAudited (counts : Counts) : Type 0 where
-  pub run : Ran (AnyMaking Prefixed) (AnyMachine StoreState Prefixed)
+-- what was counted in this run is printed
+pub record TellsCounts (run : Ran (AnyMaking Prefixed) (AnyMachine StoreState Prefixed))
+    (old new : Option (List ℕ)) : Type 0 where
+  pub counts : Counts
+  pub counted : AreCounts (any_state images_of) run counts
+  pub printed : Appends old new (yes_text counts)
+
+-- a run that keeps the promises of the definitions: its steps, which are those that had receipts,
+-- are a schedule of a whole system
+pub record IsAudited (run : Ran (AnyMaking Prefixed) (AnyMachine StoreState Prefixed)) :
+    Type 0 where
   pub receipts : List Receipt
   pub system : System
   pub yes : IsYes (any_making images_of) (any_stands images_of) run receipts system
-  pub counted : AreCounts (any_state images_of) run counts
 
 -- what is printed of a demonstration that ended so
 pub data Tells (old new : Option (List ℕ)) : Result Bool DemoFault → Type 0 where
-  SaysYes : (counts : Counts) → IsAudited counts → Appends old new (yes_text counts)
-      → Tells old new (Ok true)
+  SaysYes : (run : Ran (AnyMaking Prefixed) (AnyMachine StoreState Prefixed)) → IsAudited run
+      → TellsCounts run old new → Tells old new (Ok true)
   SaysNo : (trails : List Trail) (receipts : List Receipt) (why : AuditFault)
       → IsRefused trails receipts why → Appends old new (line (codes "audit no") (fault_number why))
       → Tells old new (Ok false)

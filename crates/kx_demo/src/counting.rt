@@ -8,7 +8,6 @@ ghost use Rattle.kx_message.specs.Ranges.{data_partitions};
 ghost use Rattle.kx_model.specs.Reading.{committed_of};
 ghost use Rattle.kx_script.specs.Prefixed.{images_of};
 
-use crate::nodes::{DemoMaking, partition};
 use kx_audit::Run;
 use kx_batch::RecordView;
 use kx_broker::PartitionMachine;
@@ -16,12 +15,13 @@ use kx_cluster::AnyMachine;
 use kx_core::LocalStore;
 use kx_message::Node;
 use kx_partition::FetchPage;
+use kx_play::{PlayMaking, partition};
 use kx_reader::Committed;
 use std::alloc::{AllocError, Global};
 use std::collections::HashSet;
 
 /// What an audit found of a demonstration.
-pub type Found = Run<DemoMaking>;
+pub type Found = Run<PlayMaking>;
 
 /// What is counted in the run that an audit found.
 #[derive(Clone, Copy, Debug, PartialEq, Eq)]

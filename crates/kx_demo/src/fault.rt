@@ -2,8 +2,8 @@
 ghost use Rattle.std.specs.Prelude.{◌≡◌};
 ghost use Rattle.kx_demo.specs.Faults.{fault_number};
 
-use kx_nodes::NodeFault;
-use std::alloc::{AllocError, AllocFailed};
+use kx_play::PlayFault;
+use std::alloc::AllocError;
 use thiserror::Error;
 
 /// Why a demonstration comes to no end that could be audited. All its threads have ended then.
@@ -50,23 +50,17 @@ impl From<AllocError> for DemoFault {
     }
 }
 
-/// Want of memory for what is put into a list or made to be shared, which is let go.
-impl<T: Drop> From<AllocFailed<T>> for DemoFault {
-    ghost use Rattle.kx_demo.specs.declared.fault.DemoFault.TheVariants.{Memory};
+/// What playing came to no end for.
+impl From<PlayFault> for DemoFault {
+    ghost use Rattle.kx_demo.specs.Faults.{play_fault};
 
-    ghost from_gives = { λ refused fault. fault ≡ Memory };
+    ghost from_gives = { λ why fault. fault ≡ play_fault why };
 
-    fn from(_: AllocFailed<T>) -> Self {
-        DemoFault::Memory
-    }
-}
-
-/// A node that doesn't take an input: for want of memory, or with a full trace.
-impl From<NodeFault> for DemoFault {
-    fn from(fault: NodeFault) -> Self {
+    fn from(fault: PlayFault) -> Self {
         match fault {
-            NodeFault::Memory => DemoFault::Memory,
-            NodeFault::TraceFull => DemoFault::GaveUp,
+            PlayFault::Net => DemoFault::Net,
+            PlayFault::Memory => DemoFault::Memory,
+            PlayFault::GaveUp => DemoFault::GaveUp,
         }
     }
 }

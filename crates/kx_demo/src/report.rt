@@ -1,15 +1,14 @@
 //! What a demonstration prints.
 ghost use Rattle.std.specs.Prelude.{◌≡◌, ◌≢◌, IfErr, OnOk};
 ghost use Rattle.std.specs.Io.KnownBytes.{Appends};
-ghost use Rattle.kx_demo.specs.Telling.{Tells, line, yes_text};
+ghost use Rattle.kx_demo.specs.Telling.{Tells, TellsCounts, line, yes_text};
 ghost use Rattle.kx_demo.specs.declared.fault.DemoFault.TheVariants.{GaveUp, Write};
 
 use crate::counting::{Counts, Found, count};
 use crate::fault::DemoFault;
-use crate::options::DemoOptions;
 use crate::picture::write_picture;
-use crate::playing::{Played, play};
 use kx_audit::{AuditFault, audit};
+use kx_play::{PlayFault, PlayOptions, Played, play};
 use std::alloc::Global;
 use std::io::Write;
 use std::net::{Net, TcpListener, TcpStream};
@@ -63,6 +62,23 @@ fn draw<P: Write>(alloc: Global, run: &Found, picture: &mut P) -> Result<(), Dem
     }
 }
 
+// Counts what a run has that the audit found, and prints it.
+fn tell<W: Write, P: Write>(
+    alloc: Global,
+    run: &Found,
+    out: &mut W,
+    picture: Option<&mut P>,
+) -> Result<(), DemoFault>
+    ensures told { OnOk result (TellsCounts run.now (W.contents out.old) (W.contents out.new)) }
+    ensures fault { IfErr result (λ fault. fault ≢ GaveUp) }
+{
+    let counts = count(alloc, run)?;
+    if let Some(picture) = picture {
+        draw(alloc, run, picture)?;
+    }
+    write_yes(out, counts)
+}
+
 // Audits what was played, and prints what came of it.
 fn judge<W: Write, P: Write>(
     alloc: Global,
@@ -73,20 +89,17 @@ fn judge<W: Write, P: Write>(
     ensures { Tells (W.contents out.old) (W.contents out.new) result }
 {
     let Played { traces, receipts } = played;
-    let run = match audit(alloc, traces, receipts.as_slice()) {
-        Ok(run) => run,
-        Err(AuditFault::Memory) => return Err(DemoFault::Memory),
+    match audit(alloc, traces, receipts.as_slice()) {
+        Ok(run) => {
+            tell(alloc, &run, out, picture)?;
+            Ok(true)
+        }
+        Err(AuditFault::Memory) => Err(DemoFault::Memory),
         Err(fault) => {
             write_line(out, "audit no", usize::from(fault.number()))?;
-            return Ok(false);
+            Ok(false)
         }
-    };
-    let counts = count(alloc, &run)?;
-    if let Some(picture) = picture {
-        draw(alloc, &run, picture)?;
     }
-    write_yes(out, counts)?;
-    Ok(true)
 }
 
 /// Plays the demonstration, audits it, and prints what the audited run has: `inputs`, `outputs` and
@@ -110,16 +123,16 @@ pub fn demo<
         + 'static,
     W: Write,
     P: Write,
->(rt: R, options: &DemoOptions, out: &mut W, picture: Option<&mut P>) -> Result<bool, DemoFault>
+>(rt: R, options: &PlayOptions, out: &mut W, picture: Option<&mut P>) -> Result<bool, DemoFault>
     // What it printed: of a yes, what was counted in a run that keeps the guarantees.
     ensures { Tells (W.contents out.old) (W.contents out.new) result }
 {
     match play(rt, options) {
         Ok(played) => judge(rt.alloc(), played, out, picture),
-        Err(DemoFault::GaveUp) => {
+        Err(PlayFault::GaveUp) => {
             write_text(out, "gave up\n")?;
             Err(DemoFault::GaveUp)
         }
-        Err(fault) => Err(fault),
+        Err(fault) => Err(fault.into()),
     }
 }

@@ -1,7 +1,8 @@
 //! `kx_main demo`: its options, and how it ends.
 use crate::failed;
 use clap::{Arg, ArgAction, ArgMatches, Command};
-use kx_demo::{DemoFault, DemoOptions, Records, WorkerCount};
+use kx_demo::DemoFault;
+use kx_play::{PlayOptions, Records, WorkerCount};
 use kx_relay::{Holding, Losses};
 use kx_text::Ending;
 use std::alloc::{AllocError, Global};
@@ -87,8 +88,8 @@ pub(crate) fn demo_usage<'a>(alloc: Global) -> Result<Command<'a>, AllocError> {
 }
 
 // What the arguments ask for, where they are right.
-fn options_in(given: &ArgMatches<'_>) -> Option<DemoOptions> {
-    Some(DemoOptions {
+fn options_in(given: &ArgMatches<'_>) -> Option<PlayOptions> {
+    Some(PlayOptions {
         workers: WorkerCount::new(usize::from(given.get_one::<u16>("workers")?))?,
         records: Records::new(usize::from(given.get_one::<u16>("records")?))?,
         seed: given.get_one("seed")?,
@@ -121,7 +122,7 @@ fn demo_with_picture<
         + Sync
         + Drop
         + 'static,
->(rt: &R, options: &DemoOptions, path: &str) -> Ending {
+>(rt: &R, options: &PlayOptions, path: &str) -> Ending {
     let file = match File::create(rt, path) {
         Ok(file) => file,
         Err(error) => return failed(rt, error),

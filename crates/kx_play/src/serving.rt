@@ -1,6 +1,6 @@
 //! The nodes of the core behind their connections: what comes over any of them is handed to workers,
 //! and what a step hands out to a client goes out over the client's own.
-use crate::nodes::{DemoMaking, DemoNode};
+use crate::nodes::{PlayMaking, PlayNode};
 use crossbeam_channel::{Receiver, Sender};
 use kx_cluster::AnyMachine;
 use kx_core::LocalStore;
@@ -73,10 +73,10 @@ impl<R: Wait + Drop> Gate for Answers<R> {
 }
 
 /// The threads that serve the nodes.
-pub(crate) type Served<R> = Workers<AnyMachine<LocalStore, Prefixed>, DemoMaking, Answers<R>, R>;
+pub(crate) type Served<R> = Workers<AnyMachine<LocalStore, Prefixed>, PlayMaking, Answers<R>, R>;
 
 /// Hands in the requests that come over a connection, until it is closed.
-pub(crate) fn hear<R: Wait>(rt: &R, mut frames: FrameStream, door: &Sender<Handed>) {
+pub(crate) fn hear<R: Wait>(rt: &R, mut frames: FrameStream, to_nodes: &Sender<Handed>) {
     for _ in rt.forever() {
         let Some(messages) = frames.next() else {
             return;
@@ -86,7 +86,7 @@ pub(crate) fn hear<R: Wait>(rt: &R, mut frames: FrameStream, door: &Sender<Hande
                 node: message.receiver(),
                 input: Input::Deliver(message),
             };
-            if door.send(rt, handed).is_err() {
+            if to_nodes.send(rt, handed).is_err() {
                 return;
             }
         }
@@ -126,7 +126,7 @@ fn hand<R: Threads + Wait + Copy + Send + Sync + Drop + 'static>(
 /// The names of nodes, in their order.
 pub(crate) fn names_of(
     alloc: Global,
-    nodes: &[Arc<DemoNode>],
+    nodes: &[Arc<PlayNode>],
 ) -> Result<Vec<NodeName>, AllocError> {
     let mut names = Vec::new(alloc);
     for node in nodes {
@@ -135,16 +135,15 @@ pub(crate) fn names_of(
     Ok(names)
 }
 
-/// Hands in all that comes through the door until nobody stands before it any more, and gives the
-/// receipts of all steps.
+/// Hands in all that comes until nobody can hand in any more, and gives the receipts of all steps.
 pub(crate) fn attend<R: Threads + Wait + Copy + Send + Sync + Drop + 'static>(
     rt: &R,
     workers: Served<R>,
     names: &[NodeName],
-    door: &Receiver<Handed>,
+    handed: &Receiver<Handed>,
 ) -> Result<Vec<Receipt>, AllocError> {
-    for handed in door.iter(rt) {
-        hand(&workers, names, handed);
+    for one in handed.iter(rt) {
+        hand(&workers, names, one);
     }
     workers.end()
 }

@@ -1,10 +1,12 @@
 //! The members of the group: processors, each of which reads what it owns of the input partitions.
 use crate::client::{Client, Done};
-use crate::fault::DemoFault;
+use crate::fault::PlayFault;
 use kx_batch::BatchView;
 use kx_client::ClientFault;
 use kx_machine::{Command, Note};
 use kx_message::{ErrorCode, Message, PartitionId};
+use kx_nodes::Receipt;
+use std::alloc::AllocError;
 use std::sync::Wait;
 
 /// The offset of an input partition for which a member asked.
@@ -69,7 +71,7 @@ impl Member {
     }
 
     /// Begins: it asks for a producer id.
-    pub(crate) fn begin<R: Wait>(&mut self, rt: &R) -> Result<(), DemoFault> {
+    pub(crate) fn begin<R: Wait>(&mut self, rt: &R) -> Result<(), PlayFault> {
         self.has_begun = true;
         self.client.tell(rt, Command::Init)?;
         Ok(())
@@ -95,7 +97,7 @@ impl Member {
     }
 
     /// Sends its next request, if none is unanswered.
-    pub(crate) fn poll<R: Wait>(&mut self, rt: &R) -> Result<(), DemoFault> {
+    pub(crate) fn poll<R: Wait>(&mut self, rt: &R) -> Result<(), PlayFault> {
         let Done { sent, note } = self.client.tell(rt, Command::Poll)?;
         if note == Note::Refused(ClientFault::Failed) {
             self.has_failed = true;
@@ -124,14 +126,14 @@ impl Member {
         self.client.close();
     }
 
-    /// Its client.
-    pub(crate) fn into_client(self) -> Client {
-        self.client
+    /// Puts the receipts of its steps behind others.
+    pub(crate) fn hand_over(&mut self, receipts: &mut Vec<Receipt>) -> Result<(), AllocError> {
+        self.client.hand_over(receipts)
     }
 
     /// Looks for the next frame, and sends what comes next; a member of the group only where it is
     /// to work.
-    pub(crate) fn turn<R: Wait>(&mut self, rt: &R, is_to_work: bool) -> Result<Seen, DemoFault> {
+    pub(crate) fn turn<R: Wait>(&mut self, rt: &R, is_to_work: bool) -> Result<Seen, PlayFault> {
         let goes_on = is_to_work || !self.has_joined;
         let is_waiting = self.has_begun && goes_on && !self.has_failed;
         let Some(message) = self.client.look(rt, is_waiting)? else {

@@ -1,6 +1,6 @@
-//! What a demonstration is asked for.
+//! What is asked for.
 ghost use Rattle.std.specs.Prelude.{◌≡◌, MatchOption};
-ghost use Rattle.kx_demo.specs.Options.{IsRecords, IsWorkers};
+ghost use Rattle.kx_play.specs.Options.{IsRecords, IsWorkers};
 
 use kx_relay::{Holding, Losses};
 use std::marker::Model;
@@ -17,7 +17,7 @@ pub struct WorkerCount(usize);
 
 impl Model for WorkerCount {
     ghost use Rattle.std.specs.Prelude.{ℕ};
-    ghost use Rattle.kx_demo.specs.Options.{IsWorkers};
+    ghost use Rattle.kx_play.specs.Options.{IsWorkers};
 
     ghost Value = { ℕ };
 
@@ -55,7 +55,7 @@ pub struct Records(usize);
 
 impl Model for Records {
     ghost use Rattle.std.specs.Prelude.{ℕ};
-    ghost use Rattle.kx_demo.specs.Options.{IsRecords};
+    ghost use Rattle.kx_play.specs.Options.{IsRecords};
 
     ghost Value = { ℕ };
 
@@ -87,9 +87,9 @@ impl Records {
     }
 }
 
-/// What a demonstration is asked for.
+/// What is asked for.
 #[derive(Clone, Copy)]
-pub struct DemoOptions {
+pub struct PlayOptions {
     /// How many threads serve the nodes of the core.
     pub workers: WorkerCount,
     /// How many records each of the two input partitions has.

@@ -1,10 +1,11 @@
 //! The producers, which fill the input partitions.
 use crate::client::{Client, Done};
-use crate::fault::DemoFault;
+use crate::fault::PlayFault;
 use crate::options::Records;
 use kx_client::{ValueList, Values};
 use kx_machine::Command;
 use kx_message::{Bytes, ErrorCode, Message, PartitionId};
+use kx_nodes::Receipt;
 use std::alloc::{AllocError, Global};
 use std::sync::Wait;
 
@@ -88,19 +89,19 @@ impl Producer {
     }
 
     // Tells it what to do next, and waits for that from now on.
-    fn ask<R: Wait>(&mut self, rt: &R, command: Command) -> Result<(), DemoFault> {
+    fn ask<R: Wait>(&mut self, rt: &R, command: Command) -> Result<(), PlayFault> {
         let Done { sent, .. } = self.client.tell(rt, command)?;
         self.awaited = correlation_of(sent.as_slice());
         Ok(())
     }
 
     /// Begins: it asks for a producer id.
-    pub(crate) fn begin<R: Wait>(&mut self, rt: &R) -> Result<(), DemoFault> {
+    pub(crate) fn begin<R: Wait>(&mut self, rt: &R) -> Result<(), PlayFault> {
         self.ask(rt, Command::Init)
     }
 
     // Sends the next batch, if there is one.
-    fn go_on<R: Wait>(&mut self, rt: &R) -> Result<(), DemoFault> {
+    fn go_on<R: Wait>(&mut self, rt: &R) -> Result<(), PlayFault> {
         self.awaited = None;
         let (from, all) = (self.sent, self.records.get());
         if from >= all {
@@ -117,13 +118,13 @@ impl Producer {
         self.client.close();
     }
 
-    /// Its client.
-    pub(crate) fn into_client(self) -> Client {
-        self.client
+    /// Puts the receipts of its steps behind others.
+    pub(crate) fn hand_over(&mut self, receipts: &mut Vec<Receipt>) -> Result<(), AllocError> {
+        self.client.hand_over(receipts)
     }
 
     /// Looks for the next frame, and goes on where it is what is waited for.
-    pub(crate) fn turn<R: Wait>(&mut self, rt: &R) -> Result<bool, DemoFault> {
+    pub(crate) fn turn<R: Wait>(&mut self, rt: &R) -> Result<bool, PlayFault> {
         let Some(message) = self.client.look(rt, self.awaited.is_some())? else {
             return Ok(false);
         };

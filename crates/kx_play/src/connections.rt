@@ -1,34 +1,36 @@
 //! The threads between clients and nodes: those of each connection and of the relay in its middle.
 use crate::client::listen;
-use crate::fault::DemoFault;
+use crate::fault::PlayFault;
 use crate::serving::{Handed, hear, write_answers};
 use crate::wires::Wire;
 use crossbeam_channel::{Receiver, Sender};
 use kx_message::Message;
+use kx_nodes::Crew;
 use kx_relay::{Draw, FrameStream, Holding, relay};
-use kx_server::Crew;
 use std::alloc::{AllocError, Global};
 use std::net::{Shutdown, TcpStream};
 use std::sync::{Arc, Wait};
-use std::thread;
 use std::thread::Threads;
+use std::{mem, thread};
 
 /// What the threads of all connections share.
 #[derive(Drop)]
-pub(crate) struct Stage<R: Threads + Wait + Drop> {
+pub(crate) struct Connections<R: Threads + Wait + Drop> {
     rt: R,
     alloc: Global,
     draw: Arc<Draw>,
     holding: Holding,
-    door: Sender<Handed>,
+    to_nodes: Sender<Handed>,
     crew: Crew<R>,
     // the clients' ends, to be closed if it comes to nothing
     streams: Vec<TcpStream>,
+    // where the answers to clients go
+    outboxes: Vec<Sender<Message>>,
 }
 
 /// A client's end of its connection.
 #[derive(Drop)]
-pub(crate) struct Seat {
+pub(crate) struct ClientEnd {
     /// Over which it sends.
     pub(crate) stream: TcpStream,
     /// In which it finds what came.
@@ -36,27 +38,28 @@ pub(crate) struct Seat {
 }
 
 // Another handle of a connection.
-fn twin(stream: &TcpStream) -> Result<TcpStream, DemoFault> {
-    stream.try_clone().map_err(|_| DemoFault::Net)
+fn twin(stream: &TcpStream) -> Result<TcpStream, PlayFault> {
+    stream.try_clone().map_err(|_| PlayFault::Net)
 }
 
-impl<R: Threads + Wait + Copy + Send + Sync + Drop + 'static> Stage<R> {
-    /// No connection yet. What comes over them is handed in through the door.
+impl<R: Threads + Wait + Copy + Send + Sync + Drop + 'static> Connections<R> {
+    /// No connection yet. What comes over them is handed to nodes.
     pub(crate) fn new(
         rt: R,
         alloc: Global,
         draw: Arc<Draw>,
         holding: Holding,
-        door: Sender<Handed>,
+        to_nodes: Sender<Handed>,
     ) -> Self {
-        Stage {
+        Connections {
             rt,
             alloc,
             draw,
             holding,
-            door,
+            to_nodes,
             crew: Crew::new(rt, alloc),
             streams: Vec::new(alloc),
+            outboxes: Vec::new(alloc),
         }
     }
 
@@ -91,10 +94,10 @@ impl<R: Threads + Wait + Copy + Send + Sync + Drop + 'static> Stage<R> {
 
     // Starts what hears requests.
     fn add_hearer(&mut self, stream: TcpStream) -> Result<(), AllocError> {
-        let (rt, door) = (self.rt, self.door.clone()?);
+        let (rt, to_nodes) = (self.rt, self.to_nodes.clone()?);
         let frames = FrameStream::new(self.alloc, stream)?;
         self.crew.make_room()?;
-        let Ok(handle) = thread::spawn(&rt, move || hear(&rt, frames, &door)) else {
+        let Ok(handle) = thread::spawn(&rt, move || hear(&rt, frames, &to_nodes)) else {
             return Err(AllocError);
         };
         self.crew.push(handle);
@@ -117,8 +120,8 @@ impl<R: Threads + Wait + Copy + Send + Sync + Drop + 'static> Stage<R> {
         Ok(())
     }
 
-    // Starts the threads of a connection, and gives the client's end, and where its answers go.
-    fn add_wire(&mut self, wire: Wire) -> Result<(Seat, Sender<Message>), DemoFault> {
+    /// Starts the threads of a connection, and gives the client's end.
+    pub(crate) fn add(&mut self, wire: Wire) -> Result<ClientEnd, PlayFault> {
         let Wire {
             client,
             near,
@@ -128,31 +131,26 @@ impl<R: Threads + Wait + Copy + Send + Sync + Drop + 'static> Stage<R> {
         self.streams.push(twin(&client)?)?;
         let (to_inbox, inbox) = crossbeam_channel::unbounded(self.alloc)?;
         let (outbox, answers) = crossbeam_channel::unbounded(self.alloc)?;
+        self.outboxes.push(outbox)?;
         self.add_listener(twin(&client)?, to_inbox)?;
         self.add_line(twin(&near)?, twin(&far)?)?;
         self.add_line(far, near)?;
         self.add_hearer(twin(&server)?)?;
         self.add_writer(server, answers)?;
-        let seat = Seat {
+        Ok(ClientEnd {
             stream: client,
             inbox,
-        };
-        Ok((seat, outbox))
+        })
     }
 
-    /// Starts the threads of connections, and gives the clients' ends, and where their answers go.
-    pub(crate) fn add_wires(
-        &mut self,
-        wires: Vec<Wire>,
-    ) -> Result<(Vec<Seat>, Vec<Sender<Message>>), DemoFault> {
-        let mut seats = Vec::new(self.alloc);
-        let mut outboxes = Vec::new(self.alloc);
-        for wire in wires {
-            let (seat, outbox) = self.add_wire(wire)?;
-            seats.push(seat)?;
-            outboxes.push(outbox)?;
-        }
-        Ok((seats, outboxes))
+    /// Another way in to the nodes.
+    pub(crate) fn to_nodes(&self) -> Result<Sender<Handed>, AllocError> {
+        self.to_nodes.clone()
+    }
+
+    /// Where the answers to clients go, in order of their connections.
+    pub(crate) fn take_outboxes(&mut self) -> Vec<Sender<Message>> {
+        mem::replace(&mut self.outboxes, Vec::new(self.alloc))
     }
 
     /// Closes the clients' ends, whatever they still wait for.
@@ -164,7 +162,7 @@ impl<R: Threads + Wait + Copy + Send + Sync + Drop + 'static> Stage<R> {
 
     /// The threads. Nothing is handed in any more but by those that run.
     pub(crate) fn into_crew(self) -> Crew<R> {
-        let Stage { crew, .. } = self;
+        let Connections { crew, .. } = self;
         crew
     }
 }

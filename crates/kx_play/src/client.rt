@@ -1,15 +1,16 @@
 //! A client before its end of a connection.
-use crate::fault::DemoFault;
-use crate::nodes::{DemoMaking, DemoNode, trace_of};
-use crossbeam_channel::{Receiver, Sender};
+use crate::connections::ClientEnd;
+use crate::fault::PlayFault;
+use crate::nodes::PlayNode;
+use crossbeam_channel::Sender;
 use kx_machine::{Command, Input, Messages, Note};
 use kx_message::Message;
-use kx_nodes::{Receipt, Trace};
+use kx_nodes::Receipt;
 use kx_relay::FrameStream;
 use kx_stream::send;
 use std::alloc::{AllocError, Global};
-use std::net::{Shutdown, TcpStream};
-use std::sync::Wait;
+use std::net::Shutdown;
+use std::sync::{Arc, Wait};
 
 // After how many looks without a frame a client sends again what is unanswered.
 const PATIENCE: u32 = 100;
@@ -23,13 +24,12 @@ pub(crate) struct Done {
     pub(crate) note: Note,
 }
 
-/// A client: its node under a lock, its end of a connection, and the receipts of its steps.
+/// A client: its node, its end of a connection, and the receipts of its steps.
 #[derive(Drop)]
 pub(crate) struct Client {
     alloc: Global,
-    node: DemoNode,
-    stream: TcpStream,
-    inbox: Receiver<Message>,
+    node: Arc<PlayNode>,
+    end: ClientEnd,
     receipts: Vec<Receipt>,
     // looks since a frame came or requests were sent again
     idle: u32,
@@ -51,34 +51,28 @@ pub(crate) fn listen<R: Wait>(rt: &R, mut frames: FrameStream, inbox: &Sender<Me
 
 impl Client {
     /// A client that has done nothing.
-    pub(crate) fn new(
-        alloc: Global,
-        node: DemoNode,
-        stream: TcpStream,
-        inbox: Receiver<Message>,
-    ) -> Client {
+    pub(crate) fn new(alloc: Global, node: Arc<PlayNode>, end: ClientEnd) -> Client {
         Client {
             alloc,
             node,
-            stream,
-            inbox,
+            end,
             receipts: Vec::new(alloc),
             idle: 0,
         }
     }
 
     // Sends what a step handed out.
-    fn send_all(&self, messages: &[Message]) -> Result<(), DemoFault> {
+    fn send_all(&self, messages: &[Message]) -> Result<(), PlayFault> {
         for message in messages {
-            if send(self.alloc, &mut &self.stream, message).is_err() {
-                return Err(DemoFault::Net);
+            if send(self.alloc, &mut &self.end.stream, message).is_err() {
+                return Err(PlayFault::Net);
             }
         }
         Ok(())
     }
 
     /// One step of the client: what it hands out is sent.
-    pub(crate) fn step<R: Wait>(&mut self, rt: &R, input: Input) -> Result<Done, DemoFault> {
+    pub(crate) fn step<R: Wait>(&mut self, rt: &R, input: Input) -> Result<Done, PlayFault> {
         self.receipts.reserve(1)?;
         let receipt = self.node.take(rt, input)?;
         self.send_all(receipt.taken.messages.as_slice())?;
@@ -91,12 +85,12 @@ impl Client {
     }
 
     /// The client is told to do something.
-    pub(crate) fn tell<R: Wait>(&mut self, rt: &R, command: Command) -> Result<Done, DemoFault> {
+    pub(crate) fn tell<R: Wait>(&mut self, rt: &R, command: Command) -> Result<Done, PlayFault> {
         self.step(rt, Input::Command(command))
     }
 
     // Sends again what is unanswered, where nothing came for long.
-    fn resend<R: Wait>(&mut self, rt: &R) -> Result<(), DemoFault> {
+    fn resend<R: Wait>(&mut self, rt: &R) -> Result<(), PlayFault> {
         self.idle = self.idle.saturating_add(1);
         if self.idle >= PATIENCE {
             self.idle = 0;
@@ -111,8 +105,8 @@ impl Client {
         &mut self,
         rt: &R,
         is_waiting: bool,
-    ) -> Result<Option<Message>, DemoFault> {
-        if let Ok(message) = self.inbox.try_recv(rt) {
+    ) -> Result<Option<Message>, PlayFault> {
+        if let Ok(message) = self.end.inbox.try_recv(rt) {
             self.idle = 0;
             let copy = message.clone()?;
             self.step(rt, Input::Deliver(copy))?;
@@ -126,20 +120,11 @@ impl Client {
 
     /// Sends no more.
     pub(crate) fn close(&self) {
-        let _ = self.stream.shutdown(Shutdown::Write);
+        let _ = self.end.stream.shutdown(Shutdown::Write);
     }
 
-    /// Its trace, and its receipts, which are put behind others.
-    pub(crate) fn finish(
-        self,
-        receipts: &mut Vec<Receipt>,
-    ) -> Result<Trace<DemoMaking>, AllocError> {
-        let Client {
-            node,
-            receipts: mut own,
-            ..
-        } = self;
-        receipts.append(&mut own)?;
-        Ok(trace_of(node))
+    /// Puts the receipts of its steps behind others.
+    pub(crate) fn hand_over(&mut self, receipts: &mut Vec<Receipt>) -> Result<(), AllocError> {
+        receipts.append(&mut self.receipts)
     }
 }

@@ -1,5 +1,5 @@
 //! The connections: each client has its own to the relay, and the relay one for it to the server.
-use crate::fault::DemoFault;
+use crate::fault::PlayFault;
 use std::net::{Net, TcpListener, TcpStream};
 
 /// One connection with the relay in its middle.
@@ -18,18 +18,18 @@ pub(crate) struct Wire {
 // Both ends of a connection over loopback.
 fn pair<R: Net<Listener = TcpListener, Stream = TcpStream>>(
     rt: &R,
-) -> Result<(TcpStream, TcpStream), DemoFault> {
+) -> Result<(TcpStream, TcpStream), PlayFault> {
     let Ok(listener) = TcpListener::bind(rt, ("127.0.0.1", 0)) else {
-        return Err(DemoFault::Net);
+        return Err(PlayFault::Net);
     };
     let Ok(address) = listener.local_addr() else {
-        return Err(DemoFault::Net);
+        return Err(PlayFault::Net);
     };
     let Ok(calling) = TcpStream::connect(rt, ("127.0.0.1", address.port())) else {
-        return Err(DemoFault::Net);
+        return Err(PlayFault::Net);
     };
     let Ok((called, _)) = listener.accept() else {
-        return Err(DemoFault::Net);
+        return Err(PlayFault::Net);
     };
     // Frames are small and are waited for. Where this can't be had they come later.
     let _ = calling.set_nodelay(true);
@@ -41,7 +41,7 @@ impl Wire {
     /// A connection over which nothing went.
     pub(crate) fn open<R: Net<Listener = TcpListener, Stream = TcpStream>>(
         rt: &R,
-    ) -> Result<Wire, DemoFault> {
+    ) -> Result<Wire, PlayFault> {
         let (client, near) = pair(rt)?;
         let (far, server) = pair(rt)?;
         Ok(Wire {

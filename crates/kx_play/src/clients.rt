@@ -1,15 +1,15 @@
 //! The clients, and what they do in turn.
-use crate::fault::DemoFault;
+use crate::fault::PlayFault;
 use crate::members::{Committed, Member};
-use crate::nodes::{DemoMaking, INPUTS};
+use crate::nodes::INPUTS;
 use crate::options::Records;
 use crate::producers::Producer;
 use crate::serving::Handed;
 use crossbeam_channel::Sender;
 use kx_machine::Input;
 use kx_message::{ClientId, GroupId, Node as NodeName, PartitionId};
-use kx_nodes::{Receipt, Trace};
-use std::alloc::AllocError;
+use kx_nodes::Receipt;
+use std::alloc::{AllocError, Global};
 use std::sync::Wait;
 use std::thread;
 use std::time::{Clock, Duration};
@@ -20,18 +20,34 @@ const MOST_TURNS: u32 = 1_000_000;
 // How long all wait when no frame came for any, in microseconds.
 const PAUSE_MICROS: u64 = 100;
 
-/// A member of a group who is dropped.
-#[derive(Clone, Copy)]
+/// How a member of a group is dropped.
+#[derive(Drop)]
 pub(crate) struct Dropping {
+    /// Where it is asked for.
+    pub(crate) to_nodes: Sender<Handed>,
     /// The group.
     pub(crate) group: GroupId,
-    /// Its client.
+    /// The member's client.
     pub(crate) member: ClientId,
+}
+
+impl Dropping {
+    // Asks for it.
+    fn ask<R: Wait>(&self, rt: &R) -> Result<(), PlayFault> {
+        let handed = Handed {
+            node: NodeName::Partition(PartitionId::OFFSETS),
+            input: Input::Drop(self.group, self.member),
+        };
+        self.to_nodes
+            .send(rt, handed)
+            .map_err(|_| PlayFault::Memory)
+    }
 }
 
 /// The clients: producers, a member that stays, and one that is dropped.
 #[derive(Drop)]
-pub(crate) struct Cast {
+pub(crate) struct Clients {
+    alloc: Global,
     producers: Vec<Producer>,
     staying: Member,
     leaving: Member,
@@ -44,16 +60,18 @@ pub(crate) struct Cast {
     committed: [i64; INPUTS as usize],
 }
 
-impl Cast {
+impl Clients {
     /// Clients that have done nothing.
     pub(crate) fn new(
+        alloc: Global,
         producers: Vec<Producer>,
         staying: Member,
         leaving: Member,
         dropping: Dropping,
         records: Records,
-    ) -> Cast {
-        Cast {
+    ) -> Clients {
+        Clients {
+            alloc,
             producers,
             staying,
             leaving,
@@ -67,7 +85,7 @@ impl Cast {
     }
 
     // Lets the producers begin.
-    fn begin<R: Wait>(&mut self, rt: &R) -> Result<(), DemoFault> {
+    fn begin<R: Wait>(&mut self, rt: &R) -> Result<(), PlayFault> {
         for producer in self.producers.iter_mut() {
             producer.begin(rt)?;
         }
@@ -75,7 +93,7 @@ impl Cast {
     }
 
     // Lets each producer look, and says whether a frame came.
-    fn produce<R: Wait>(&mut self, rt: &R) -> Result<bool, DemoFault> {
+    fn produce<R: Wait>(&mut self, rt: &R) -> Result<bool, PlayFault> {
         let mut has_moved = false;
         for producer in self.producers.iter_mut() {
             has_moved = producer.turn(rt)? || has_moved;
@@ -84,7 +102,7 @@ impl Cast {
     }
 
     // Lets the members begin once the input partitions are filled.
-    fn begin_members<R: Wait>(&mut self, rt: &R) -> Result<(), DemoFault> {
+    fn begin_members<R: Wait>(&mut self, rt: &R) -> Result<(), PlayFault> {
         if self.has_begun || !self.producers.iter().all(|producer| producer.is_done()) {
             return Ok(());
         }
@@ -94,7 +112,7 @@ impl Cast {
     }
 
     // Lets the members work once both have joined.
-    fn begin_work<R: Wait>(&mut self, rt: &R) -> Result<(), DemoFault> {
+    fn begin_work<R: Wait>(&mut self, rt: &R) -> Result<(), PlayFault> {
         if self.is_at_work || !self.staying.has_joined() || !self.leaving.has_joined() {
             return Ok(());
         }
@@ -114,7 +132,7 @@ impl Cast {
     }
 
     // Lets the members look, and says whether a frame came.
-    fn consume<R: Wait>(&mut self, rt: &R) -> Result<bool, DemoFault> {
+    fn consume<R: Wait>(&mut self, rt: &R) -> Result<bool, PlayFault> {
         let staying = self.staying.turn(rt, self.is_at_work)?;
         let leaving = self.leaving.turn(rt, self.is_at_work)?;
         self.note(staying.committed);
@@ -123,18 +141,13 @@ impl Cast {
     }
 
     // Drops the one member when it has sent the images of half an input partition.
-    fn drop_member<R: Wait>(&mut self, rt: &R, door: &Sender<Handed>) -> Result<(), DemoFault> {
+    fn drop_member<R: Wait>(&mut self, rt: &R) -> Result<(), PlayFault> {
         let half = self.records.get().div_ceil(2);
         if self.has_dropped || self.leaving.written() < half {
             return Ok(());
         }
         self.has_dropped = true;
-        let Dropping { group, member } = self.dropping;
-        let handed = Handed {
-            node: NodeName::Partition(PartitionId::OFFSETS),
-            input: Input::Drop(group, member),
-        };
-        door.send(rt, handed).map_err(|_| DemoFault::Memory)
+        self.dropping.ask(rt)
     }
 
     // Whether the group has read all, and the dropped member has found out that it was dropped.
@@ -144,52 +157,45 @@ impl Cast {
     }
 
     // One look of each client. All wait for a moment where no frame came.
-    fn turn<R: Wait + Clock>(&mut self, rt: &R, door: &Sender<Handed>) -> Result<(), DemoFault> {
+    fn turn<R: Wait + Clock>(&mut self, rt: &R) -> Result<(), PlayFault> {
         let has_produced = self.produce(rt)?;
         self.begin_members(rt)?;
         let has_consumed = self.consume(rt)?;
         self.begin_work(rt)?;
-        self.drop_member(rt, door)?;
+        self.drop_member(rt)?;
         if !has_produced && !has_consumed {
             thread::sleep(rt, Duration::from_micros(PAUSE_MICROS));
         }
         Ok(())
     }
 
-    /// Plays to the end.
-    pub(crate) fn play<R: Wait + Clock>(
-        &mut self,
-        rt: &R,
-        door: &Sender<Handed>,
-    ) -> Result<(), DemoFault> {
+    // Plays until all is read and written.
+    fn play_on<R: Wait + Clock>(&mut self, rt: &R) -> Result<(), PlayFault> {
         self.begin(rt)?;
         for _ in 0..MOST_TURNS {
             if self.is_over() {
                 return Ok(());
             }
-            self.turn(rt, door)?;
+            self.turn(rt)?;
         }
-        Err(DemoFault::GaveUp)
+        Err(PlayFault::GaveUp)
     }
 
-    /// The traces and receipts of all, which are put behind others.
-    pub(crate) fn finish(
-        self,
-        traces: &mut Vec<Trace<DemoMaking>>,
-        receipts: &mut Vec<Receipt>,
-    ) -> Result<(), AllocError> {
-        let Cast {
-            producers,
-            staying,
-            leaving,
-            ..
-        } = self;
-        for producer in producers {
-            traces.push(producer.into_client().finish(receipts)?)?;
+    // The receipts of the steps of all.
+    fn receipts(&mut self) -> Result<Vec<Receipt>, AllocError> {
+        let mut receipts = Vec::new(self.alloc);
+        for producer in self.producers.iter_mut() {
+            producer.hand_over(&mut receipts)?;
         }
-        traces.push(staying.into_client().finish(receipts)?)?;
-        traces.push(leaving.into_client().finish(receipts)?)?;
-        Ok(())
+        self.staying.hand_over(&mut receipts)?;
+        self.leaving.hand_over(&mut receipts)?;
+        Ok(receipts)
+    }
+
+    /// Plays to the end, and gives the receipts of all steps.
+    pub(crate) fn play<R: Wait + Clock>(&mut self, rt: &R) -> Result<Vec<Receipt>, PlayFault> {
+        self.play_on(rt)?;
+        Ok(self.receipts()?)
     }
 
     /// Closes the connections of all.

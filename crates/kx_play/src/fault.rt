@@ -1,0 +1,53 @@
+//! Why playing has no end that could be audited.
+ghost use Rattle.std.specs.Prelude.{◌≡◌};
+
+use kx_nodes::NodeFault;
+use std::alloc::{AllocError, AllocFailed};
+use thiserror::Error;
+
+/// Why playing comes to no end that could be audited. All its threads have ended then.
+#[derive(Clone, Copy, Debug, PartialEq, Eq, Error)]
+pub enum PlayFault {
+    /// A port of 127.0.0.1 can't be had, or a connection fails.
+    #[error("the network fails")]
+    Net,
+    /// Memory ran out, or a thread can't be started.
+    #[error("out of memory")]
+    Memory,
+    /// The clients looked for their next frames 1,000,000 times, and hadn't come to the end; or a
+    /// node took as many inputs as a trace holds.
+    #[error("gave up")]
+    GaveUp,
+}
+
+/// Want of memory.
+impl From<AllocError> for PlayFault {
+    ghost use Rattle.kx_play.specs.declared.fault.PlayFault.TheVariants.{Memory};
+
+    ghost from_gives = { λ refused fault. fault ≡ Memory };
+
+    fn from(_: AllocError) -> Self {
+        PlayFault::Memory
+    }
+}
+
+/// Want of memory for what is put into a list or made to be shared, which is let go.
+impl<T: Drop> From<AllocFailed<T>> for PlayFault {
+    ghost use Rattle.kx_play.specs.declared.fault.PlayFault.TheVariants.{Memory};
+
+    ghost from_gives = { λ refused fault. fault ≡ Memory };
+
+    fn from(_: AllocFailed<T>) -> Self {
+        PlayFault::Memory
+    }
+}
+
+/// A node that doesn't take an input: for want of memory, or with a full trace.
+impl From<NodeFault> for PlayFault {
+    fn from(fault: NodeFault) -> Self {
+        match fault {
+            NodeFault::Memory => PlayFault::Memory,
+            NodeFault::TraceFull => PlayFault::GaveUp,
+        }
+    }
+}
