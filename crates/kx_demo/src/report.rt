@@ -5,8 +5,8 @@ ghost use Rattle.kx_demo.specs.Telling.{Tells, TellsCounts, line, yes_text};
 ghost use Rattle.kx_demo.specs.declared.fault.DemoFault.TheVariants.{GaveUp, Write};
 
 use crate::counting::{Counts, Found, count};
+use crate::events::write_run;
 use crate::fault::DemoFault;
-use crate::picture::write_picture;
 use kx_audit::{AuditFault, audit};
 use kx_play::{PlayFault, PlayOptions, Played, play};
 use std::alloc::Global;
@@ -52,10 +52,10 @@ fn write_yes<W: Write>(out: &mut W, counts: Counts) -> Result<(), DemoFault>
 }
 
 // Writes what happened.
-fn draw<P: Write>(alloc: Global, run: &Found, picture: &mut P) -> Result<(), DemoFault>
+fn show<P: Write>(alloc: Global, run: &Found, events: &mut P) -> Result<(), DemoFault>
     ensures { IfErr result (λ fault. fault ≢ GaveUp) }
 {
-    match write_picture(alloc, run, picture) {
+    match write_run(alloc, run, events) {
         Ok(()) => Ok(()),
         Err(DemoFault::Memory) => Err(DemoFault::Memory),
         Err(_) => Err(DemoFault::Write),
@@ -67,14 +67,14 @@ fn tell<W: Write, P: Write>(
     alloc: Global,
     run: &Found,
     out: &mut W,
-    picture: Option<&mut P>,
+    events: Option<&mut P>,
 ) -> Result<(), DemoFault>
     ensures told { OnOk result (TellsCounts run.now (W.contents out.old) (W.contents out.new)) }
     ensures fault { IfErr result (λ fault. fault ≢ GaveUp) }
 {
     let counts = count(alloc, run)?;
-    if let Some(picture) = picture {
-        draw(alloc, run, picture)?;
+    if let Some(events) = events {
+        show(alloc, run, events)?;
     }
     write_yes(out, counts)
 }
@@ -84,14 +84,14 @@ fn judge<W: Write, P: Write>(
     alloc: Global,
     played: Played,
     out: &mut W,
-    picture: Option<&mut P>,
+    events: Option<&mut P>,
 ) -> Result<bool, DemoFault>
     ensures { Tells (W.contents out.old) (W.contents out.new) result }
 {
     let Played { traces, receipts } = played;
     match audit(alloc, traces, receipts.as_slice()) {
         Ok(run) => {
-            tell(alloc, &run, out, picture)?;
+            tell(alloc, &run, out, events)?;
             Ok(true)
         }
         Err(AuditFault::Memory) => Err(DemoFault::Memory),
@@ -104,8 +104,8 @@ fn judge<W: Write, P: Write>(
 
 /// Plays the demonstration, audits it, and prints what the audited run has: `inputs`, `outputs` and
 /// `doubles`, each with its count, and `audit yes`; or else `audit no` and the number of the audit's
-/// fault, or `gave up`. Says whether the audit said yes. What happened is written into the picture,
-/// if there is one.
+/// fault, or `gave up`. Says whether the audit said yes. What happened is written into
+/// `events`, if that is asked for.
 ///
 /// # Errors
 ///
@@ -123,12 +123,12 @@ pub fn demo<
         + 'static,
     W: Write,
     P: Write,
->(rt: R, options: &PlayOptions, out: &mut W, picture: Option<&mut P>) -> Result<bool, DemoFault>
+>(rt: R, options: &PlayOptions, out: &mut W, events: Option<&mut P>) -> Result<bool, DemoFault>
     // What it printed: of a yes, what was counted in a run that keeps the guarantees.
     ensures { Tells (W.contents out.old) (W.contents out.new) result }
 {
     match play(rt, options) {
-        Ok(played) => judge(rt.alloc(), played, out, picture),
+        Ok(played) => judge(rt.alloc(), played, out, events),
         Err(PlayFault::GaveUp) => {
             write_text(out, "gave up\n")?;
             Err(DemoFault::GaveUp)

@@ -72,7 +72,7 @@ pub(crate) fn demo_usage<'a>(alloc: Global) -> Result<Command<'a>, AllocError> {
         "How many further frames go between a frame and its copy, 0 to 8",
     )
     .value_parser(clap::value_parser!(u16).range(0..=8));
-    let picture = Arg::new(alloc, "trace")
+    let trace = Arg::new(alloc, "trace")
         .long("trace")
         .value_name("FILE")
         .action(ArgAction::Set)
@@ -84,7 +84,7 @@ pub(crate) fn demo_usage<'a>(alloc: Global) -> Result<Command<'a>, AllocError> {
         .arg(seed)?
         .arg(lose)?
         .arg(hold)?
-        .arg(picture)
+        .arg(trace)
 }
 
 // What the arguments ask for, where they are right.
@@ -108,7 +108,7 @@ fn ending_of(rt: &impl Eprint, played: Result<bool, DemoFault>) -> Ending {
 }
 
 // Plays, and writes what happened into a file.
-fn demo_with_picture<
+fn demo_with_events<
     R: Files<File = File>
         + Print
         + Eprint
@@ -127,12 +127,12 @@ fn demo_with_picture<
         Ok(file) => file,
         Err(error) => return failed(rt, error),
     };
-    let mut picture = match BufWriter::new(rt.alloc(), file) {
-        Ok(picture) => picture,
+    let mut events = match BufWriter::new(rt.alloc(), file) {
+        Ok(events) => events,
         Err(_) => return failed(rt, DemoFault::Memory),
     };
-    let played = kx_demo::demo(*rt, options, &mut io::writer(rt), Some(&mut picture));
-    if let Err(error) = picture.flush() {
+    let played = kx_demo::demo(*rt, options, &mut io::writer(rt), Some(&mut events));
+    if let Err(error) = events.flush() {
         return failed(rt, error);
     }
     ending_of(rt, played)
@@ -158,7 +158,7 @@ pub(crate) fn demo<
         return Ending::WrongArguments;
     };
     if let Some(path) = given.get_str("trace") {
-        return demo_with_picture(rt, &options, path);
+        return demo_with_events(rt, &options, path);
     }
     let none: Option<&mut Vec<u8>> = None;
     let played = kx_demo::demo(*rt, &options, &mut io::writer(rt), none);

@@ -4,10 +4,10 @@
 //! fact, that what the threads did was one schedule.
 #![tactic(auto)]
 
-mod crew;
 mod fault;
 mod finished;
 mod gate;
+mod join_set;
 mod laws;
 mod locked;
 mod made;
@@ -18,10 +18,10 @@ mod shared;
 mod trace;
 mod workers;
 
-pub use crew::Crew;
 pub use fault::{HandFault, NodeFault};
 pub use finished::Finished;
 pub use gate::Gate;
+pub use join_set::JoinSet;
 pub use laws::{alike_nodes_answer_alike, traces_run_again, traces_tell_answers_and_logs};
 pub use locked::{Locked, MOST_STEPS};
 pub use made::{Made, ProcessorMaking};

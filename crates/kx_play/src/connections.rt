@@ -5,7 +5,7 @@ use crate::serving::{Handed, hear, write_answers};
 use crate::wires::Wire;
 use crossbeam_channel::{Receiver, Sender};
 use kx_message::Message;
-use kx_nodes::Crew;
+use kx_nodes::JoinSet;
 use kx_relay::{Draw, FrameStream, Holding, relay};
 use std::alloc::{AllocError, Global};
 use std::net::{Shutdown, TcpStream};
@@ -21,7 +21,7 @@ pub(crate) struct Connections<R: Threads + Wait + Drop> {
     draw: Arc<Draw>,
     holding: Holding,
     to_nodes: Sender<Handed>,
-    crew: Crew<R>,
+    threads: JoinSet<R>,
     // the clients' ends, to be closed if it comes to nothing
     streams: Vec<TcpStream>,
     // where the answers to clients go
@@ -57,7 +57,7 @@ impl<R: Threads + Wait + Copy + Send + Sync + Drop + 'static> Connections<R> {
             draw,
             holding,
             to_nodes,
-            crew: Crew::new(rt, alloc),
+            threads: JoinSet::new(rt, alloc),
             streams: Vec::new(alloc),
             outboxes: Vec::new(alloc),
         }
@@ -70,11 +70,11 @@ impl<R: Threads + Wait + Copy + Send + Sync + Drop + 'static> Connections<R> {
         inbox: Sender<Message>,
     ) -> Result<(), AllocError> {
         let (rt, frames) = (self.rt, FrameStream::new(self.alloc, stream)?);
-        self.crew.make_room()?;
+        self.threads.make_room()?;
         let Ok(handle) = thread::spawn(&rt, move || listen(&rt, frames, &inbox)) else {
             return Err(AllocError);
         };
-        self.crew.push(handle);
+        self.threads.push(handle);
         Ok(())
     }
 
@@ -83,12 +83,12 @@ impl<R: Threads + Wait + Copy + Send + Sync + Drop + 'static> Connections<R> {
         let (rt, alloc, holding) = (self.rt, self.alloc, self.holding);
         let draw = Arc::try_clone(&self.draw)?;
         let frames = FrameStream::new(alloc, from)?;
-        self.crew.make_room()?;
+        self.threads.make_room()?;
         let carrying = move || relay(&rt, alloc, &*draw, holding, frames, &to);
         let Ok(handle) = thread::spawn(&rt, carrying) else {
             return Err(AllocError);
         };
-        self.crew.push(handle);
+        self.threads.push(handle);
         Ok(())
     }
 
@@ -96,11 +96,11 @@ impl<R: Threads + Wait + Copy + Send + Sync + Drop + 'static> Connections<R> {
     fn add_hearer(&mut self, stream: TcpStream) -> Result<(), AllocError> {
         let (rt, to_nodes) = (self.rt, self.to_nodes.clone()?);
         let frames = FrameStream::new(self.alloc, stream)?;
-        self.crew.make_room()?;
+        self.threads.make_room()?;
         let Ok(handle) = thread::spawn(&rt, move || hear(&rt, frames, &to_nodes)) else {
             return Err(AllocError);
         };
-        self.crew.push(handle);
+        self.threads.push(handle);
         Ok(())
     }
 
@@ -111,12 +111,12 @@ impl<R: Threads + Wait + Copy + Send + Sync + Drop + 'static> Connections<R> {
         outbox: Receiver<Message>,
     ) -> Result<(), AllocError> {
         let (rt, alloc) = (self.rt, self.alloc);
-        self.crew.make_room()?;
+        self.threads.make_room()?;
         let Ok(handle) = thread::spawn(&rt, move || write_answers(&rt, alloc, &outbox, &stream))
         else {
             return Err(AllocError);
         };
-        self.crew.push(handle);
+        self.threads.push(handle);
         Ok(())
     }
 
@@ -161,8 +161,8 @@ impl<R: Threads + Wait + Copy + Send + Sync + Drop + 'static> Connections<R> {
     }
 
     /// The threads. Nothing is handed in any more but by those that run.
-    pub(crate) fn into_crew(self) -> Crew<R> {
-        let Connections { crew, .. } = self;
-        crew
+    pub(crate) fn into_threads(self) -> JoinSet<R> {
+        let Connections { threads, .. } = self;
+        threads
     }
 }

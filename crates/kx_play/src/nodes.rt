@@ -2,7 +2,6 @@
 ghost use Rattle.std.specs.Prelude.{◌≡◌, ◌<◌, ◌≤◌};
 ghost use Rattle.kx_message.specs.Ranges.{data_partitions, offsets_partition};
 
-use crate::fault::PlayFault;
 use kx_cluster::{AnyMaking, LocalNode, local_node};
 use kx_machine::{Machine, Making};
 use kx_message::{ClientId, GroupId, PartitionId, Timeout, TxnId};
@@ -53,18 +52,23 @@ pub(crate) fn core_nodes(alloc: Global) -> Result<Vec<Arc<PlayNode>>, AllocError
 }
 
 // How long the transactions of a client may stay open.
-fn timeout() -> Result<Timeout, PlayFault> {
-    Timeout::try_from(TIMEOUT).map_err(|_| PlayFault::Memory)
+fn timeout() -> Timeout {
+    Timeout::try_from(TIMEOUT).unwrap()
+}
+
+// How many partitions a processor may read.
+fn inputs() -> Inputs {
+    Inputs::try_from(INPUTS).unwrap()
 }
 
 /// A producer that is idempotent and has no transactions.
-pub(crate) fn producer(alloc: Global, number: ClientId) -> Result<Arc<PlayNode>, PlayFault> {
+pub(crate) fn producer(alloc: Global, number: ClientId) -> Result<Arc<PlayNode>, AllocError> {
     let making = Making::Client {
         number,
         txn: None,
-        timeout: timeout()?,
+        timeout: timeout(),
     };
-    Ok(shared(alloc, AnyMaking::Plain(making))?)
+    shared(alloc, AnyMaking::Plain(making))
 }
 
 /// A processor of a group, with this transactional id.
@@ -73,17 +77,16 @@ pub(crate) fn processor(
     number: ClientId,
     txn: TxnId,
     group: GroupId,
-    inputs: Inputs,
-) -> Result<Arc<PlayNode>, PlayFault> {
+) -> Result<Arc<PlayNode>, AllocError> {
     let making = ProcessorMaking {
         number,
         txn: Some(txn),
-        timeout: timeout()?,
+        timeout: timeout(),
         group,
-        inputs,
+        inputs: inputs(),
         process: Prefixed::new(alloc),
     };
-    Ok(shared(alloc, AnyMaking::Processor(making))?)
+    shared(alloc, AnyMaking::Processor(making))
 }
 
 /// The trace of a node that has ended.

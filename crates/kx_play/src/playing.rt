@@ -70,10 +70,10 @@ fn serve<R: Threads + Wait + Clock + Copy + Send + Sync + Drop + 'static>(
     if playing.is_err() {
         connections.close();
     }
-    let crew = connections.into_crew();
+    let threads = connections.into_threads();
     let served = attend(&rt, workers, names, handed);
     let played = join_clients(&rt, playing);
-    crew.join();
+    threads.join();
     let mut receipts = served?;
     receipts.append(&mut played?)?;
     Ok(receipts)
@@ -86,6 +86,7 @@ fn traces_of(
 ) -> Result<Vec<Trace<PlayMaking>>, AllocError> {
     let mut traces = Vec::new(alloc);
     for node in nodes {
+        // No thread has it any more, but no clause of theirs says so.
         let Some(node) = Arc::into_inner(node) else {
             return Err(AllocError);
         };

@@ -11,20 +11,16 @@ use crate::serving::{Answers, Served};
 use crate::wires::Wire;
 use kx_message::{ClientId, GroupId, TxnId};
 use kx_nodes::Workers;
-use kx_processor::Inputs;
 use std::alloc::{AllocError, Global};
 use std::net::{Net, TcpListener, TcpStream};
 use std::sync::{Arc, Wait};
 use std::thread::Threads;
 
-// The processor that stays: its number and its transactional id.
-const STAYING: (u32, &str) = (3, "stays");
+// The number of the processor that stays.
+const STAYING: u32 = 3;
 
-// The one that is dropped.
-const LEAVING: (u32, &str) = (4, "leaves");
-
-// Their group.
-const GROUP: &str = "demo";
+// The number of the one that is dropped.
+const LEAVING: u32 = 4;
 
 /// What stands before anything is asked for: the nodes, behind those of the core those of the
 /// clients, and the connections.
@@ -93,10 +89,8 @@ impl<
     }
 
     // A member of the group.
-    fn member(&mut self, (number, txn): (u32, &str), group: GroupId) -> Result<Member, PlayFault> {
-        let txn: TxnId = txn.parse().map_err(|_| PlayFault::Memory)?;
-        let inputs = Inputs::try_from(INPUTS).map_err(|_| PlayFault::Memory)?;
-        let node = processor(self.alloc, ClientId::from(number), txn, group, inputs)?;
+    fn member(&mut self, number: u32, txn: TxnId, group: GroupId) -> Result<Member, PlayFault> {
+        let node = processor(self.alloc, ClientId::from(number), txn, group)?;
         Ok(Member::new(self.client(node)?))
     }
 
@@ -105,17 +99,17 @@ impl<
         Ok(Dropping {
             to_nodes: self.connections.to_nodes()?,
             group,
-            member: ClientId::from(LEAVING.0),
+            member: ClientId::from(LEAVING),
         })
     }
 
     // The clients before their ends of new connections.
     fn clients(&mut self) -> Result<Clients, PlayFault> {
-        let group: GroupId = GROUP.parse().map_err(|_| PlayFault::Memory)?;
+        let group = "demo".parse().unwrap();
         let dropping = self.dropping(group)?;
         let producers = self.producers()?;
-        let staying = self.member(STAYING, group)?;
-        let leaving = self.member(LEAVING, group)?;
+        let staying = self.member(STAYING, "stays".parse().unwrap(), group)?;
+        let leaving = self.member(LEAVING, "leaves".parse().unwrap(), group)?;
         let records = self.options.records;
         Ok(Clients::new(self.alloc, producers, staying, leaving, dropping, records))
     }
@@ -134,7 +128,7 @@ impl<
     pub(crate) fn undo(self) {
         let Setup { connections, .. } = self;
         connections.close();
-        connections.into_crew().join();
+        connections.into_threads().join();
     }
 
     /// The nodes and the connections.

@@ -14,7 +14,7 @@ use crate::peer::Peer;
 use crate::ticking::{Going, keep_time, moment};
 use crossbeam_channel::Receiver;
 use kx_message::{Message, PartitionId};
-use kx_nodes::Crew;
+use kx_nodes::JoinSet;
 use kx_published::book::{Naming, Opened};
 use kx_serving::{Logging, ServedNode};
 use std::alloc::{AllocError, Global};
@@ -50,67 +50,67 @@ impl<
     // Starts a worker.
     fn add_worker(
         &self,
-        crew: &mut Crew<R>,
+        threads: &mut JoinSet<R>,
         rt: R,
         inbox: Receiver<Message>,
     ) -> Result<(), AllocError> {
-        crew.make_room()?;
+        threads.make_room()?;
         let hub = Arc::try_clone(&self.hub)?;
         let Ok(handle) = thread::spawn(&rt, move || hub.work(&rt, &inbox)) else {
             return Err(AllocError);
         };
-        crew.push(handle);
+        threads.push(handle);
         Ok(())
     }
 
     // Starts the clock.
-    fn add_clock(&self, crew: &mut Crew<R>, rt: R, alloc: Global) -> Result<(), AllocError> {
-        crew.make_room()?;
+    fn add_clock(&self, threads: &mut JoinSet<R>, rt: R, alloc: Global) -> Result<(), AllocError> {
+        threads.make_room()?;
         let hub = Arc::try_clone(&self.hub)?;
         let going = Arc::try_clone(&self.going)?;
         let Ok(handle) = thread::spawn(&rt, move || keep_time(&rt, alloc, &*hub, &*going)) else {
             return Err(AllocError);
         };
-        crew.push(handle);
+        threads.push(handle);
         Ok(())
     }
 
     // Starts what writes to a connection.
     fn add_writer(
         &self,
-        crew: &mut Crew<R>,
+        threads: &mut JoinSet<R>,
         rt: R,
         alloc: Global,
         peer: &Arc<Peer>,
     ) -> Result<(), AllocError> {
-        crew.make_room()?;
+        threads.make_room()?;
         let peer = Arc::try_clone(peer)?;
         let Ok(handle) = thread::spawn(&rt, move || peer.write_answers(&rt, alloc)) else {
             return Err(AllocError);
         };
-        crew.push(handle);
+        threads.push(handle);
         Ok(())
     }
 
     // Starts what reads from a connection.
     fn add_reader(
         &self,
-        crew: &mut Crew<R>,
+        threads: &mut JoinSet<R>,
         rt: R,
         connection: Connection<M, J, R>,
     ) -> Result<(), AllocError> {
-        crew.make_room()?;
+        threads.make_room()?;
         let Ok(handle) = thread::spawn(&rt, move || connection.serve(&rt)) else {
             return Err(AllocError);
         };
-        crew.push(handle);
+        threads.push(handle);
         Ok(())
     }
 
     // Starts the threads of a connection.
     fn add_connection(
         &self,
-        crew: &mut Crew<R>,
+        threads: &mut JoinSet<R>,
         rt: R,
         alloc: Global,
         peer: Peer,
@@ -119,9 +119,9 @@ impl<
         let peer = Arc::new(alloc, peer)?;
         let hub = Arc::try_clone(&self.hub)?;
         let theirs = Arc::try_clone(&peer)?;
-        self.add_writer(crew, rt, alloc, &peer)?;
+        self.add_writer(threads, rt, alloc, &peer)?;
         let connection = Connection::new(alloc, hub, theirs, options.partitions);
-        let added = self.add_reader(crew, rt, connection);
+        let added = self.add_reader(threads, rt, connection);
         if added.is_err() {
             peer.hang_up(&rt);
         }
@@ -150,14 +150,14 @@ fn take_connections<
     rt: R,
     alloc: Global,
     shared: &Shared<M, J, R>,
-    crew: &mut Crew<R>,
+    threads: &mut JoinSet<R>,
     listener: &TcpListener,
     options: &ServeOptions<'_>,
 ) -> Result<(), ServeFault> {
     for number in 0..options.connections.get() {
         let stream = accept(&rt, listener)?;
         let peer = Peer::new(alloc, number, stream);
-        shared.add_connection(crew, rt, alloc, peer, options)?;
+        shared.add_connection(threads, rt, alloc, peer, options)?;
     }
     Ok(())
 }
@@ -170,11 +170,11 @@ fn add_workers<
 >(
     rt: R,
     shared: &Shared<M, J, R>,
-    crew: &mut Crew<R>,
+    threads: &mut JoinSet<R>,
     inboxes: Vec<Receiver<Message>>,
 ) -> Result<(), AllocError> {
     for inbox in inboxes {
-        shared.add_worker(crew, rt, inbox)?;
+        shared.add_worker(threads, rt, inbox)?;
     }
     Ok(())
 }
@@ -211,8 +211,8 @@ fn serve_nodes<
     options: &ServeOptions<'_>,
 ) -> Result<(), ServeFault> {
     let (shared, inboxes) = share(alloc, nodes)?;
-    let mut workers = Crew::new(rt, alloc);
-    let mut connections = Crew::new(rt, alloc);
+    let mut workers = JoinSet::new(rt, alloc);
+    let mut connections = JoinSet::new(rt, alloc);
     let served = match add_workers(rt, &shared, &mut workers, inboxes) {
         Ok(()) => match shared.add_clock(&mut workers, rt, alloc) {
             Ok(()) => take_connections(rt, alloc, &shared, &mut connections, listener, options),

@@ -161,7 +161,7 @@ fn write_log<W: Write>(run: &Found, number: usize, out: &mut W) -> Result<(), De
 ///
 /// `Write` where the output can't be written, `Memory` for want of memory; part of it may be
 /// written then.
-pub fn write_picture<W: Write>(alloc: Global, run: &Found, out: &mut W) -> Result<(), DemoFault> {
+pub fn write_run<W: Write>(alloc: Global, run: &Found, out: &mut W) -> Result<(), DemoFault> {
     write_events(alloc, run, out)?;
     for number in 0..run.len() {
         write_log(run, number, out)?;

@@ -8,15 +8,15 @@ use std::thread::{JoinHandle, Threads};
 
 /// Threads that are joined in the end.
 #[derive(Drop)]
-pub struct Crew<R: Threads + Wait + Drop> {
+pub struct JoinSet<R: Threads + Wait + Drop> {
     rt: R,
     handles: Vec<JoinHandle<()>>,
 }
 
-impl<R: Threads + Wait + Drop> Crew<R> {
+impl<R: Threads + Wait + Drop> JoinSet<R> {
     /// No thread.
     pub fn new(rt: R, alloc: Global) -> Self {
-        Crew {
+        JoinSet {
             rt,
             handles: Vec::new(alloc),
         }
@@ -38,7 +38,7 @@ impl<R: Threads + Wait + Drop> Crew<R> {
 
     /// Waits until all have ended.
     pub fn join(self) {
-        let Crew { rt, handles } = self;
+        let JoinSet { rt, handles } = self;
         for handle in handles {
             handle.join(&rt);
         }
