@@ -17,7 +17,7 @@ abbrev pub log_of : {B : Type 0} → (B → NodeState) → Traced B → List Sto
 log_of made_as t = batches_of (again (made_as t.made) t.steps)
 
 -- a machine with its trace, and what was published of its log
-pub record Held (B M : Type 0) : Type 0 where
+pub record UnderLock (B M : Type 0) : Type 0 where
   pub recorded : Recorded B M
   pub published : Option Done
 
@@ -45,7 +45,7 @@ IsBehind made_as t (Some done) =
     × IsPrefix done.sent (log_of made_as t)
 
 -- the empty log was published, as this partition's first, and readers take it
-pub record IsFirst {B M : Type 0} (partition : ℕ) (held : Held B M) : Type 0 where
+pub record IsFirst {B M : Type 0} (partition : ℕ) (held : UnderLock B M) : Type 0 where
   pub done : Done
   pub published_is : held.published ≡ Some done
   pub partition_is : done.known.partition ≡ partition

@@ -66,9 +66,9 @@ pub struct Desk<M: Machine, B: Made, J: Naming, R: Wait + Drop> {
 }
 
 impl<M: Machine, B: Made, J: Naming, R: Wait + Drop> Model for Desk<M, B, J, R> {
-    ghost use Rattle.kx_publishing.specs.Publishing.{Held};
+    ghost use Rattle.kx_publishing.specs.Publishing.{UnderLock};
 
-    ghost Value = { Held B M };
+    ghost Value = { UnderLock B M };
 
     ghost use Rattle.std.specs.Prelude.{◌≡◌};
     ghost use Rattle.kx_publishing.specs.Publishing.{IsBehind, partition_of};

@@ -18,11 +18,11 @@ pub record Holds : Type 0 where
 
 -- the copies with one more behind them
 abbrev pub kept : Holds → Option Message → List (Option Message)
-kept held copy = held.copies ++ copy ∷ []
+kept delayed copy = delayed.copies ++ copy ∷ []
 
 -- more are kept than are held back
 abbrev pub is_due : Holds → Option Message → Bool
-is_due held copy = nat_lt held.holding (length (kept held copy))
+is_due delayed copy = nat_lt delayed.holding (length (kept delayed copy))
 
 abbrev pub first_of : List (Option Message) → Option Message
 first_of [] = None
@@ -34,9 +34,9 @@ rest_of (copy ∷ more) = more
 
 -- the copy that goes out with the frame
 abbrev pub due_of : Holds → Option Message → Option Message
-due_of held copy = if is_due held copy then first_of (kept held copy) else None
+due_of delayed copy = if is_due delayed copy then first_of (kept delayed copy) else None
 
-abbrev pub held_after : Holds → Option Message → Holds
-held_after held copy = record held {
-  copies = if is_due held copy then rest_of (kept held copy) else kept held copy;
+abbrev pub delayed_after : Holds → Option Message → Holds
+delayed_after delayed copy = record delayed {
+  copies = if is_due delayed copy then rest_of (kept delayed copy) else kept delayed copy;
 }

@@ -1,8 +1,8 @@
 //! What goes out over a line when a frame comes.
 ghost use Rattle.std.specs.Prelude.{◌≡◌, [], MatchResult, None, Some, if◌then◌else◌};
-ghost use Rattle.kx_relay.specs.Line.{due_of, held_after};
+ghost use Rattle.kx_relay.specs.Line.{due_of, delayed_after};
 
-use crate::held::Held;
+use crate::delayed::Delayed;
 use crate::share::Holding;
 use kx_message::Message;
 use std::alloc::{AllocError, Global};
@@ -22,7 +22,7 @@ pub struct Passed {
 /// further frames have come as are held.
 #[derive(Drop)]
 pub struct Line {
-    held: Held,
+    delayed: Delayed,
 }
 
 impl Model for Line {
@@ -30,7 +30,7 @@ impl Model for Line {
 
     ghost Value = { Holds };
 
-    ghost view = { λ line. line.held };
+    ghost view = { λ line. line.delayed };
 }
 
 impl Line {
@@ -39,7 +39,7 @@ impl Line {
         ensures { result ≡ record { holding = holding; copies = [] } }
     {
         Line {
-            held: Held::new(alloc, holding),
+            delayed: Delayed::new(alloc, holding),
         }
     }
 
@@ -52,14 +52,14 @@ impl Line {
         ensures { MatchResult result
             (λ passed. (passed.now ≡ (if is_lost then None else Some message))
             × (passed.again ≡ due_of self.old passed.now)
-            × (self.new ≡ held_after self.old passed.now))
+            × (self.new ≡ delayed_after self.old passed.now))
             (λ refused. self.new ≡ self.old) }
     {
         if is_lost {
-            let again = self.held.keep(None)?;
+            let again = self.delayed.keep(None)?;
             return Ok(Passed { now: None, again });
         }
-        let again = self.held.keep(Some(message.clone()?))?;
+        let again = self.delayed.keep(Some(message.clone()?))?;
         Ok(Passed {
             now: Some(message),
             again,
@@ -70,6 +70,6 @@ impl Line {
     pub fn into_rest(self) -> VecDeque<Option<Message>>
         ensures { result.items ≡ self.copies }
     {
-        self.held.into_rest()
+        self.delayed.into_rest()
     }
 }

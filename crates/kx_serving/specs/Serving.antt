@@ -13,7 +13,7 @@ use Rattle.kx_published.specs.declared.publisher.Done.{Done}
 use Rattle.kx_publishing.specs.Publishing.{HasShown, WroteItself}
 
 -- a machine, and what was published of its log
-pub record Held (M : Type 0) : Type 0 where
+pub record UnderLock (M : Type 0) : Type 0 where
   pub machine : M
   pub published : Option Done
 

@@ -37,9 +37,9 @@ pub struct Desk<M: Logging, J: Naming, R: Wait + Drop> {
 }
 
 impl<M: Logging, J: Naming, R: Wait + Drop> Model for Desk<M, J, R> {
-    ghost use Rattle.kx_serving.specs.Serving.{Held};
+    ghost use Rattle.kx_serving.specs.Serving.{UnderLock};
 
-    ghost Value = { Held M };
+    ghost Value = { UnderLock M };
 
     ghost use Rattle.std.specs.Prelude.{◌≡◌};
     ghost use Rattle.kx_publishing.specs.Publishing.{partition_of};

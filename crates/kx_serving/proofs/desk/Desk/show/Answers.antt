@@ -1,5 +1,5 @@
 use Rattle.std.proofs.Common.{◌≡◌, Bool, Option, Some, rules, subst, sym}
-use Rattle.kx_serving.specs.Serving.{Held, Shows}
+use Rattle.kx_serving.specs.Serving.{UnderLock, Shows}
 use Rattle.kx_published.specs.declared.publisher.Done.{Done}
 use Rattle.kx_serving.proofs.Serving.{runs_prefix, runs_sent, runs_written, shows_told}
 use Rattle.kx_serving.proofs.desk.Desk.show.Goals as goal
@@ -36,7 +36,7 @@ returns-clause-shows g c =
     let told = shows_told c.publish-publisher.result.1 (log old.machine) c.in-Some.publisher new
     c.publish-publisher.ensures.partition c.publish-publisher.ensures.published in
     let is : old.publisher ≡ Some c.in-Some.publisher = search rules in
-    subst (λ (h : Held g.row.M.Denot). Shows c.is_ok.result (log h.machine) h.published (Some new))
+    subst (λ (h : UnderLock g.row.M.Denot). Shows c.is_ok.result (log h.machine) h.published (Some new))
     c.self.view_is
     (subst (λ (o : Option Done). Shows c.is_ok.result (log old.machine) o (Some new)) (sym is)
     (subst (λ (b : Bool). Shows b (log old.machine) (Some c.in-Some.publisher) (Some new))

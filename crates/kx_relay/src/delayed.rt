@@ -1,6 +1,6 @@
 //! The copies of frames that go out later.
 ghost use Rattle.std.specs.Prelude.{◌≡◌, ◌++◌, ◌∷◌, [], MatchResult};
-ghost use Rattle.kx_relay.specs.Line.{due_of, held_after};
+ghost use Rattle.kx_relay.specs.Line.{due_of, delayed_after};
 
 use crate::share::Holding;
 use kx_message::Message;
@@ -11,12 +11,12 @@ use std::marker::Model;
 /// The copies of the last frames, in order: of each its copy, or none of one that was lost. A copy
 /// goes out when so many further frames have gone as are held.
 #[derive(Drop)]
-pub struct Held {
+pub struct Delayed {
     holding: Holding,
     copies: VecDeque<Option<Message>>,
 }
 
-impl Model for Held {
+impl Model for Delayed {
     ghost use Rattle.std.specs.Prelude.{◌≤◌, length};
     ghost use Rattle.kx_relay.specs.Line.{Holds};
 
@@ -27,12 +27,12 @@ impl Model for Held {
     ghost invariant = { λ h. length h.copies.items ≤ h.holding };
 }
 
-impl Held {
+impl Delayed {
     /// No copy.
-    pub fn new(alloc: Global, holding: Holding) -> Held
+    pub fn new(alloc: Global, holding: Holding) -> Delayed
         ensures { result ≡ record { holding = holding; copies = [] } }
     {
-        Held {
+        Delayed {
             holding,
             copies: VecDeque::new(alloc),
         }
@@ -45,7 +45,7 @@ impl Held {
     /// Only for want of memory; then nothing is changed, and the copy is lost.
     pub fn keep(&mut self, copy: Option<Message>) -> Result<Option<Message>, AllocError>
         ensures { MatchResult result
-            (λ due. (due ≡ due_of self.old copy) × (self.new ≡ held_after self.old copy))
+            (λ due. (due ≡ due_of self.old copy) × (self.new ≡ delayed_after self.old copy))
             (λ refused. self.new ≡ self.old) }
     {
         self.copies.push_back(copy)?;
