@@ -68,8 +68,8 @@ fn played<
     Ok(told)
 }
 
-/// Plays the demonstration that the line NAME.demo asks for, which has to print NAME.out, and prints
-/// `ok NAME` or `FAILED NAME`.
+/// Plays the demonstration that the line NAME.demo asks for, which has to print NAME.out, and
+/// prints `ok NAME` or `FAILED NAME`.
 pub fn try_demo<
     R: Net<Listener = TcpListener, Stream = TcpStream>
         + Files<File = File>

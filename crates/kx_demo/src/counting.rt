@@ -97,8 +97,8 @@ fn count_doubles(alloc: Global, values: Vec<&[u8]>) -> Result<usize, AllocError>
     Ok(all - known.len())
 }
 
-/// Counts what the run has: what is committed in partitions 0 and 1, the inputs, and in 2 and 3, the
-/// outputs.
+/// Counts what the run has: what is committed in partitions 0 and 1, the inputs, and in 2 and 3,
+/// the outputs.
 ///
 /// # Errors
 ///

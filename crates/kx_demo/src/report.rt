@@ -103,8 +103,8 @@ fn judge<W: Write, P: Write>(
 }
 
 /// Plays the demonstration, audits it, and prints what the audited run has: `inputs`, `outputs` and
-/// `doubles`, each with its count, and `audit yes`; or else `audit no` and the number of the audit's
-/// fault, or `gave up`. Says whether the audit said yes. What happened is written into
+/// `doubles`, each with its count, and `audit yes`; or else `audit no` and the number of the
+/// audit's fault, or `gave up`. Says whether the audit said yes. What happened is written into
 /// `events`, if that is asked for.
 ///
 /// # Errors

@@ -99,8 +99,8 @@ impl Client {
         Ok(())
     }
 
-    /// Looks for the next frame, and takes it in. A client that waits for an answer sends again what
-    /// is unanswered where none came for long.
+    /// Looks for the next frame, and takes it in. A client that waits for an answer sends again
+    /// what is unanswered where none came for long.
     pub(crate) fn look<R: Wait>(
         &mut self,
         rt: &R,

@@ -4,11 +4,11 @@
 //! dropped in the middle. All nodes, the clients among them, stand under locks and keep their
 //! traces; when all threads have ended, the traces and the receipts of all steps are given.
 //!
-//! `options` and `fault` are what is asked for and what may fail. `nodes` makes the nodes, `serving`
-//! has those of the core behind their connections, `connections` the threads of these, and `wires`
-//! opens them. `client` is a client before its end of a connection, `producers` and `members` are
-//! what the clients do, `clients` all of them in turn. `setup` makes all of these, and `playing`
-//! goes from the first connection to the last thread.
+//! `options` and `fault` are what is asked for and what may fail. `nodes` makes the nodes,
+//! `serving` has those of the core behind their connections, `wires` opens these, and
+//! `connections` has their threads. `client` is a client before its end of a connection, `producers`
+//! and `members` are what the clients do, and `clients` all of them in turn. `setup` makes all of
+//! these, and `playing` goes from the first connection to the last thread.
 #![tactic(auto)]
 
 mod client;

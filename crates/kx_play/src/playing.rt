@@ -56,8 +56,8 @@ fn join_clients<R: Threads + Wait>(
     playing?.join(rt)
 }
 
-// Serves the clients, which have a thread of their own, until all have closed. Gives the receipts of
-// all steps.
+// Serves the clients, which have a thread of their own, until all have closed. Gives the receipts
+// of all steps.
 fn serve<R: Threads + Wait + Clock + Copy + Send + Sync + Drop + 'static>(
     rt: R,
     clients: Clients,

@@ -1,5 +1,5 @@
-//! The nodes of the core behind their connections: what comes over any of them is handed to workers,
-//! and what a step hands out to a client goes out over the client's own.
+//! The nodes of the core behind their connections: what comes over any of them is handed to
+//! workers, and what a step hands out to a client goes out over the client's own.
 use crate::nodes::{PlayMaking, PlayNode};
 use crossbeam_channel::{Receiver, Sender};
 use kx_cluster::AnyMachine;
