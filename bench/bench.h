@@ -48,8 +48,12 @@ void bench_growth(void);
 void bench_pages(void);
 
 /* pages.c: makes a log of so many transactions in plain C, as kx_bench_pages does, and reads so many
- * committed pages of it: how many records they have. */
+ * committed pages of it: how many records they have. As the library does; by an index with the place
+ * of each batch; so, but with two bytes of each batch of a page read first; and with prefetches. */
 int64_t pages_in_c(uint64_t transactions, uint64_t pages);
+int64_t pages_by_places(uint64_t transactions, uint64_t pages);
+int64_t pages_touched(uint64_t transactions, uint64_t pages);
+int64_t pages_prefetched(uint64_t transactions, uint64_t pages);
 
 /* serve.c: a stream of frames, through the server of a partition. */
 void bench_serve(void);
