@@ -1,2 +1,3 @@
 pub mod Doubling
+pub mod Endings
 pub mod WholePage

@@ -2,7 +2,6 @@
 ghost use Rattle.std.specs.Prelude.{◌≡◌};
 ghost use Rattle.kx_demo.specs.Faults.{fault_number};
 
-use kx_play::PlayFault;
 use std::alloc::AllocError;
 use thiserror::Error;
 
@@ -47,20 +46,5 @@ impl From<AllocError> for DemoFault {
 
     fn from(_: AllocError) -> Self {
         DemoFault::Memory
-    }
-}
-
-/// What playing came to no end for.
-impl From<PlayFault> for DemoFault {
-    ghost use Rattle.kx_demo.specs.Faults.{play_fault};
-
-    ghost from_gives = { λ why fault. fault ≡ play_fault why };
-
-    fn from(fault: PlayFault) -> Self {
-        match fault {
-            PlayFault::Net => DemoFault::Net,
-            PlayFault::Memory => DemoFault::Memory,
-            PlayFault::GaveUp => DemoFault::GaveUp,
-        }
     }
 }

@@ -133,6 +133,7 @@ pub fn demo<
             write_text(out, "gave up\n")?;
             Err(DemoFault::GaveUp)
         }
-        Err(fault) => Err(fault.into()),
+        Err(PlayFault::Net) => Err(DemoFault::Net),
+        Err(PlayFault::Memory) => Err(DemoFault::Memory),
     }
 }

@@ -12,8 +12,8 @@ returns-in-Ok c =
     IfOk-weaker c.values_of.result
     (λ values. texts values.items ≡ map value_of (committed_of c.in-Ok.page))
     (λ values. AreCommitted (any_state images_of) c.args.run.now c.args.number
-        (texts values.items))
+    (texts values.items))
     (λ values are. IsThere c.in-Some.server.now c.in-Some.ensures.some
-        (are ∙ gets_whole c.partition.result.now.batches c.in-Ok.page c.in-Ok.ensures.answer
-        ∙ ap (λ log. committed_in log.batches) c.partition.ensures.value))
+    (are ∙ gets_whole c.partition.result.now.batches c.in-Ok.page c.in-Ok.ensures.answer
+    ∙ ap (λ log. committed_in log.batches) c.partition.ensures.value))
     c.values_of.ensures
