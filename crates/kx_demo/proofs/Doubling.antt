@@ -1,5 +1,5 @@
 -- The values of a page one by one, and how many of them stood before.
-use Rattle.std.proofs.Common.{◌≡◌, ◌∙◌, ◌+◌, ◌-◌, ◌≤◌, ◌++◌, ◌||◌, ℕ, ℤ, Bool, true, false, List, []}
+use Rattle.std.proofs.Common.{◌≡◌, ◌∙◌, ◌+◌, ◌≤◌, ◌++◌, ◌||◌, ℕ, ℤ, Bool, true, false, List, []}
 use Rattle.std.proofs.Common.{◌∷◌, if◌then◌else◌, map, not, cond, length, refl, sym, ap, arith}
 use Rattle.std.specs.Borrow.{Bor}
 use Rattle.std.specs.Prelude.{unwrap_or}
@@ -8,7 +8,7 @@ use Rattle.std.proofs.lemmas.List.{append_assoc, append-nil, map-append}
 use Rattle.kx_batch.specs.Record.{Record}
 use Rattle.kx_model.specs.Reading.{Shown}
 use Rattle.kx_reader.specs.Pairs.{pairs}
-use Rattle.kx_demo.specs.Counting.{doubles, firsts, is_among, texts, value_of}
+use Rattle.kx_demo.specs.Counting.{firsts, is_among, texts, value_of}
 
 ------ a set of values
 

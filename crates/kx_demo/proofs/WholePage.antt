@@ -1,5 +1,5 @@
 -- The page of a whole log, as a reader of committed records has it.
-use Rattle.std.proofs.Common.{◌≡◌, ℕ, Bool, true, false, cond, List, map, Ok, Err, pos, ap}
+use Rattle.std.proofs.Common.{◌≡◌, Bool, true, false, cond, List, map, Ok, Err, pos, ap}
 use Rattle.std.specs.Prelude.{nat_lt}
 use Rattle.kx_message.specs.declared.code.ErrorCode.TheVariants.{OffsetOutOfRange}
 use Rattle.kx_model.specs.Log.{Stored, end, entries}

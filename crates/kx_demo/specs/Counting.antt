@@ -5,7 +5,6 @@ use Rattle.std.specs.Borrow.{Bor}
 use Rattle.std.specs.List.{list_any}
 use Rattle.std.specs.Str.{bytes_eq}
 use Rattle.kx_audit.specs.Run.{Ran}
-use Rattle.kx_batch.specs.Record.{Record}
 use Rattle.kx_broker.specs.Serving.{Serving}
 use Rattle.kx_cluster.specs.declared.machine.AnyMachine.{AnyMachine}
 use Rattle.kx_cluster.specs.declared.machine.AnyMachine.TheVariants as any

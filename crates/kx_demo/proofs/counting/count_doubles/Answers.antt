@@ -1,7 +1,6 @@
-use Rattle.std.proofs.Common.{List, [], ◌∙◌, ap, arith, rules, sym}
+use Rattle.std.proofs.Common.{[], ◌∙◌, ap, arith, rules, sym}
 use Rattle.std.proofs.lemmas.List.{length-map, nil_from_length}
-use Rattle.std.specs.Borrow.{Bor}
-use Rattle.std.specs.HashSet.{contains, contains_by, hash_set_len}
+use Rattle.std.specs.HashSet.{contains, hash_set_len}
 use Rattle.std.specs.List.{list_any}
 use Rattle.kx_demo.specs.Counting.{texts}
 use Rattle.kx_demo.proofs.Doubling.{all_known, firsts_within, knows_none, one_more}

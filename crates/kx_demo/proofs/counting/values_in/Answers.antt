@@ -1,4 +1,4 @@
-use Rattle.std.proofs.Common.{◌≡◌, ◌∙◌, map, ap, rules}
+use Rattle.std.proofs.Common.{◌≡◌, ◌∙◌, map, ap}
 use Rattle.std.proofs.lemmas.Result.{IfOk-weaker}
 use Rattle.kx_cluster.specs.Any.{any_state}
 use Rattle.kx_demo.specs.Counting.{AreCommitted, IsThere, committed_in, texts, value_of}

@@ -1,4 +1,4 @@
-use Rattle.std.proofs.Common.{◌∙◌, map, rules}
+use Rattle.std.proofs.Common.{◌∙◌, map}
 use Rattle.kx_model.specs.Reading.{committed_of}
 use Rattle.kx_reader.specs.Pairs.{pairs}
 use Rattle.kx_demo.specs.Counting.{value_of}

@@ -1,4 +1,4 @@
-use Rattle.std.proofs.Common.{◌≡◌, ◌∙◌, ap, subst, Err, codes}
+use Rattle.std.proofs.Common.{◌∙◌, ap, subst, Err, codes}
 use Rattle.std.proofs.lemmas.Result.{err_from_is_err_and}
 use Rattle.std.specs.Io.KnownBytes.{Appends}
 use Rattle.kx_audit.specs.Replayed.{trails_of}
