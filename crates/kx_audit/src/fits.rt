@@ -15,6 +15,7 @@ use kx_processor::Process;
 fn partition_fits(partition: PartitionId)
     ensures { IsPartition partition }
 {
+    // The call ensures that the number is in its range.
     let _partition = partition.get();
 }
 
@@ -44,6 +45,7 @@ pub(crate) fn processor_fits<P: Process>(making: &ProcessorMaking<P>)
     ensures { IsNodeMaking (processor_making P.image_of making.now) }
 {
     client_making_fits(making.number, making.txn, making.timeout);
+    // These calls ensure that the name and the number are in their ranges.
     let _group = making.group.as_bytes();
     let _inputs = making.inputs.get();
 }

@@ -237,6 +237,7 @@ impl Waiting {
     pub(crate) fn windows_hold(&self)
         ensures { (p : ℕ) → count_by (carries_to p) self.now.messages ≤ window }
     {
+        // They count each partition's unanswered batches, and none is above the limit.
         let _windows = &self.windows;
     }
 

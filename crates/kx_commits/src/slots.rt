@@ -83,6 +83,7 @@ impl Slots {
         }
         let mut slot = Slot::new();
         slot.wait();
+        // No slot stood there, so none is let go.
         let _ = self.by_key.insert(key, slot).unwrap();
     }
 

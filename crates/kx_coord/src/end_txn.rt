@@ -1,5 +1,5 @@
 //! A client ends its transaction (KIP-98, "EndTxnRequest"; KIP-890).
-ghost use Rattle.std.specs.Prelude.{◌≡◌, IfOk, List, Some};
+ghost use Rattle.std.specs.Prelude.{◌≡◌, ◌==◌, ◌+◌, IfOk, List, Some};
 ghost use Rattle.kx_model.specs.Coordinator as coordinator;
 ghost use Rattle.kx_model.specs.Coordinator.{ByEnd, Note, Ongoing};
 ghost use Rattle.kx_model.specs.Requests as model;
@@ -24,13 +24,19 @@ fn has_outcome(outcome: Outcome, state: State) -> bool
     }
 }
 
+// Whether an epoch is the one above another.
+fn is_above(epoch: Epoch, other: Epoch) -> bool
+    ensures { result ≡ (epoch == other + 1) }
+{
+    other.raised() == Some(epoch)
+}
+
 // Whether the row ends the transaction of this id and epoch: it stands one epoch higher, or, after
 // the last epoch, at the id that took the place of this one.
 fn ends(row: &Row, held: &Held) -> bool
     ensures { result ≡ coordinator.ends held.now.id held.now.epoch (row_of row.now) }
 {
-    let own = row.epoch.get();
-    let is_raised = row.id == held.id && own > 0 && own - 1 == held.epoch.get();
+    let is_raised = row.id == held.id && is_above(row.epoch, held.epoch);
     let is_previous = is(row.previous, held.id);
     match row.state {
         State::Empty | State::Ongoing => false,

@@ -8,8 +8,8 @@ use thiserror::Error;
 /// Why a coordinator isn't restarted.
 #[derive(Clone, Copy, Debug, PartialEq, Eq, Drop, Error)]
 pub enum RestartFault {
-    /// Its log isn't opened again, for this fault. [`OpenFault::Device`] says that the device failed
-    /// as the log was read.
+    /// Its log isn't opened again, for this fault. [`OpenFault::Device`] says that the device
+    /// failed as the log was read.
     #[error("the log isn't opened: {0}")]
     Unopened(OpenFault),
     /// The log was read, but the device failed as the new coordinator epoch was written. The

@@ -116,6 +116,7 @@ impl NotedMarkers {
     pub(crate) fn forget(&mut self, txn: TxnId)
         ensures { SameAnswered self.new (filter (λ a. not (bytes_eq a.txn txn)) self.old) }
     {
+        // The answers noted of it are let go, if there were any: its row is complete.
         let _ = self.by_txn.swap_remove(&txn);
     }
 

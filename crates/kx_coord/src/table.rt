@@ -116,6 +116,7 @@ impl Table {
             Entry::Allot(_) => {}
             Entry::Row(row) => {
                 let txn = row.txn;
+                // The id's row before this one is let go, if it had one: the last one counts.
                 let _ = self.rows.insert(txn, row).unwrap();
             }
         }

@@ -1,5 +1,5 @@
-//! That groups are as before when their log is read again, that what is kept of them follows it, and
-//! that offsets whose transaction is yet to be verified begin at sequence 0.
+//! That groups are as before when their log is read again, that what is kept of them follows it,
+//! and that offsets whose transaction is yet to be verified begin at sequence 0.
 ghost use Rattle.std.specs.Prelude.{◌≡◌, ◌++◌, ◌∷◌, [], ℕ, ℤ, pos, Bool, true, false, List};
 ghost use Rattle.std.specs.Prelude.{Some};
 ghost use Rattle.std.specs.List.{AllByRecursion};

@@ -45,6 +45,7 @@ fn offset_fits(offset: i64)
 fn committed_fits(committed: PartitionOffset)
     ensures { IsOffset committed }
 {
+    // The call ensures that the number is in its range.
     let _partition = committed.partition.get();
     offset_fits(committed.offset);
 }
@@ -69,10 +70,12 @@ fn command_fits(command: &Command)
 {
     match command {
         Command::Send(partition, values) => {
+            // The call ensures that the number is in its range.
             let _partition = partition.get();
             values_fit(values);
         }
         Command::Join(group) => {
+            // The call ensures that the bytes are a name.
             let _group = group.as_bytes();
         }
         Command::Offsets(offsets) => offsets_fit(offsets.as_slice()),
@@ -93,6 +96,7 @@ pub fn input_fits(input: &Input)
     match input {
         Input::Command(command) => command_fits(command),
         Input::Drop(group, member) => {
+            // The call ensures that the bytes are a name.
             let _group = group.as_bytes();
             client_fits(*member);
         }
@@ -108,8 +112,10 @@ pub fn client_making_fits(client: ClientId, txn: Option<TxnId>, timeout: Timeout
     ensures { model.IsEvent (model.Make client txn timeout) }
 {
     client_fits(client);
+    // The call ensures that the timeout is in its range.
     let _timeout = timeout.get();
     if let Some(txn) = txn {
+        // The call ensures that the bytes are a name.
         let _txn = txn.as_bytes();
     }
 }

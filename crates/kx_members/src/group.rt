@@ -150,6 +150,7 @@ impl Group {
     {
         self.generation += 1;
         self.members.retain(|other| *other != member);
+        // Whether it is new among them is let go: it is, as `here` says.
         let _ = self.gone.insert(member).unwrap();
     }
 }

@@ -113,7 +113,8 @@ impl Clone for Offsets {
 
 /// Whether both are the same list.
 impl PartialEq for Offsets {
-    ghost eq = { pointwise (eq_of_both (on (λ o. o.partition) nat_eq) (on (λ o. o.offset) int_eq)) };
+    ghost eq = { pointwise
+        (eq_of_both (on (λ o. o.partition) nat_eq) (on (λ o. o.offset) int_eq)) };
 
     ghost laws = { Prim.search (comparing, rules) };
 

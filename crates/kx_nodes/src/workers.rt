@@ -76,6 +76,7 @@ impl<
         if workers.add_all(receivers) {
             return Ok(workers);
         }
+        // The threads that were started were handed nothing, so they have no receipts.
         let _ = workers.end();
         Err(AllocError)
     }

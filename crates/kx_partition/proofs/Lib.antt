@@ -9,6 +9,7 @@ pub mod Noting
 pub mod Reading
 pub mod Rebuilding
 pub mod Sending
+pub mod Room
 pub mod Producing
 pub mod Marking
 pub mod MarkerHere

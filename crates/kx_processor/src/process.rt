@@ -22,5 +22,6 @@ pub trait Process: Drop {
         ensures { IfOk result (λ image. image.items ≡ image_of self.now of.now) };
 
     // every record has an image of bytes
-    ghost are_bytes: { (process : Self) (record_of : Record) → IsBytes (image_of process record_of) };
+    ghost are_bytes: { (process : Self) (record_of : Record)
+        → IsBytes (image_of process record_of) };
 }

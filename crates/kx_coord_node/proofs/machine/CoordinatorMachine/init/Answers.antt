@@ -15,8 +15,8 @@ returns g c =
     let holds = subst IsHeld (sym c.self.view_is) c.is_closed-was_closed.ensures.holds in
     let was = c.is_closed-was_closed.ensures.value
     ∙ ap (λ (s : CoordinatorState). s.log.closed) (sym c.self.view_is) in
-    subst
-    (λ (s : CoordinatorState). Takes (Comes (msg.InitProducerId c.args.request)) s new c.answer.result)
+    subst (λ (s : CoordinatorState).
+    Takes (Comes (msg.InitProducerId c.args.request)) s new c.answer.result)
     c.self.view_is (takes_init old new c.args.request handed c.answer.result holds
     c.in_ok-messages.ensures.ok
     (answered_so old new handed c.is_closed-was_closed.result c.answer.result c.answer.ensures was))

@@ -4,8 +4,6 @@ use Rattle.kx_processor.specs.declared.owned.Owned.{Owned}
 use Rattle.kx_processor.proofs.Lefts as left
 use Rattle.kx_system.specs.Processor.{owns}
 use Rattle.kx_processor.proofs.owned.Owned.next.Goals as goal
-use Rattle.kx_processor.proofs.owned.Owned.next.Goals.{else-self-ne0-via-else-self-ne0}
-use Rattle.kx_processor.proofs.owned.Owned.next.Goals.{else-self-ne0-via-then-self-ne0+else-from-self}
 
 abbrev behind : Owned → Owned
 behind o = record o { from = o.from + 1 }
@@ -31,9 +29,10 @@ loop-self-preserved c =
     c.loop-self.invariant
     ∙ left.passed (owns o.number o.count) o.from o.inputs below
     (elim c.else-self-ne0.branch [
-      | else-self-ne0-via-then-self-ne0+else-from-self w ↦ left.anothers o.number o.count o.from
+      | goal.else-self-ne0-via-then-self-ne0+else-from-self w ↦
+          left.anothers o.number o.count o.from
           (λ is. w.if-from-self.false (ap (λ n. n % o.count) w.from.ensures ∙ is))
-      | else-self-ne0-via-else-self-ne0 w ↦
+      | goal.else-self-ne0-via-else-self-ne0 w ↦
           subst (λ n. owns o.number n o.from ≡ false) (sym w.if-self-ne0.false)
           (left.nobodys o.number o.from)
     ])
