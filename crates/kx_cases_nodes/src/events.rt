@@ -179,19 +179,23 @@ fn committed(world: &Local, words: &[&str]) -> Result<(ErrorCode, i64), StepFaul
     Ok(world.committed_offset(group, number, *how == "stable"))
 }
 
-// Tells what a reader of the world tells that is a number.
-fn read_number(told: &mut String, world: &Local, words: &[&str]) -> Result<(), StepFault> {
+fn tell_number(told: &mut String, number: u64) -> Result<(), AllocError> {
+    write!(told, "{number}")
+}
+
+fn tell_flag(told: &mut String, flag: bool) -> Result<(), AllocError> {
+    told.push_str(if flag { "true" } else { "false" })
+}
+
+// Tells what a reader of the world tells of its size.
+fn read_size(told: &mut String, world: &Local, words: &[&str]) -> Result<(), StepFault> {
     let done = match words {
-        ["clock"] => write!(told, "{}", world.clock()),
-        ["partitions"] => write!(told, "{}", world.partitions()),
+        ["clock"] => tell_number(told, world.clock()),
+        ["partitions"] => tell_number(told, world.partitions() as u64),
         ["has_partition", number] => {
-            let is_there = world.partition(partition(number)?).is_some();
-            write!(told, "{is_there}")
+            tell_flag(told, world.partition(partition(number)?).is_some())
         }
-        ["has_client", number] => {
-            let is_there = world.client(client(number)?).is_some();
-            write!(told, "{is_there}")
-        }
+        ["has_client", number] => tell_flag(told, world.client(client(number)?).is_some()),
         _ => return Err(StepFault::Unknown),
     };
     done.map_err(StepFault::Memory)
@@ -205,7 +209,7 @@ fn read(alloc: Global, told: &mut String, world: &Local, words: &[&str]) -> Resu
         ["group", group] => tell_members(told, world, value(group)?),
         ["committed", given @ ..] => tell_committed(told, committed(world, given)?),
         ["rows"] => tell_rows(alloc, told, world.rows()),
-        _ => return read_number(told, world, words),
+        _ => return read_size(told, world, words),
     };
     done.map_err(StepFault::Memory)
 }
@@ -233,12 +237,17 @@ fn tell_each(
     or_dash(told)
 }
 
+// A world of so many partitions.
+fn world_of(alloc: Global, count: &str) -> Result<Local, StepFault> {
+    let Some(partitions) = PartitionCount::new(value(count)?) else {
+        return Err(StepFault::Unknown);
+    };
+    LocalWorld::new(alloc, Config { partitions }).map_err(StepFault::Memory)
+}
+
 impl WorldEvents {
     fn start(&mut self, count: &str) -> Result<String, StepFault> {
-        let Some(partitions) = PartitionCount::new(value(count)?) else {
-            return Err(StepFault::Unknown);
-        };
-        self.world = Some(LocalWorld::new(self.alloc, Config { partitions })?);
+        self.world = Some(world_of(self.alloc, count)?);
         nothing(self.alloc)
     }
 

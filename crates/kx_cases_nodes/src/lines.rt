@@ -4,10 +4,9 @@ use std::str;
 
 // Tells a text with another end of each line.
 fn tell_lines(told: &mut String, text: &str, end: char, new: &str) -> Result<(), AllocError> {
-    let mut parted = "";
-    for part in text.split(end) {
+    for (at, part) in text.split(end).enumerate() {
+        let parted = if at == 0 { "" } else { new };
         write!(told, "{parted}{part}")?;
-        parted = new;
     }
     Ok(())
 }

@@ -35,10 +35,9 @@ fn tell_numbers(told: &mut String, page: &FetchPage<'_>) -> Result<(), AllocErro
 
 // Tells the base offsets of the page's batches, or `-` for none.
 fn tell_bases(told: &mut String, page: &FetchPage<'_>) -> Result<(), AllocError> {
-    let mut parted = "";
-    for batch in page.batches() {
+    for (at, batch) in page.batches().enumerate() {
+        let parted = if at == 0 { "" } else { " " };
         write!(told, "{parted}{}", batch.base_offset())?;
-        parted = " ";
     }
     or_dash(told)
 }
@@ -59,10 +58,9 @@ fn tell_record(
 
 // Tells the records that a reader of committed records gets of the page, or `-` for none.
 fn tell_records(alloc: Global, told: &mut String, page: FetchPage<'_>) -> Result<(), AllocError> {
-    let mut parted = "";
-    for (offset, record) in Committed::new(alloc, page)? {
+    for (at, (offset, record)) in Committed::new(alloc, page)?.enumerate() {
+        let parted = if at == 0 { "" } else { "; " };
         tell_record(told, parted, offset, &record)?;
-        parted = "; ";
     }
     or_dash(told)
 }
