@@ -58,8 +58,8 @@ fn tell_record(
 
 // Tells the records that a reader of committed records gets of the page, or `-` for none.
 fn tell_records(alloc: Global, told: &mut String, page: FetchPage<'_>) -> Result<(), AllocError> {
-    for (at, (offset, record)) in Committed::new(alloc, page)?.enumerate() {
-        let parted = if at == 0 { "" } else { "; " };
+    for (offset, record) in Committed::new(alloc, page)? {
+        let parted = if told.is_empty() { "" } else { "; " };
         tell_record(told, parted, offset, &record)?;
     }
     or_dash(told)
