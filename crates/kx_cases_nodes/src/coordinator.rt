@@ -10,6 +10,7 @@ use kx_message::{
 };
 use kx_txnlog::{Row, State};
 use std::alloc::{AllocError, Global};
+use std::mem;
 
 // How long a transaction may stay open, in milliseconds: a minute.
 const MINUTE: u32 = 60_000;
@@ -185,11 +186,11 @@ impl CoordinatorNode {
     fn open(&mut self, store: FaultStore<MemStore>) -> Result<String, StepFault> {
         match Coordinator::open(self.alloc, store, 0) {
             Ok((running, messages)) => {
-                self.running = Some(running);
+                drop(mem::replace(&mut self.running, Some(running)));
                 told_messages(self.alloc, messages.as_slice())
             }
             Err((fault, store)) => {
-                self.left = Some(store);
+                drop(mem::replace(&mut self.left, Some(store)));
                 told_name(self.alloc, fault)
             }
         }

@@ -13,6 +13,7 @@ use kx_message::{
 use kx_script::{Prefixed, write_rows};
 use kx_txnlog::Row;
 use std::alloc::{AllocError, Global};
+use std::mem;
 
 type Local = LocalWorld<Prefixed>;
 
@@ -247,7 +248,8 @@ fn world_of(alloc: Global, count: &str) -> Result<Local, StepFault> {
 
 impl WorldEvents {
     fn start(&mut self, count: &str) -> Result<String, StepFault> {
-        self.world = Some(world_of(self.alloc, count)?);
+        let world = world_of(self.alloc, count)?;
+        drop(mem::replace(&mut self.world, Some(world)));
         nothing(self.alloc)
     }
 

@@ -9,6 +9,7 @@ use kx_processor::{Inputs, Processor};
 use kx_script::Prefixed;
 use kx_wire::Frames;
 use std::alloc::Global;
+use std::mem;
 
 type Prefixing = Processor<Prefixed>;
 
@@ -27,10 +28,17 @@ fn told_sent(alloc: Global, sent: Result<Vec<Message>, ClientFault>) -> Result<S
     }
 }
 
+// The request that is handed out.
+fn told_last(alloc: Global, message: Message) -> Result<String, StepFault> {
+    let told = format!(in alloc; "{} {message}", message.receiver());
+    drop(message);
+    told.map_err(StepFault::Memory)
+}
+
 // The request that is handed out, or why it isn't.
 fn told_one(alloc: Global, sent: Result<Message, ClientFault>) -> Result<String, StepFault> {
     match sent {
-        Ok(message) => Ok(format!(in alloc; "{} {message}", message.receiver())?),
+        Ok(message) => told_last(alloc, message),
         Err(fault) => told_name(alloc, fault),
     }
 }
@@ -45,7 +53,9 @@ fn message_of(alloc: Global, bytes: &[u8]) -> Result<Message, StepFault> {
 
 // The processor takes a reply.
 fn taken(alloc: Global, processor: &mut Prefixing, reply: Message) -> Result<String, StepFault> {
-    processor.take(&reply)?;
+    let taken = processor.take(&reply);
+    drop(reply);
+    taken?;
     nothing(alloc)
 }
 
@@ -68,7 +78,8 @@ impl ImageCases {
         let inputs = known(Inputs::try_from(value::<u8>(inputs)?))?;
         let client = client_of(alloc, number, txn)?;
         let process = Prefixed::new(alloc);
-        self.processor = Some(Processor::new(alloc, client, group, inputs, process));
+        let processor = Processor::new(alloc, client, group, inputs, process);
+        drop(mem::replace(&mut self.processor, Some(processor)));
         nothing(alloc)
     }
 

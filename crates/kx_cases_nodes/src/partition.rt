@@ -6,6 +6,7 @@ use kx_cases::{Runs, StepFault, Subject, Texts, told_name, told_value, value};
 use kx_log::{FaultStore, MemStore};
 use kx_partition::{FetchPage, Partition};
 use std::alloc::Global;
+use std::mem;
 
 /// A partition, once it is open.
 #[derive(Drop)]
@@ -24,8 +25,10 @@ fn offsets(alloc: Global, kept: &Kept) -> Result<String, StepFault> {
 fn reload(alloc: Global, kept: &mut Kept) -> Result<String, StepFault> {
     match kept.reload() {
         Ok(content) => {
-            let before = kept.install(content).end();
-            Ok(format!(in alloc; "end {} before {before}", kept.end())?)
+            let before = kept.install(content);
+            let end = before.end();
+            drop(before);
+            Ok(format!(in alloc; "end {} before {end}", kept.end())?)
         }
         Err(fault) => told_name(alloc, fault),
     }
@@ -108,7 +111,11 @@ fn taken(
 // The end of the partition that a store with these bytes has.
 fn end_of(alloc: Global, bytes: Vec<u8>) -> Result<String, StepFault> {
     match Partition::rebuild(alloc, MemStore::new(bytes)) {
-        Ok(kept) => told_value(alloc, kept.end()),
+        Ok(kept) => {
+            let end = kept.end();
+            drop(kept);
+            told_value(alloc, end)
+        }
         Err((fault, _)) => told_name(alloc, fault),
     }
 }
@@ -134,7 +141,7 @@ impl PartitionNode {
         match Partition::rebuild(self.alloc, store) {
             Ok(kept) => {
                 let told = offsets(self.alloc, &kept);
-                self.kept = Some(kept);
+                drop(mem::replace(&mut self.kept, Some(kept)));
                 told
             }
             Err((fault, _)) => told_name(self.alloc, fault),

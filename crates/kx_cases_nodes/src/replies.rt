@@ -8,6 +8,7 @@ use kx_message::{
 };
 use kx_partition::FetchPage;
 use std::alloc::Global;
+use std::mem;
 
 /// The reply that came.
 #[derive(Drop)]
@@ -104,7 +105,7 @@ fn read(alloc: Global, reply: &Message, what: &str, from: &str) -> Result<String
 impl Replies {
     // This reply came.
     fn comes(&mut self, reply: Message) -> Result<String, StepFault> {
-        self.reply = Some(reply);
+        drop(mem::replace(&mut self.reply, Some(reply)));
         nothing(self.alloc)
     }
 }

@@ -80,8 +80,10 @@ fn write_from<N: World>(
 // A message comes to its node, where an append that fails leaves so many bytes. Whether one failed.
 fn fails<N: World>(world: &mut N, number: usize, to: Node, keep: u64) -> Result<bool, StepFault> {
     let store = StoreMode::Fails { keep };
-    let happened = world.happen(&Event::Deliver { number, to, store })?;
-    Ok(happened.failed)
+    let event = Event::Deliver { number, to, store };
+    let happened = world.happen(&event);
+    drop(event);
+    Ok(happened?.failed)
 }
 
 // A message comes to its node, which has to append something: that fails, and leaves so many bytes.
