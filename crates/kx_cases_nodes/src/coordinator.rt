@@ -1,6 +1,6 @@
 //! Steps of the coordinator on a store that is made to fail. A step is answered with the messages
 //! that are handed out, each as `RECEIVER TEXT`.
-use crate::parts::{Parts, nothing};
+use crate::parts::{nothing, or_dash, told_messages};
 use crate::words::{caller, code, held, partition, raised};
 use kx_cases::{StepFault, Subject, Texts, known, told_name, told_value, value};
 use kx_coord::{Coordinator, RestartFault};
@@ -9,7 +9,8 @@ use kx_message::{
     AddPartition, EndTxn, InitProducerId, MarkerReply, Message, Outcome, Timeout, TxnId,
 };
 use kx_txnlog::{Row, State};
-use std::alloc::Global;
+use std::alloc::{AllocError, Global};
+use std::mem;
 
 // How long a transaction may stay open, in milliseconds: a minute.
 const MINUTE: u32 = 60_000;
@@ -24,14 +25,6 @@ pub struct CoordinatorNode {
     left: Option<FaultStore<MemStore>>,
 }
 
-fn handed(alloc: Global, messages: &[Message]) -> Result<String, StepFault> {
-    let mut parts = Parts::new(alloc, "; ");
-    for message in messages {
-        parts.push(format!(in alloc; "{} {message}", message.receiver())?)?;
-    }
-    parts.finish()
-}
-
 fn state_number(state: State) -> u8 {
     match state {
         State::Empty => 0,
@@ -43,88 +36,100 @@ fn state_number(state: State) -> u8 {
     }
 }
 
-// A row as `TXN ID EPOCH STATE PARTITIONS`.
-fn row_text(alloc: Global, row: &Row) -> Result<String, StepFault> {
+// Tells a row as `TXN ID EPOCH STATE PARTITIONS`.
+fn tell_row(told: &mut String, row: &Row) -> Result<(), AllocError> {
     let state = state_number(row.state);
-    let mut parts = Parts::new(alloc, " ");
-    parts.push(format!(in alloc; "{} {} {} {state}", row.txn, row.id, row.epoch)?)?;
+    write!(told, "{} {} {} {state}", row.txn, row.id, row.epoch)?;
     for partition in row.partitions.as_slice() {
-        parts.push(format!(in alloc; "{partition}")?)?;
+        write!(told, " {partition}")?;
     }
-    parts.finish()
+    Ok(())
 }
 
-fn rows(alloc: Global, rows: &[Row]) -> Result<String, StepFault> {
-    let mut parts = Parts::new(alloc, "; ");
+// Tells rows, or `-` for none.
+fn tell_rows(told: &mut String, rows: &[Row]) -> Result<(), AllocError> {
+    let mut parted = "";
     for row in rows {
-        parts.push(row_text(alloc, row)?)?;
+        told.push_str(parted)?;
+        tell_row(told, row)?;
+        parted = "; ";
     }
-    parts.finish()
+    or_dash(told)
 }
 
-// Client asks for an id and an epoch.
-fn init(
-    alloc: Global,
-    running: &mut Running,
-    name: &str,
-    txn: Option<TxnId>,
-) -> Result<String, StepFault> {
-    let messages = running.init(InitProducerId {
-        caller: caller(name)?,
-        txn,
-        timeout: known(Timeout::try_from(MINUTE))?,
-    })?;
-    handed(alloc, messages.as_slice())
+fn told_rows(alloc: Global, rows: &[Row]) -> Result<String, StepFault> {
+    let mut told = String::new(alloc);
+    tell_rows(&mut told, rows)?;
+    Ok(told)
+}
+
+// What was handed out.
+fn handed(alloc: Global, sent: Result<Vec<Message>, AllocError>) -> Result<String, StepFault> {
+    told_messages(alloc, sent?.as_slice())
 }
 
 // The messages of an opening, or why there is none.
-fn restart(alloc: Global, running: &mut Running, now: u64) -> Result<String, StepFault> {
-    match running.restart(now) {
-        Ok(messages) => handed(alloc, messages.as_slice()),
+fn reopened(
+    alloc: Global,
+    opened: Result<Vec<Message>, RestartFault>,
+) -> Result<String, StepFault> {
+    match opened {
+        Ok(messages) => told_messages(alloc, messages.as_slice()),
         Err(RestartFault::Unopened(fault)) => told_name(alloc, fault),
         Err(RestartFault::Unwritten) => told_name(alloc, OpenFault::Device),
     }
 }
 
+// A client asks for an id and an epoch.
+fn init_of(by: &str, txn: Option<TxnId>) -> Result<InitProducerId, StepFault> {
+    Ok(InitProducerId {
+        caller: caller(by)?,
+        txn,
+        timeout: known(Timeout::try_from(MINUTE))?,
+    })
+}
+
+// The same, with a transactional id.
+fn init(by: &str, name: &str) -> Result<InitProducerId, StepFault> {
+    init_of(by, Some(value(name)?))
+}
+
 // A partition is added to a transaction.
-fn add(alloc: Global, running: &mut Running, words: &[&str]) -> Result<String, StepFault> {
+fn add(words: &[&str]) -> Result<AddPartition, StepFault> {
     let [by, name, id, epoch] = words else {
         return Err(StepFault::Unknown);
     };
-    let messages = running.add_partition(AddPartition {
+    Ok(AddPartition {
         txn: value(name)?,
         held: held(id, epoch)?,
         partition: partition(by)?,
-    })?;
-    handed(alloc, messages.as_slice())
+    })
 }
 
 // A client ends a transaction.
-fn end(alloc: Global, running: &mut Running, words: &[&str]) -> Result<String, StepFault> {
+fn end(words: &[&str]) -> Result<EndTxn, StepFault> {
     let [by, name, id, epoch, how] = words else {
         return Err(StepFault::Unknown);
     };
-    let messages = running.end_txn(EndTxn {
+    Ok(EndTxn {
         caller: caller(by)?,
         txn: value(name)?,
         held: held(id, epoch)?,
         outcome: value(how)?,
-    })?;
-    handed(alloc, messages.as_slice())
+    })
 }
 
 // A partition answers a marker.
-fn reply(alloc: Global, running: &mut Running, words: &[&str]) -> Result<String, StepFault> {
+fn reply(words: &[&str]) -> Result<MarkerReply, StepFault> {
     let [by, name, id, epoch, answer] = words else {
         return Err(StepFault::Unknown);
     };
-    let messages = running.marker_reply(MarkerReply {
+    Ok(MarkerReply {
         partition: partition(by)?,
         txn: value(name)?,
         held: raised(id, epoch)?,
         code: code(answer)?,
-    })?;
-    handed(alloc, messages.as_slice())
+    })
 }
 
 // What clients and partitions ask.
@@ -133,9 +138,9 @@ fn asked(alloc: Global, running: &mut Running, words: &[&str]) -> Result<String,
         return Err(StepFault::Unknown);
     };
     match *name {
-        "add" => add(alloc, running, given),
-        "end" => end(alloc, running, given),
-        "reply" => reply(alloc, running, given),
+        "add" => handed(alloc, running.add_partition(add(given)?)),
+        "end" => handed(alloc, running.end_txn(end(given)?)),
+        "reply" => handed(alloc, running.marker_reply(reply(given)?)),
         _ => Err(StepFault::Unknown),
     }
 }
@@ -143,12 +148,9 @@ fn asked(alloc: Global, running: &mut Running, words: &[&str]) -> Result<String,
 // What time brings.
 fn timed(alloc: Global, running: &mut Running, words: &[&str]) -> Result<String, StepFault> {
     match words {
-        ["expire", now] => {
-            let messages = running.expire(value(now)?)?;
-            handed(alloc, messages.as_slice())
-        }
-        ["remind"] => handed(alloc, running.remind()?.as_slice()),
-        ["restart", now] => restart(alloc, running, value(now)?),
+        ["expire", now] => handed(alloc, running.expire(value(now)?)),
+        ["remind"] => handed(alloc, running.remind()),
+        ["restart", now] => reopened(alloc, running.restart(value(now)?)),
         _ => asked(alloc, running, words),
     }
 }
@@ -156,9 +158,9 @@ fn timed(alloc: Global, running: &mut Running, words: &[&str]) -> Result<String,
 // Takes a step of a coordinator that is open.
 fn taken(alloc: Global, running: &mut Running, words: &[&str]) -> Result<String, StepFault> {
     match words {
-        ["init", by, name] => init(alloc, running, by, Some(value(name)?)),
-        ["init_alone", by] => init(alloc, running, by, None),
-        ["rows"] => rows(alloc, running.rows()),
+        ["init", by, name] => handed(alloc, running.init(init(by, name)?)),
+        ["init_alone", by] => handed(alloc, running.init(init_of(by, None)?)),
+        ["rows"] => told_rows(alloc, running.rows()),
         ["failures"] => told_value(alloc, running.failures()),
         ["append_fails", keep] => {
             running.arm(Some(value(keep)?));
@@ -172,19 +174,32 @@ fn taken(alloc: Global, running: &mut Running, words: &[&str]) -> Result<String,
     }
 }
 
+fn bytes_of(alloc: Global, store: &mut FaultStore<MemStore>) -> Result<String, StepFault> {
+    match store.load() {
+        Ok(bytes) => hex::encode(alloc, bytes.as_slice()).map_err(StepFault::Memory),
+        Err(_) => Err(StepFault::Unknown),
+    }
+}
+
 impl CoordinatorNode {
     // Opens what a store holds, at moment 0. A store that is refused is left.
     fn open(&mut self, store: FaultStore<MemStore>) -> Result<String, StepFault> {
         match Coordinator::open(self.alloc, store, 0) {
             Ok((running, messages)) => {
-                self.running = Some(running);
-                handed(self.alloc, messages.as_slice())
+                drop(mem::replace(&mut self.running, Some(running)));
+                told_messages(self.alloc, messages.as_slice())
             }
             Err((fault, store)) => {
-                self.left = Some(store);
+                drop(mem::replace(&mut self.left, Some(store)));
                 told_name(self.alloc, fault)
             }
         }
+    }
+
+    // Opens a store with these bytes, whose append of a number fails, if it isn't 0, and leaves so
+    // many bytes.
+    fn open_bytes(&mut self, bytes: Vec<u8>, nth: u64, keep: u64) -> Result<String, StepFault> {
+        self.open(FaultStore::new(MemStore::new(bytes), nth, keep))
     }
 
     // The bytes of the store that is left.
@@ -202,12 +217,13 @@ impl CoordinatorNode {
             None => Err(StepFault::Unknown),
         }
     }
-}
 
-fn bytes_of(alloc: Global, store: &mut FaultStore<MemStore>) -> Result<String, StepFault> {
-    match store.load() {
-        Ok(bytes) => Ok(hex::encode(alloc, bytes.as_slice())?),
-        Err(_) => Err(StepFault::Unknown),
+    // Takes a step of the coordinator, if it is open.
+    fn within(&mut self, words: &[&str]) -> Result<String, StepFault> {
+        match &mut self.running {
+            Some(running) => taken(self.alloc, running, words),
+            None => Err(StepFault::Unknown),
+        }
     }
 }
 
@@ -222,20 +238,14 @@ impl Subject for CoordinatorNode {
 
     fn answer(&mut self, texts: &Texts, words: &[&str]) -> Result<String, StepFault> {
         match words {
-            ["open", bytes] => {
-                let store = MemStore::new(texts.bytes(bytes)?);
-                self.open(FaultStore::new(store, 0, 0))
-            }
+            ["open", bytes] => self.open_bytes(texts.bytes(bytes)?, 0, 0),
             ["open_failing", bytes, keep] => {
-                let store = MemStore::new(texts.bytes(bytes)?);
-                self.open(FaultStore::new(store, 1, value(keep)?))
+                let keep = value(keep)?;
+                self.open_bytes(texts.bytes(bytes)?, 1, keep)
             }
             ["left"] => self.left_bytes(),
             ["open_left"] => self.open_left(),
-            _ => match &mut self.running {
-                Some(running) => taken(self.alloc, running, words),
-                None => Err(StepFault::Unknown),
-            },
+            _ => self.within(words),
         }
     }
 }

@@ -43,24 +43,37 @@ impl Dumps {
     }
 }
 
-// How a dump ends whose writer has room for so many bytes, from none on, and the front of what it
-// writes is written.
-fn full(alloc: Global, most: usize, bytes: &[u8]) -> Result<String, StepFault> {
+// How a dump ends whose writer has room for so many bytes, where the front of what it writes is
+// written.
+fn with_room(alloc: Global, room: usize, bytes: &[u8], whole: &[u8]) -> Result<String, StepFault> {
+    let mut writer = Taking {
+        taken: Vec::new(alloc),
+        room,
+    };
+    let ended = dump_batches(bytes, &mut writer);
+    ended_in_front(alloc, ended, writer.taken.as_slice(), whole)
+}
+
+// The same of no room, of room for one byte, and so on up to so many.
+fn full(
+    alloc: Global,
+    runs: &mut Runs,
+    most: usize,
+    bytes: &[u8],
+    whole: &[u8],
+) -> Result<(), StepFault> {
+    for room in 0..=most {
+        runs.push(room, with_room(alloc, room, bytes, whole)?)?;
+    }
+    Ok(())
+}
+
+fn told_full(alloc: Global, most: usize, bytes: &[u8]) -> Result<String, StepFault> {
     let mut whole = Vec::new(alloc);
     let _ended = dump_batches(bytes, &mut whole);
     let mut runs = Runs::new(alloc);
-    for room in 0..=most {
-        let mut writer = Taking {
-            taken: Vec::new(alloc),
-            room,
-        };
-        let ended = dump_batches(bytes, &mut writer);
-        runs.push(
-            room,
-            ended_in_front(alloc, ended, writer.taken.as_slice(), whole.as_slice())?,
-        )?;
-    }
-    Ok(runs.finish()?)
+    full(alloc, &mut runs, most, bytes, whole.as_slice())?;
+    runs.finish().map_err(StepFault::Memory)
 }
 
 impl Subject for Dumps {
@@ -78,7 +91,7 @@ impl Subject for Dumps {
             ["line"] => self.line(),
             ["full", most, bytes] => {
                 let most = value(most)?;
-                full(self.alloc, most, texts.bytes(bytes)?.as_slice())
+                told_full(self.alloc, most, texts.bytes(bytes)?.as_slice())
             }
             _ => Err(StepFault::Unknown),
         }

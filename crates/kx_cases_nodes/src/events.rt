@@ -1,18 +1,19 @@
 //! Events that happen in a world, and what its readers tell. What each step means stands at the
 //! head of `events.cases`.
-use crate::lines::on_one_line;
-use crate::parts::{Parts, nothing};
-use kx_cases::{
-    StepFault, Subject, Texts, known, told_done, told_name, told_option, told_value, value,
-};
+use crate::lines::tell_on_one_line;
+use crate::parts::{nothing, or_dash, tell_message};
+use crate::words::{client, partition};
+use kx_cases::{StepFault, Subject, Texts, known, value};
 use kx_client::{ValueList, Values};
-use kx_core::{Config, Event, LocalWorld, PartitionCount};
+use kx_core::{Config, Event, LocalWorld, PartitionCount, RunFault};
 use kx_machine::{Command, Input, StoreMode};
 use kx_message::{
-    Bytes, ClientId, GroupId, Node, Offsets, Outcome, PartitionId, PartitionOffset, Timeout, TxnId,
+    Bytes, ErrorCode, GroupId, Node, Offsets, Outcome, PartitionId, PartitionOffset, Timeout, TxnId,
 };
 use kx_script::{Prefixed, write_rows};
-use std::alloc::Global;
+use kx_txnlog::Row;
+use std::alloc::{AllocError, Global};
+use std::mem;
 
 type Local = LocalWorld<Prefixed>;
 
@@ -24,33 +25,41 @@ pub struct WorldEvents {
     events: Vec<Event<Prefixed>>,
 }
 
-fn partition(word: &str) -> Result<PartitionId, StepFault> {
-    known(PartitionId::try_from(value::<u16>(word)?))
-}
-
-fn client(word: &str) -> Result<ClientId, StepFault> {
-    Ok(ClientId::from(value::<u32>(word)?))
-}
-
 // A node, as scripts name it.
 fn node(word: &str) -> Result<Node, StepFault> {
-    if word == "co" {
-        return Ok(Node::Coordinator);
-    }
-    if word == "po" {
-        return Ok(Node::Partition(PartitionId::OFFSETS));
+    match word {
+        "co" => return Ok(Node::Coordinator),
+        "po" => return Ok(Node::Partition(PartitionId::OFFSETS)),
+        _ => {}
     }
     if let Some(number) = word.strip_prefix('p') {
-        return Ok(Node::Partition(partition(number)?));
+        return partition(number).map(Node::Partition);
     }
     match word.strip_prefix('c') {
-        Some(number) => Ok(Node::Client(client(number)?)),
+        Some(number) => client(number).map(Node::Client),
         None => Err(StepFault::Unknown),
     }
 }
 
-fn bytes(alloc: Global, word: &str) -> Result<Bytes, StepFault> {
-    Ok(Bytes::from_vec(Vec::from_slice(alloc, word.as_bytes())?))
+fn bytes(alloc: Global, word: &str) -> Result<Bytes, AllocError> {
+    Vec::from_slice(alloc, word.as_bytes()).map(Bytes::from_vec)
+}
+
+fn push_values(alloc: Global, values: &mut Vec<Bytes>, words: &[&str]) -> Result<(), AllocError> {
+    for word in words {
+        values.push(bytes(alloc, word)?)?;
+    }
+    Ok(())
+}
+
+// The words behind the first one as the other values of a batch.
+fn values_behind(alloc: Global, first: Bytes, words: &[&str]) -> Result<Values, AllocError> {
+    let mut more = Vec::new(alloc);
+    push_values(alloc, &mut more, words)?;
+    Ok(Values {
+        first,
+        more: ValueList::from_vec(more),
+    })
 }
 
 // The words as the values of a batch.
@@ -58,15 +67,7 @@ fn values(alloc: Global, words: &[&str]) -> Result<Values, StepFault> {
     let [first, more @ ..] = words else {
         return Err(StepFault::Unknown);
     };
-    let first = bytes(alloc, first)?;
-    let mut others = Vec::new(alloc);
-    for word in more {
-        others.push(bytes(alloc, word)?)?;
-    }
-    Ok(Values {
-        first,
-        more: ValueList::from_vec(others),
-    })
+    values_behind(alloc, bytes(alloc, first)?, more).map_err(StepFault::Memory)
 }
 
 // One offset of an input partition.
@@ -84,8 +85,8 @@ fn command(alloc: Global, words: &[&str]) -> Result<Command, StepFault> {
         ["init"] => Ok(Command::Init),
         ["begin"] => Ok(Command::Begin),
         ["send", to, given @ ..] => Ok(Command::Send(partition(to)?, values(alloc, given)?)),
-        ["join", group] => Ok(Command::Join(value(group)?)),
-        ["offset", of, at] => Ok(Command::Offsets(offsets(alloc, of, at)?)),
+        ["join", group] => value(group).map(Command::Join),
+        ["offset", of, at] => offsets(alloc, of, at).map(Command::Offsets),
         ["commit"] => Ok(Command::End(Outcome::Commit)),
         _ => Err(StepFault::Unknown),
     }
@@ -94,118 +95,191 @@ fn command(alloc: Global, words: &[&str]) -> Result<Command, StepFault> {
 // What a node is handed.
 fn input(alloc: Global, words: &[&str]) -> Result<Input, StepFault> {
     match words {
-        ["put", given @ ..] => Ok(Input::Put(values(alloc, given)?)),
-        ["expire", now] => Ok(Input::Expire(value(now)?)),
+        ["put", given @ ..] => values(alloc, given).map(Input::Put),
+        ["expire", now] => value(now).map(Input::Expire),
         ["remind"] => Ok(Input::Remind),
         ["drop", group, member] => Ok(Input::Drop(value(group)?, client(member)?)),
         ["restart"] => Ok(Input::Restart(0)),
-        _ => Ok(Input::Command(command(alloc, words)?)),
+        _ => command(alloc, words).map(Input::Command),
     }
 }
 
-// The event that the words of a step are, or None where they are another step.
-fn event(alloc: Global, words: &[&str]) -> Result<Option<Event<Prefixed>>, StepFault> {
-    let store = StoreMode::Works;
-    Ok(match words {
-        ["make", number, txn] => Some(Event::Make {
-            client: client(number)?,
-            txn: Some(value::<TxnId>(txn)?),
-            timeout: known(Timeout::try_from(60_000))?,
-        }),
-        ["deliver", number, to] => Some(Event::Deliver {
-            number: value(number)?,
-            to: node(to)?,
-            store,
-        }),
-        ["hand", to, given @ ..] => Some(Event::Hand {
-            to: node(to)?,
-            input: input(alloc, given)?,
-            store,
-        }),
-        _ => None,
+// A client is made.
+fn make(number: &str, txn: &str) -> Result<Event<Prefixed>, StepFault> {
+    Ok(Event::Make {
+        client: client(number)?,
+        txn: Some(value::<TxnId>(txn)?),
+        timeout: known(Timeout::try_from(60_000))?,
     })
 }
 
-// The messages that were handed out, from a number on, each as RECEIVER TEXT.
-fn told_sent(alloc: Global, world: &Local, first: usize) -> Result<String, StepFault> {
-    let mut parts = Parts::new(alloc, "; ");
+// A message comes to a node.
+fn deliver(number: &str, to: &str) -> Result<Event<Prefixed>, StepFault> {
+    Ok(Event::Deliver {
+        number: value(number)?,
+        to: node(to)?,
+        store: StoreMode::Works,
+    })
+}
+
+// A node is handed something else.
+fn hand(alloc: Global, to: &str, given: &[&str]) -> Result<Event<Prefixed>, StepFault> {
+    Ok(Event::Hand {
+        to: node(to)?,
+        input: input(alloc, given)?,
+        store: StoreMode::Works,
+    })
+}
+
+// Tells the messages that were handed out, from a number on, each as RECEIVER TEXT.
+fn tell_sent(told: &mut String, world: &Local, first: usize) -> Result<(), AllocError> {
+    let mut parted = "";
     for number in first..world.sent().len() {
         if let Some(message) = world.sent().get(number) {
-            parts.push(format!(in alloc; "{} {message}", message.receiver())?)?;
+            tell_message(told, parted, message)?;
+            parted = "; ";
         }
     }
-    parts.finish()
+    or_dash(told)
 }
 
-fn told_members(alloc: Global, world: &Local, group: GroupId) -> Result<String, StepFault> {
-    let mut parts = Parts::new(alloc, " ");
-    parts.push(format!(in alloc; "generation {}, members", world.generation(group))?)?;
+fn tell_members(told: &mut String, world: &Local, group: GroupId) -> Result<(), AllocError> {
+    write!(told, "generation {}, members", world.generation(group))?;
     for member in world.members(group) {
-        parts.push(told_value(alloc, *member)?)?;
+        write!(told, " {member}")?;
     }
-    parts.finish()
+    Ok(())
 }
 
-fn told_rows(alloc: Global, world: &Local) -> Result<String, StepFault> {
+fn tell_rows(alloc: Global, told: &mut String, rows: &[Row]) -> Result<(), AllocError> {
     let mut written = Vec::new(alloc);
-    known(write_rows(&mut written, world.rows()))?;
-    Ok(on_one_line(alloc, written.as_slice(), "")?)
-}
-
-// What a reader of the world tells.
-fn read(alloc: Global, world: &Local, words: &[&str]) -> Result<String, StepFault> {
-    match words {
-        ["sent", first] => told_sent(alloc, world, value(first)?),
-        ["lso", number] => told_option(alloc, world.last_stable_offset(partition(number)?)),
-        ["group", group] => told_members(alloc, world, value(group)?),
-        ["committed", group, number, how] => {
-            let number = partition(number)?;
-            let (code, offset) = world.committed_offset(value(group)?, number, *how == "stable");
-            Ok(format!(in alloc; "{code} {offset}")?)
-        }
-        ["rows"] => told_rows(alloc, world),
-        ["clock"] => told_value(alloc, world.clock()),
-        ["partitions"] => told_value(alloc, world.partitions()),
-        ["has_partition", number] => {
-            told_value(alloc, world.partition(partition(number)?).is_some())
-        }
-        ["has_client", number] => told_value(alloc, world.client(client(number)?).is_some()),
-        _ => Err(StepFault::Unknown),
+    match write_rows(&mut written, rows) {
+        Ok(()) => tell_on_one_line(told, written.as_slice()),
+        Err(_) => Err(AllocError),
     }
 }
 
-// The events happen, one by one; what each was answered.
-fn each(alloc: Global, world: &mut Local, events: &[Event<Prefixed>]) -> Result<String, StepFault> {
-    let mut parts = Parts::new(alloc, " ");
+fn tell_offset(told: &mut String, offset: Option<i64>) -> Result<(), AllocError> {
+    match offset {
+        Some(offset) => write!(told, "{offset}"),
+        None => told.push_str("none"),
+    }
+}
+
+fn tell_committed(told: &mut String, committed: (ErrorCode, i64)) -> Result<(), AllocError> {
+    let (code, offset) = committed;
+    write!(told, "{code} {offset}")
+}
+
+// A group's committed offset: `GROUP PARTITION HOW`.
+fn committed(world: &Local, words: &[&str]) -> Result<(ErrorCode, i64), StepFault> {
+    let [group, number, how] = words else {
+        return Err(StepFault::Unknown);
+    };
+    let (group, number) = (value(group)?, partition(number)?);
+    Ok(world.committed_offset(group, number, *how == "stable"))
+}
+
+fn tell_number(told: &mut String, number: u64) -> Result<(), AllocError> {
+    write!(told, "{number}")
+}
+
+fn tell_flag(told: &mut String, flag: bool) -> Result<(), AllocError> {
+    told.push_str(if flag { "true" } else { "false" })
+}
+
+// Tells what a reader of the world tells of its size.
+fn read_size(told: &mut String, world: &Local, words: &[&str]) -> Result<(), StepFault> {
+    let done = match words {
+        ["clock"] => tell_number(told, world.clock()),
+        ["partitions"] => tell_number(told, world.partitions() as u64),
+        ["has_partition", number] => {
+            tell_flag(told, world.partition(partition(number)?).is_some())
+        }
+        ["has_client", number] => tell_flag(told, world.client(client(number)?).is_some()),
+        _ => return Err(StepFault::Unknown),
+    };
+    done.map_err(StepFault::Memory)
+}
+
+// Tells what a reader of the world tells.
+fn read(alloc: Global, told: &mut String, world: &Local, words: &[&str]) -> Result<(), StepFault> {
+    let done = match words {
+        ["sent", first] => tell_sent(told, world, value(first)?),
+        ["lso", number] => tell_offset(told, world.last_stable_offset(partition(number)?)),
+        ["group", group] => tell_members(told, world, value(group)?),
+        ["committed", given @ ..] => tell_committed(told, committed(world, given)?),
+        ["rows"] => tell_rows(alloc, told, world.rows()),
+        _ => return read_size(told, world, words),
+    };
+    done.map_err(StepFault::Memory)
+}
+
+// Tells how events ended that happened all at once.
+fn tell_done(told: &mut String, done: Result<(), RunFault>) -> Result<(), AllocError> {
+    match done {
+        Ok(()) => told.push_str("ok"),
+        Err(fault) => write!(told, "{fault:?}"),
+    }
+}
+
+// The events happen, one by one. Tells what each was answered.
+fn tell_each(
+    told: &mut String,
+    world: &mut Local,
+    events: &[Event<Prefixed>],
+) -> Result<(), AllocError> {
+    let mut parted = "";
     for event in events {
         let note = world.step(event)?;
-        parts.push(told_name(alloc, note)?)?;
+        write!(told, "{parted}{note:?}")?;
+        parted = " ";
     }
-    parts.finish()
+    or_dash(told)
+}
+
+// A world of so many partitions.
+fn world_of(alloc: Global, count: &str) -> Result<Local, StepFault> {
+    let Some(partitions) = PartitionCount::new(value(count)?) else {
+        return Err(StepFault::Unknown);
+    };
+    LocalWorld::new(alloc, Config { partitions }).map_err(StepFault::Memory)
 }
 
 impl WorldEvents {
     fn start(&mut self, count: &str) -> Result<String, StepFault> {
-        let Some(partitions) = PartitionCount::new(value(count)?) else {
-            return Err(StepFault::Unknown);
-        };
-        self.world = Some(LocalWorld::new(self.alloc, Config { partitions })?);
+        let world = world_of(self.alloc, count)?;
+        drop(mem::replace(&mut self.world, Some(world)));
         nothing(self.alloc)
     }
 
-    // A step of a world that is made.
-    fn within(&mut self, words: &[&str]) -> Result<String, StepFault> {
-        let alloc = self.alloc;
+    // One more event is to happen, if its words are right.
+    fn await_event(
+        &mut self,
+        event: Result<Event<Prefixed>, StepFault>,
+    ) -> Result<String, StepFault> {
+        self.events.push(event?)?;
+        nothing(self.alloc)
+    }
+
+    // Tells a step of a world that is made.
+    fn tell(&mut self, told: &mut String, words: &[&str]) -> Result<(), StepFault> {
         let Some(world) = &mut self.world else {
             return Err(StepFault::Unknown);
         };
-        let told = match words {
-            ["run"] => told_done(alloc, world.run(self.events.as_slice())),
-            ["each"] => each(alloc, world, self.events.as_slice()),
-            _ => return read(alloc, world, words),
+        let done = match words {
+            ["run"] => tell_done(told, world.run(self.events.as_slice())),
+            ["each"] => tell_each(told, world, self.events.as_slice()),
+            _ => return read(self.alloc, told, world, words),
         };
         self.events.clear();
-        told
+        done.map_err(StepFault::Memory)
+    }
+
+    fn within(&mut self, words: &[&str]) -> Result<String, StepFault> {
+        let mut told = String::new(self.alloc);
+        self.tell(&mut told, words)?;
+        Ok(told)
     }
 }
 
@@ -219,15 +293,12 @@ impl Subject for WorldEvents {
     }
 
     fn answer(&mut self, _texts: &Texts, words: &[&str]) -> Result<String, StepFault> {
-        if let ["world", count] = words {
-            return self.start(count);
-        }
-        match event(self.alloc, words)? {
-            Some(event) => {
-                self.events.push(event)?;
-                nothing(self.alloc)
-            }
-            None => self.within(words),
+        match words {
+            ["world", count] => self.start(count),
+            ["make", number, txn] => self.await_event(make(number, txn)),
+            ["deliver", number, to] => self.await_event(deliver(number, to)),
+            ["hand", to, given @ ..] => self.await_event(hand(self.alloc, to, given)),
+            _ => self.within(words),
         }
     }
 }

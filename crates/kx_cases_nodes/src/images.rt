@@ -1,13 +1,15 @@
 //! A processor whose images may be too large for a batch. What each step means stands at the head
 //! of `images.cases`.
-use crate::parts::{Parts, nothing};
+use crate::parts::{nothing, told_messages};
+use crate::words::client;
 use kx_cases::{StepFault, Subject, Texts, known, told_name, value};
 use kx_client::{ClientFault, ProducerClient};
-use kx_message::{ClientId, GroupId, Message, Timeout, TxnId};
+use kx_message::{GroupId, Message, Timeout, TxnId};
 use kx_processor::{Inputs, Processor};
 use kx_script::Prefixed;
 use kx_wire::Frames;
 use std::alloc::Global;
+use std::mem;
 
 type Prefixing = Processor<Prefixed>;
 
@@ -18,48 +20,66 @@ pub struct ImageCases {
     processor: Option<Prefixing>,
 }
 
-// The requests that are handed out, each as RECEIVER TEXT, or why they aren't.
+// The requests that are handed out, or why they aren't.
 fn told_sent(alloc: Global, sent: Result<Vec<Message>, ClientFault>) -> Result<String, StepFault> {
-    let sent = match sent {
-        Ok(sent) => sent,
-        Err(fault) => return told_name(alloc, fault),
-    };
-    let mut parts = Parts::new(alloc, "; ");
-    for message in sent.iter() {
-        parts.push(format!(in alloc; "{} {message}", message.receiver())?)?;
+    match sent {
+        Ok(sent) => told_messages(alloc, sent.as_slice()),
+        Err(fault) => told_name(alloc, fault),
     }
-    parts.finish()
+}
+
+// The request that is handed out.
+fn told_last(alloc: Global, message: Message) -> Result<String, StepFault> {
+    let told = format!(in alloc; "{} {message}", message.receiver());
+    drop(message);
+    told.map_err(StepFault::Memory)
 }
 
 // The request that is handed out, or why it isn't.
 fn told_one(alloc: Global, sent: Result<Message, ClientFault>) -> Result<String, StepFault> {
     match sent {
-        Ok(message) => Ok(format!(in alloc; "{} {message}", message.receiver())?),
+        Ok(message) => told_last(alloc, message),
         Err(fault) => told_name(alloc, fault),
     }
 }
 
-// The message of these bytes, which are one frame.
+// The message of bytes that are one frame.
 fn message_of(alloc: Global, bytes: &[u8]) -> Result<Message, StepFault> {
-    let mut messages = known(Frames::new(alloc).feed(bytes))?;
-    messages.pop().ok_or(StepFault::Unknown)
+    match Frames::new(alloc).feed(bytes) {
+        Ok(mut messages) => messages.pop().ok_or(StepFault::Unknown),
+        Err(_) => Err(StepFault::Unknown),
+    }
+}
+
+// The processor takes a reply.
+fn taken(alloc: Global, processor: &mut Prefixing, reply: Message) -> Result<String, StepFault> {
+    let taken = processor.take(&reply);
+    drop(reply);
+    taken?;
+    nothing(alloc)
+}
+
+// The client under a processor, with a timeout of a minute.
+fn client_of(alloc: Global, number: &str, txn: &str) -> Result<ProducerClient, StepFault> {
+    let number = client(number)?;
+    let txn = value::<TxnId>(txn)?;
+    let timeout = known(Timeout::try_from(60_000))?;
+    Ok(ProducerClient::new(alloc, number, Some(txn), timeout))
 }
 
 impl ImageCases {
-    // Makes a processor, with a timeout of a minute.
+    // Makes a processor: `NUMBER TXN GROUP INPUTS`.
     fn make(&mut self, words: &[&str]) -> Result<String, StepFault> {
         let [number, txn, group, inputs] = words else {
             return Err(StepFault::Unknown);
         };
         let alloc = self.alloc;
-        let number = ClientId::from(value::<u32>(number)?);
-        let txn = value::<TxnId>(txn)?;
-        let timeout = known(Timeout::try_from(60_000))?;
         let group = value::<GroupId>(group)?;
         let inputs = known(Inputs::try_from(value::<u8>(inputs)?))?;
-        let client = ProducerClient::new(alloc, number, Some(txn), timeout);
+        let client = client_of(alloc, number, txn)?;
         let process = Prefixed::new(alloc);
-        self.processor = Some(Processor::new(alloc, client, group, inputs, process));
+        let processor = Processor::new(alloc, client, group, inputs, process);
+        drop(mem::replace(&mut self.processor, Some(processor)));
         nothing(alloc)
     }
 
@@ -74,9 +94,8 @@ impl ImageCases {
             ["poll"] => told_sent(alloc, processor.poll()),
             ["resend"] => told_sent(alloc, processor.resend()),
             ["take", frame] => {
-                let message = message_of(alloc, texts.bytes(frame)?.as_slice())?;
-                processor.take(&message)?;
-                nothing(alloc)
+                let reply = message_of(alloc, texts.bytes(frame)?.as_slice())?;
+                taken(alloc, processor, reply)
             }
             _ => Err(StepFault::Unknown),
         }

@@ -2,29 +2,33 @@
 use std::alloc::{AllocError, Global};
 use std::str;
 
+// Tells a text with another end of each line.
+fn tell_lines(told: &mut String, text: &str, end: char, new: &str) -> Result<(), AllocError> {
+    for (at, part) in text.split(end).enumerate() {
+        let parted = if at == 0 { "" } else { new };
+        write!(told, "{parted}{part}")?;
+    }
+    Ok(())
+}
+
+fn tell_script(told: &mut String, words: &[&str]) -> Result<(), AllocError> {
+    let mut parted = "";
+    for word in words {
+        told.push_str(parted)?;
+        tell_lines(told, word, '|', "\n")?;
+        parted = " ";
+    }
+    Ok(())
+}
+
 /// A script that stands on one line, where each `|` is the end of a line.
 pub fn script_of(alloc: Global, words: &[&str]) -> Result<String, AllocError> {
     let mut script = String::new(alloc);
-    for (at, word) in words.iter().enumerate() {
-        let space = if at == 0 { "" } else { " " };
-        script.push_str(space)?;
-        for (at, part) in word.split('|').enumerate() {
-            let newline = if at == 0 { "" } else { "\n" };
-            script.push_str(newline)?;
-            script.push_str(part)?;
-        }
-    }
+    tell_script(&mut script, words)?;
     Ok(script)
 }
 
-/// Text on one line: each `|` is the end of a line. Behind it stands how it ended.
-pub fn on_one_line(alloc: Global, text: &[u8], ended: &str) -> Result<String, AllocError> {
-    let mut line = String::new(alloc);
-    for (at, part) in str::from_utf8(text).unwrap_or("?").split('\n').enumerate() {
-        let newline = if at == 0 { "" } else { "|" };
-        line.push_str(newline)?;
-        line.push_str(part)?;
-    }
-    line.push_str(ended)?;
-    Ok(line)
+/// Tells text on one line: each `|` is the end of a line.
+pub fn tell_on_one_line(told: &mut String, text: &[u8]) -> Result<(), AllocError> {
+    tell_lines(told, str::from_utf8(text).unwrap_or("?"), '\n', "|")
 }

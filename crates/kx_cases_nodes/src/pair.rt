@@ -30,16 +30,25 @@ fn is_right(alloc: Global, script: &str, wanted: &str) -> Result<bool, AllocErro
     }
 }
 
+// The text of the file NAME.KIND.
+fn read(rt: &(impl Files + AllocGlobal), name: &str, kind: &str) -> io::Result<String> {
+    fs::read_to_string(rt, format!(in rt.alloc(); "{name}.{kind}")?)
+}
+
+// Tells whether the script of this name wrote what it had to.
+fn tell(rt: &impl Print, name: &str, is_right: bool) -> io::Result<()> {
+    let told = if is_right { "ok" } else { "FAILED" };
+    println!(rt; "{told} {name}")
+}
+
 /// Runs the script NAME.kx, which has to write NAME.out, and prints `ok NAME` or `FAILED NAME`.
 pub fn try_pair(rt: &(impl Files + Print + AllocGlobal), name: &str) -> io::Result<Tally>
     ensures { IfOk result (λ tally. (tally.tried ≡ 1) × (tally.failed ≤ 1)) }
 {
-    let alloc = rt.alloc();
-    let script = fs::read_to_string(rt, format!(in alloc; "{name}.kx")?)?;
-    let wanted = fs::read_to_string(rt, format!(in alloc; "{name}.out")?)?;
-    let is_right = is_right(alloc, script.as_str(), wanted.as_str())?;
-    let told = if is_right { "ok" } else { "FAILED" };
-    println!(rt; "{told} {name}")?;
+    let script = read(rt, name, "kx")?;
+    let wanted = read(rt, name, "out")?;
+    let is_right = is_right(rt.alloc(), script.as_str(), wanted.as_str())?;
+    tell(rt, name, is_right)?;
     Ok(Tally {
         tried: 1,
         failed: u64::from(!is_right),

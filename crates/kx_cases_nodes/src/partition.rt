@@ -6,6 +6,7 @@ use kx_cases::{Runs, StepFault, Subject, Texts, told_name, told_value, value};
 use kx_log::{FaultStore, MemStore};
 use kx_partition::{FetchPage, Partition};
 use std::alloc::Global;
+use std::mem;
 
 /// A partition, once it is open.
 #[derive(Drop)]
@@ -24,24 +25,30 @@ fn offsets(alloc: Global, kept: &Kept) -> Result<String, StepFault> {
 fn reload(alloc: Global, kept: &mut Kept) -> Result<String, StepFault> {
     match kept.reload() {
         Ok(content) => {
-            let before = kept.install(content).end();
-            Ok(format!(in alloc; "end {} before {before}", kept.end())?)
+            let before = kept.install(content);
+            let end = before.end();
+            drop(before);
+            Ok(format!(in alloc; "end {} before {end}", kept.end())?)
         }
         Err(fault) => told_name(alloc, fault),
     }
 }
 
-// A page of all records, or of the committed ones.
+// Whether a page is to have the committed records alone.
+fn is_committed(mode: &str) -> Result<bool, StepFault> {
+    match mode {
+        "all" => Ok(false),
+        "committed" => Ok(true),
+        _ => Err(StepFault::Unknown),
+    }
+}
+
+// A page of all records, or of the committed ones: `WHAT FROM MAX MODE`.
 fn fetched(alloc: Global, kept: &Kept, words: &[&str]) -> Result<String, StepFault> {
     let [what, from, max, mode] = words else {
         return Err(StepFault::Unknown);
     };
-    let is_committed = match *mode {
-        "all" => false,
-        "committed" => true,
-        _ => return Err(StepFault::Unknown),
-    };
-    match kept.fetch(value(from)?, value(max)?, is_committed) {
+    match kept.fetch(value(from)?, value(max)?, is_committed(mode)?) {
         Ok(page) => shown(alloc, what, page),
         Err(fault) => told_name(alloc, fault),
     }
@@ -68,22 +75,19 @@ fn holds(alloc: Global, kept: &Kept, bytes: &[u8]) -> Result<String, StepFault> 
 }
 
 // Makes the store fail, or takes that back.
-fn armed(alloc: Global, kept: &mut Kept, words: &[&str]) -> Result<String, StepFault> {
+fn armed(
+    alloc: Global,
+    kept: &mut Kept,
+    texts: &Texts,
+    words: &[&str],
+) -> Result<String, StepFault> {
     match words {
         ["append_fails", keep] => kept.arm(Some(value(keep)?)),
         ["appends_work"] => kept.arm(None),
         ["load_fails"] => kept.arm_load(true),
-        _ => return fetched(alloc, kept, words),
+        _ => return sent(alloc, kept, texts, words),
     }
     nothing(alloc)
-}
-
-// Whether a step of this name sends something.
-fn is_sending(name: &str) -> bool {
-    matches!(
-        name,
-        "produce" | "unverified" | "fronts" | "repeat" | "open_txns" | "marker"
-    )
 }
 
 // Takes a step of a partition that is open.
@@ -99,27 +103,36 @@ fn taken(
         ["failures"] => told_value(alloc, kept.failures()),
         ["holds", bytes] => holds(alloc, kept, texts.bytes(bytes)?.as_slice()),
         ["reload"] => reload(alloc, kept),
-        [name, ..] if is_sending(name) => sent(alloc, kept, texts, words),
-        _ => armed(alloc, kept, words),
+        [_, _, _, _] => fetched(alloc, kept, words),
+        _ => armed(alloc, kept, texts, words),
     }
 }
 
 // The end of the partition that a store with these bytes has.
 fn end_of(alloc: Global, bytes: Vec<u8>) -> Result<String, StepFault> {
     match Partition::rebuild(alloc, MemStore::new(bytes)) {
-        Ok(kept) => told_value(alloc, kept.end()),
+        Ok(kept) => {
+            let end = kept.end();
+            drop(kept);
+            told_value(alloc, end)
+        }
         Err((fault, _)) => told_name(alloc, fault),
     }
 }
 
 // The same of each front of some bytes, and of all of them.
-fn cuts(alloc: Global, bytes: &[u8]) -> Result<String, StepFault> {
-    let mut runs = Runs::new(alloc);
+fn cuts(alloc: Global, runs: &mut Runs, bytes: &[u8]) -> Result<(), StepFault> {
     for len in 0..=bytes.len() {
         let front = Vec::from_slice(alloc, &bytes[..len])?;
         runs.push(len, end_of(alloc, front)?)?;
     }
-    Ok(runs.finish()?)
+    Ok(())
+}
+
+fn told_cuts(alloc: Global, bytes: &[u8]) -> Result<String, StepFault> {
+    let mut runs = Runs::new(alloc);
+    cuts(alloc, &mut runs, bytes)?;
+    runs.finish().map_err(StepFault::Memory)
 }
 
 impl PartitionNode {
@@ -128,10 +141,24 @@ impl PartitionNode {
         match Partition::rebuild(self.alloc, store) {
             Ok(kept) => {
                 let told = offsets(self.alloc, &kept);
-                self.kept = Some(kept);
+                drop(mem::replace(&mut self.kept, Some(kept)));
                 told
             }
             Err((fault, _)) => told_name(self.alloc, fault),
+        }
+    }
+
+    // Opens a store with these bytes, whose append of a number fails, if it isn't 0, and leaves so
+    // many bytes.
+    fn open_bytes(&mut self, bytes: Vec<u8>, nth: u64, keep: u64) -> Result<String, StepFault> {
+        self.open(FaultStore::new(MemStore::new(bytes), nth, keep))
+    }
+
+    // Takes a step of the partition, if it is open.
+    fn within(&mut self, texts: &Texts, words: &[&str]) -> Result<String, StepFault> {
+        match &mut self.kept {
+            Some(kept) => taken(self.alloc, kept, texts, words),
+            None => Err(StepFault::Unknown),
         }
     }
 }
@@ -143,19 +170,13 @@ impl Subject for PartitionNode {
 
     fn answer(&mut self, texts: &Texts, words: &[&str]) -> Result<String, StepFault> {
         match words {
-            ["open", bytes] => {
-                let store = MemStore::new(texts.bytes(bytes)?);
-                self.open(FaultStore::new(store, 0, 0))
-            }
+            ["open", bytes] => self.open_bytes(texts.bytes(bytes)?, 0, 0),
             ["open_failing", bytes, nth, keep] => {
-                let store = MemStore::new(texts.bytes(bytes)?);
-                self.open(FaultStore::new(store, value(nth)?, value(keep)?))
+                let (nth, keep) = (value(nth)?, value(keep)?);
+                self.open_bytes(texts.bytes(bytes)?, nth, keep)
             }
-            ["cuts", bytes] => cuts(self.alloc, texts.bytes(bytes)?.as_slice()),
-            _ => match &mut self.kept {
-                Some(kept) => taken(self.alloc, kept, texts, words),
-                None => Err(StepFault::Unknown),
-            },
+            ["cuts", bytes] => told_cuts(self.alloc, texts.bytes(bytes)?.as_slice()),
+            _ => self.within(texts, words),
         }
     }
 }

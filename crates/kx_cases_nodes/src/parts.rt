@@ -1,11 +1,20 @@
-//! Answers of several parts.
+//! Answers that are alike in several steps.
 use kx_cases::{StepFault, told_name, told_value};
+use kx_message::Message;
 use std::alloc::{AllocError, Global};
 use std::fmt::Debug;
 
 /// What a step answers that gives nothing.
 pub fn nothing(alloc: Global) -> Result<String, StepFault> {
     told_value(alloc, "-")
+}
+
+/// Tells `-` where nothing was told.
+pub fn or_dash(told: &mut String) -> Result<(), AllocError> {
+    if told.is_empty() {
+        return told.push_str("-");
+    }
+    Ok(())
 }
 
 /// How something ended that wrote a text, where what was taken of it is a front of the whole.
@@ -21,37 +30,24 @@ pub fn ended_in_front<E: Debug + Drop>(
     told_value(alloc, "another text")
 }
 
-/// Parts of an answer, told one behind the other.
-#[derive(Drop)]
-pub struct Parts {
-    alloc: Global,
-    text: String,
-    between: &'static str,
+/// Tells a message as `RECEIVER TEXT`, behind what parts it from the one before.
+pub fn tell_message(told: &mut String, parted: &str, message: &Message) -> Result<(), AllocError> {
+    write!(told, "{parted}{} {message}", message.receiver())
 }
 
-impl Parts {
-    /// None yet; this will stand between two of them.
-    pub fn new(alloc: Global, between: &'static str) -> Self {
-        Parts {
-            alloc,
-            text: String::new(alloc),
-            between,
-        }
+// Tells messages, or `-` for none.
+fn tell_messages(told: &mut String, messages: &[Message]) -> Result<(), AllocError> {
+    let mut parted = "";
+    for message in messages {
+        tell_message(told, parted, message)?;
+        parted = "; ";
     }
+    or_dash(told)
+}
 
-    /// One more.
-    pub fn push(&mut self, part: String) -> Result<(), AllocError> {
-        if !self.text.is_empty() {
-            self.text.push_str(self.between)?;
-        }
-        self.text.push_str(part.as_str())
-    }
-
-    /// All of them, or `-` for none.
-    pub fn finish(self) -> Result<String, StepFault> {
-        if self.text.is_empty() {
-            return nothing(self.alloc);
-        }
-        Ok(self.text)
-    }
+/// The messages that were handed out, each as `RECEIVER TEXT`, or `-` for none.
+pub fn told_messages(alloc: Global, messages: &[Message]) -> Result<String, StepFault> {
+    let mut told = String::new(alloc);
+    tell_messages(&mut told, messages)?;
+    Ok(told)
 }

@@ -4,10 +4,11 @@ use crate::shown::shown;
 use crate::words::{caller, code, producer};
 use kx_cases::{StepFault, Subject, Texts, told_name, value};
 use kx_message::{
-    AbortedTxn, AbortedTxns, Bytes, ErrorCode, FetchReply, LeaveReply, Message, PartitionId,
+    AbortedTxn, AbortedTxns, Bytes, Caller, ErrorCode, FetchReply, LeaveReply, Message, PartitionId,
 };
 use kx_partition::FetchPage;
 use std::alloc::Global;
+use std::mem;
 
 /// The reply that came.
 #[derive(Drop)]
@@ -26,30 +27,61 @@ fn aborted_txn(word: &str) -> Result<AbortedTxn, StepFault> {
     })
 }
 
+fn push_aborted(txns: &mut Vec<AbortedTxn>, text: &str) -> Result<(), StepFault> {
+    for word in text.split(',') {
+        txns.push(aborted_txn(word)?)?;
+    }
+    Ok(())
+}
+
 // Aborted transactions, written as `ID:FIRST,..`, or `-` for none.
 fn aborted(alloc: Global, text: &str) -> Result<AbortedTxns, StepFault> {
     let mut txns = Vec::new(alloc);
     if text != "-" {
-        for word in text.split(',') {
-            txns.push(aborted_txn(word)?)?;
-        }
+        push_aborted(&mut txns, text)?;
     }
     Ok(AbortedTxns::from_vec(txns))
 }
 
-// A reply of this code: `fetched CODE NEXT LSO END ABORTED BYTES`.
-fn fetch_reply(alloc: Global, texts: &Texts, words: &[&str]) -> Result<Message, StepFault> {
-    let [answer, next, lso, end, txns, batches] = words else {
+// What a reply says beside what it carries.
+#[derive(Clone, Copy)]
+struct Numbers {
+    caller: Caller,
+    code: ErrorCode,
+    next: i64,
+    lso: i64,
+    end: i64,
+}
+
+// `CODE NEXT LSO END`.
+fn numbers_in(words: &[&str]) -> Result<Numbers, StepFault> {
+    let [answer, next, lso, end] = words else {
         return Err(StepFault::Unknown);
     };
-    Ok(Message::FetchReply(FetchReply {
+    Ok(Numbers {
         caller: caller("1")?,
-        partition: PartitionId::OFFSETS,
         code: code(answer)?,
         next: value(next)?,
         lso: value(lso)?,
         end: value(end)?,
-        aborted: aborted(alloc, txns)?,
+    })
+}
+
+// A reply of this code: `fetched CODE NEXT LSO END ABORTED BYTES`.
+fn fetch_reply(alloc: Global, texts: &Texts, words: &[&str]) -> Result<Message, StepFault> {
+    let [fields @ .., txns, batches] = words else {
+        return Err(StepFault::Unknown);
+    };
+    let numbers = numbers_in(fields)?;
+    let aborted = aborted(alloc, txns)?;
+    Ok(Message::FetchReply(FetchReply {
+        caller: numbers.caller,
+        partition: PartitionId::OFFSETS,
+        code: numbers.code,
+        next: numbers.next,
+        lso: numbers.lso,
+        end: numbers.end,
+        aborted,
         batches: Bytes::from_vec(texts.bytes(batches)?),
     }))
 }
@@ -73,7 +105,7 @@ fn read(alloc: Global, reply: &Message, what: &str, from: &str) -> Result<String
 impl Replies {
     // This reply came.
     fn comes(&mut self, reply: Message) -> Result<String, StepFault> {
-        self.reply = Some(reply);
+        drop(mem::replace(&mut self.reply, Some(reply)));
         nothing(self.alloc)
     }
 }

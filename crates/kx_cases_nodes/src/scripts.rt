@@ -1,10 +1,10 @@
 //! Steps that run scripts: as they stand, over streams that fail, with appends that fail, with each
 //! byte in a place, and one of a long line.
-use crate::lines::{on_one_line, script_of};
+use crate::lines::{script_of, tell_on_one_line};
 use crate::parts::ended_in_front;
 use crate::streams::{Giving, Taking};
 use crate::sweeps::sweep;
-use kx_cases::{Runs, StepFault, Subject, Texts, value};
+use kx_cases::{Runs, StepFault, Subject, Texts, told_name, value};
 use kx_script::{ScriptWorld, run_script};
 use std::alloc::{AllocError, Global};
 use std::io::BufRead;
@@ -16,11 +16,21 @@ pub struct Scripts {
 }
 
 // What a script writes, and how it ends.
-fn run<R: BufRead>(alloc: Global, reader: &mut R) -> Result<String, AllocError> {
+fn tell_run<R: BufRead>(
+    alloc: Global,
+    told: &mut String,
+    reader: &mut R,
+) -> Result<(), AllocError> {
     let mut written = Vec::new(alloc);
     let ended = run_script(alloc, reader, &mut written);
-    let ended = format!(in alloc; "{ended:?}")?;
-    on_one_line(alloc, written.as_slice(), ended.as_str())
+    tell_on_one_line(told, written.as_slice())?;
+    write!(told, "{ended:?}")
+}
+
+fn run<R: BufRead>(alloc: Global, reader: &mut R) -> Result<String, StepFault> {
+    let mut told = String::new(alloc);
+    tell_run(alloc, &mut told, reader)?;
+    Ok(told)
 }
 
 // What the script writes.
@@ -31,37 +41,50 @@ fn whole(alloc: Global, script: &str) -> Vec<u8> {
     written
 }
 
-// How the script ends where its writer has room for so many bytes, from none on, and the front of
-// what it writes is written.
-fn full(alloc: Global, most: usize, script: &str) -> Result<String, StepFault> {
+// How the script ends where its writer has room for so many bytes, and the front of what it writes
+// is written.
+fn with_room(alloc: Global, room: usize, script: &str, whole: &[u8]) -> Result<String, StepFault> {
+    let mut reader = script.as_bytes();
+    let mut writer = Taking {
+        taken: Vec::new(alloc),
+        room,
+    };
+    let ended = run_script(alloc, &mut reader, &mut writer);
+    ended_in_front(alloc, ended, writer.taken.as_slice(), whole)
+}
+
+// The same of no room, of room for one byte, and so on up to so many.
+fn full(alloc: Global, runs: &mut Runs, most: usize, script: &str) -> Result<(), StepFault> {
     let whole = whole(alloc, script);
-    let mut runs = Runs::new(alloc);
     for room in 0..=most {
-        let mut reader = script.as_bytes();
-        let mut writer = Taking {
-            taken: Vec::new(alloc),
-            room,
-        };
-        let ended = run_script(alloc, &mut reader, &mut writer);
-        runs.push(
-            room,
-            ended_in_front(alloc, ended, writer.taken.as_slice(), whole.as_slice())?,
-        )?;
+        let ended = with_room(alloc, room, script, whole.as_slice())?;
+        runs.push(room, ended)?;
     }
-    Ok(runs.finish()?)
+    Ok(())
 }
 
 // How the script ends, and how many bytes it writes, where its reader gives so many bytes at once
-// and fails at the first read, at the second, and so on.
-fn reads(alloc: Global, once: usize, most: usize, script: &str) -> Result<String, AllocError> {
-    let mut runs = Runs::new(alloc);
+// and fails behind so many reads.
+fn read_in(alloc: Global, once: usize, reads: usize, script: &str) -> Result<String, StepFault> {
+    let mut reader = Giving::new(script.as_bytes(), once, reads);
+    let mut written = Vec::new(alloc);
+    let ended = run_script(alloc, &mut reader, &mut written);
+    let count = written.len();
+    format!(in alloc; "{ended:?} {count}").map_err(StepFault::Memory)
+}
+
+// The same where it fails at the first read, at the second, and so on.
+fn reads(
+    alloc: Global,
+    runs: &mut Runs,
+    once: usize,
+    most: usize,
+    script: &str,
+) -> Result<(), StepFault> {
     for reads in 0..=most {
-        let mut reader = Giving::new(script.as_bytes(), once, reads);
-        let mut written = Vec::new(alloc);
-        let ended = run_script(alloc, &mut reader, &mut written);
-        runs.push(reads, format!(in alloc; "{ended:?} {}", written.len())?)?;
+        runs.push(reads, read_in(alloc, once, reads, script)?)?;
     }
-    runs.finish()
+    Ok(())
 }
 
 // The script with this byte in the place of each `?`.
@@ -75,26 +98,79 @@ fn with_byte(alloc: Global, script: &str, byte: u8) -> Result<Vec<u8>, AllocErro
     Ok(text)
 }
 
+// How the script ends with this byte in the place of its `?`.
+fn ended_with(alloc: Global, script: &str, byte: u8) -> Result<String, StepFault> {
+    let text = with_byte(alloc, script, byte)?;
+    let mut reader = text.as_slice();
+    told_name(alloc, run_script(alloc, &mut reader, &mut Vec::new(alloc)))
+}
+
 // How the script ends with each byte in the place of its `?`.
-fn each_byte(alloc: Global, script: &str) -> Result<String, AllocError> {
-    let mut runs = Runs::new(alloc);
+fn each_byte(alloc: Global, runs: &mut Runs, script: &str) -> Result<(), StepFault> {
     for byte in 0..=u8::MAX {
-        let text = with_byte(alloc, script, byte)?;
-        let mut reader = text.as_slice();
-        let ended = run_script(alloc, &mut reader, &mut Vec::new(alloc));
-        runs.push(usize::from(byte), format!(in alloc; "{ended:?}")?)?;
+        runs.push(usize::from(byte), ended_with(alloc, script, byte)?)?;
     }
-    runs.finish()
+    Ok(())
 }
 
 // A script that puts so many words at once, and then one.
-fn long_put(alloc: Global, words: usize) -> Result<String, AllocError> {
-    let mut script = String::from_str(alloc, "world 1\nput 0")?;
+fn push_long_put(script: &mut String, words: usize) -> Result<(), AllocError> {
+    script.push_str("world 1\nput 0")?;
     for _ in 0..words {
         script.push_str(" a")?;
     }
-    script.push_str("\nput 0 b\n")?;
-    Ok(script)
+    script.push_str("\nput 0 b\n")
+}
+
+fn long_put(alloc: Global, words: usize) -> Result<String, StepFault> {
+    let mut script = String::new(alloc);
+    push_long_put(&mut script, words)?;
+    run(alloc, &mut script.as_bytes())
+}
+
+// The number at the front of a text, and what stands behind it.
+fn numbered(text: &str) -> Result<(usize, &str), StepFault> {
+    let Some((number, rest)) = text.split_once(' ') else {
+        return Err(StepFault::Unknown);
+    };
+    Ok((value(number)?, rest))
+}
+
+// Runs a script many times. In front of it stand the numbers of the step.
+fn many(alloc: Global, runs: &mut Runs, name: &str, text: &str) -> Result<(), StepFault> {
+    match name {
+        "each_byte" => each_byte(alloc, runs, text),
+        "sweep" => {
+            let (most, script) = numbered(text)?;
+            sweep::<ScriptWorld>(alloc, runs, most, script)
+        }
+        "full" => {
+            let (most, script) = numbered(text)?;
+            full(alloc, runs, most, script)
+        }
+        "reads" => {
+            let (once, text) = numbered(text)?;
+            let (most, script) = numbered(text)?;
+            reads(alloc, runs, once, most, script)
+        }
+        _ => Err(StepFault::Unknown),
+    }
+}
+
+fn told_many(alloc: Global, name: &str, text: &str) -> Result<String, StepFault> {
+    let mut runs = Runs::new(alloc);
+    many(alloc, &mut runs, name, text)?;
+    runs.finish().map_err(StepFault::Memory)
+}
+
+// Takes a step of this name, with the text behind it.
+fn taken(alloc: Global, name: &str, text: &str) -> Result<String, StepFault> {
+    match name {
+        "run" => run(alloc, &mut text.as_bytes()),
+        "torn" => run(alloc, &mut Giving::new(text.as_bytes(), usize::MAX, 1)),
+        "long_put" => long_put(alloc, value(text)?),
+        _ => told_many(alloc, name, text),
+    }
 }
 
 impl Subject for Scripts {
@@ -103,39 +179,9 @@ impl Subject for Scripts {
     }
 
     fn answer(&mut self, _texts: &Texts, words: &[&str]) -> Result<String, StepFault> {
-        let alloc = self.alloc;
-        match words {
-            ["run", script @ ..] => {
-                let script = script_of(alloc, script)?;
-                let mut reader = script.as_bytes();
-                Ok(run(alloc, &mut reader)?)
-            }
-            ["sweep", most, script @ ..] => {
-                let script = script_of(alloc, script)?;
-                sweep::<ScriptWorld>(alloc, value(most)?, script.as_str())
-            }
-            ["torn", script @ ..] => {
-                let script = script_of(alloc, script)?;
-                Ok(run(alloc, &mut Giving::new(script.as_bytes(), usize::MAX, 1))?)
-            }
-            ["reads", once, most, script @ ..] => {
-                let script = script_of(alloc, script)?;
-                Ok(reads(alloc, value(once)?, value(most)?, script.as_str())?)
-            }
-            ["each_byte", script @ ..] => {
-                let script = script_of(alloc, script)?;
-                Ok(each_byte(alloc, script.as_str())?)
-            }
-            ["full", most, script @ ..] => {
-                let script = script_of(alloc, script)?;
-                full(alloc, value(most)?, script.as_str())
-            }
-            ["long_put", words] => {
-                let script = long_put(alloc, value(words)?)?;
-                let mut reader = script.as_bytes();
-                Ok(run(alloc, &mut reader)?)
-            }
-            _ => Err(StepFault::Unknown),
-        }
+        let [name, given @ ..] = words else {
+            return Err(StepFault::Unknown);
+        };
+        taken(self.alloc, name, script_of(self.alloc, given)?.as_str())
     }
 }

@@ -35,21 +35,25 @@ fn numbered(
 }
 
 // The answers to each front of some bytes, but not to all of them.
-fn fronts(alloc: Global, kept: &mut Kept, bytes: &[u8]) -> Result<String, StepFault> {
-    let mut runs = Runs::new(alloc);
+fn fronts(alloc: Global, kept: &mut Kept, runs: &mut Runs, bytes: &[u8]) -> Result<(), StepFault> {
     for len in 0..bytes.len() {
         runs.push(len, produced(alloc, kept, &bytes[..len], true)?)?;
     }
-    Ok(runs.finish()?)
+    Ok(())
 }
 
 // The answers to the same batch, so many times.
-fn repeat(alloc: Global, kept: &mut Kept, times: usize, batch: &[u8]) -> Result<String, StepFault> {
-    let mut runs = Runs::new(alloc);
+fn repeat(
+    alloc: Global,
+    kept: &mut Kept,
+    runs: &mut Runs,
+    times: usize,
+    batch: &[u8],
+) -> Result<(), StepFault> {
     for number in 0..times {
         runs.push(number, numbered(alloc, kept, batch, number)?)?;
     }
-    Ok(runs.finish()?)
+    Ok(())
 }
 
 // The first batch of a producer's transaction: one record with an empty value.
@@ -59,37 +63,66 @@ fn first_of_txn(alloc: Global, id: i64) -> Result<Vec<u8>, BuildFault> {
     builder.finish()
 }
 
-// The answers to the first batches of the producers 0, 1, 2 ..
-fn open_txns(alloc: Global, kept: &mut Kept, producers: u16) -> Result<String, StepFault> {
-    let mut runs = Runs::new(alloc);
-    for id in 0..producers {
-        let Ok(batch) = first_of_txn(alloc, i64::from(id)) else {
-            return Err(StepFault::Memory(AllocError));
-        };
-        let number = usize::from(id);
-        runs.push(number, numbered(alloc, kept, batch.as_slice(), number)?)?;
-    }
-    Ok(runs.finish()?)
+// The answer to the first batch of a producer.
+fn open_txn(alloc: Global, kept: &mut Kept, id: u16) -> Result<String, StepFault> {
+    let Ok(batch) = first_of_txn(alloc, i64::from(id)) else {
+        return Err(StepFault::Memory(AllocError));
+    };
+    numbered(alloc, kept, batch.as_slice(), usize::from(id))
 }
 
-// The answer to a marker: `marker ID EPOCH COORDINATOR OUTCOME`.
+// The answers to the first batches of the producers 0, 1, 2 ..
+fn open_txns(
+    alloc: Global,
+    kept: &mut Kept,
+    runs: &mut Runs,
+    producers: u16,
+) -> Result<(), StepFault> {
+    for id in 0..producers {
+        runs.push(usize::from(id), open_txn(alloc, kept, id)?)?;
+    }
+    Ok(())
+}
+
+// Takes a step that sends many batches.
+fn many(
+    alloc: Global,
+    kept: &mut Kept,
+    runs: &mut Runs,
+    texts: &Texts,
+    words: &[&str],
+) -> Result<(), StepFault> {
+    match words {
+        ["fronts", bytes] => fronts(alloc, kept, runs, texts.bytes(bytes)?.as_slice()),
+        ["open_txns", producers] => open_txns(alloc, kept, runs, value(producers)?),
+        ["repeat", times, batch] => {
+            let times = value(times)?;
+            repeat(alloc, kept, runs, times, texts.bytes(batch)?.as_slice())
+        }
+        _ => Err(StepFault::Unknown),
+    }
+}
+
+// The answers to many batches.
+fn many_sent(
+    alloc: Global,
+    kept: &mut Kept,
+    texts: &Texts,
+    words: &[&str],
+) -> Result<String, StepFault> {
+    let mut runs = Runs::new(alloc);
+    many(alloc, kept, &mut runs, texts, words)?;
+    runs.finish().map_err(StepFault::Memory)
+}
+
+// The answer to a marker: `ID EPOCH COORDINATOR OUTCOME`.
 fn marked(alloc: Global, kept: &mut Kept, words: &[&str]) -> Result<String, StepFault> {
-    let [_, id, epoch, coordinator, how] = words else {
+    let [id, epoch, coordinator, how] = words else {
         return Err(StepFault::Unknown);
     };
     let ended = raised(id, epoch)?;
     let code = kept.marker(ended, value(coordinator)?, value(how)?)?;
     told_name(alloc, code)
-}
-
-// The answers to the bytes of a step of this name.
-fn produces(alloc: Global, kept: &mut Kept, name: &str, bytes: &[u8]) -> Result<String, StepFault> {
-    match name {
-        "produce" => produced(alloc, kept, bytes, true),
-        "unverified" => produced(alloc, kept, bytes, false),
-        "fronts" => fronts(alloc, kept, bytes),
-        _ => Err(StepFault::Unknown),
-    }
 }
 
 /// Takes a step that sends something.
@@ -100,12 +133,9 @@ pub fn sent(
     words: &[&str],
 ) -> Result<String, StepFault> {
     match words {
-        ["open_txns", producers] => open_txns(alloc, kept, value(producers)?),
-        ["repeat", times, batch] => {
-            let times = value(times)?;
-            repeat(alloc, kept, times, texts.bytes(batch)?.as_slice())
-        }
-        [name, bytes] => produces(alloc, kept, name, texts.bytes(bytes)?.as_slice()),
-        _ => marked(alloc, kept, words),
+        ["produce", bytes] => produced(alloc, kept, texts.bytes(bytes)?.as_slice(), true),
+        ["unverified", bytes] => produced(alloc, kept, texts.bytes(bytes)?.as_slice(), false),
+        ["marker", given @ ..] => marked(alloc, kept, given),
+        _ => many_sent(alloc, kept, texts, words),
     }
 }

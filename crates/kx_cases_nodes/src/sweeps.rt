@@ -1,5 +1,5 @@
 //! Scripts in which an append fails and leaves a part of its bytes.
-use crate::lines::on_one_line;
+use crate::lines::tell_on_one_line;
 use kx_cases::{Runs, StepFault, known, value};
 use kx_core::{Event, PartitionCount};
 use kx_machine::StoreMode;
@@ -77,6 +77,15 @@ fn write_from<N: World>(
     Ok(())
 }
 
+// A message comes to its node, where an append that fails leaves so many bytes. Whether one failed.
+fn fails<N: World>(world: &mut N, number: usize, to: Node, keep: u64) -> Result<bool, StepFault> {
+    let store = StoreMode::Fails { keep };
+    let event = Event::Deliver { number, to, store };
+    let happened = world.happen(&event);
+    drop(event);
+    Ok(happened?.failed)
+}
+
 // A message comes to its node, which has to append something: that fails, and leaves so many bytes.
 // Writes what is handed out.
 fn tear<N: World>(
@@ -90,9 +99,7 @@ fn tear<N: World>(
     };
     let to = message.receiver();
     let first = world.sent();
-    let store = StoreMode::Fails { keep };
-    let happened = world.happen(&Event::Deliver { number, to, store })?;
-    if !happened.failed {
+    if !fails(world, number, to, keep)? {
         return Err(StepFault::Unknown);
     }
     write_from(world, first, &to, writer)
@@ -119,22 +126,46 @@ fn tear_in<'a, N: World>(
     Ok(())
 }
 
-// What a script writes from its line `tear K` on, where that leaves so many bytes.
-fn torn<N: World>(alloc: Global, script: &str, keep: u64) -> Result<Vec<u8>, StepFault> {
+// Writes what a script writes from its line `tear K` on, where that leaves so many bytes.
+fn torn<N: World>(
+    alloc: Global,
+    script: &str,
+    keep: u64,
+    writer: &mut Vec<u8>,
+) -> Result<(), StepFault> {
     let mut lines = script.split('\n');
     let mut running = world_in::<N>(alloc, lines.next().unwrap_or(""))?;
+    tear_in(alloc, &mut running, lines, keep, writer)
+}
+
+// Tells the same on one line.
+fn tell_torn<N: World>(
+    alloc: Global,
+    told: &mut String,
+    script: &str,
+    keep: u64,
+) -> Result<(), StepFault> {
     let mut written = Vec::new(alloc);
-    tear_in(alloc, &mut running, lines, keep, &mut written)?;
-    Ok(written)
+    torn::<N>(alloc, script, keep, &mut written)?;
+    tell_on_one_line(told, written.as_slice()).map_err(StepFault::Memory)
+}
+
+fn told_torn<N: World>(alloc: Global, script: &str, keep: u64) -> Result<String, StepFault> {
+    let mut told = String::new(alloc);
+    tell_torn::<N>(alloc, &mut told, script, keep)?;
+    Ok(told)
 }
 
 /// What a script writes from its line `tear K` on, which lets message K come to its node, while the
 /// append there fails and leaves none of its bytes, one, and so on up to so many.
-pub fn sweep<N: World>(alloc: Global, most: usize, script: &str) -> Result<String, StepFault> {
-    let mut runs = Runs::new(alloc);
+pub fn sweep<N: World>(
+    alloc: Global,
+    runs: &mut Runs,
+    most: usize,
+    script: &str,
+) -> Result<(), StepFault> {
     for keep in 0..=most {
-        let written = torn::<N>(alloc, script, keep as u64)?;
-        runs.push(keep, on_one_line(alloc, written.as_slice(), "")?)?;
+        runs.push(keep, told_torn::<N>(alloc, script, keep as u64)?)?;
     }
-    Ok(runs.finish()?)
+    Ok(())
 }

@@ -2,10 +2,15 @@
 use kx_cases::{StepFault, known, value};
 use kx_message::{Caller, ClientId, Epoch, ErrorCode, Held, PartitionId, ProducerId, Raised};
 
+/// A client's number.
+pub fn client(word: &str) -> Result<ClientId, StepFault> {
+    Ok(ClientId::from(value::<u32>(word)?))
+}
+
 /// A client, by its number; its requests have the correlation 0.
 pub fn caller(word: &str) -> Result<Caller, StepFault> {
     Ok(Caller {
-        client: ClientId::from(value::<u32>(word)?),
+        client: client(word)?,
         correlation: 0,
     })
 }

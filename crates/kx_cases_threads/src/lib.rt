@@ -9,3 +9,4 @@ mod gate;
 mod nodes;
 mod served;
 mod serving;
+mod turns;

@@ -10,13 +10,17 @@
 //!   under way and none is to come; then the line `end`;
 //! - `receipts`, which tells how many there are; `leave NODE PLACE` and `double NODE PLACE`, by
 //!   which one is left out, or stands twice; `exchange NODE`, by which those of the run before stand
-//!   in place of the node's; `audit`, which tells what an audit finds; and `committed P`, which
-//!   tells how many committed records a data partition then has.
+//!   in place of the node's; `audit`, which tells what an audit finds; `turns`, which tells the
+//!   steps in the order into which it put them, each as `NODE PLACE INPUT > RECEIVER MESSAGE ..`,
+//!   a message by its text, any other input by the first word of its line, and behind them what was
+//!   answered beside messages; and `committed P`, which tells how many committed records a data
+//!   partition then has.
 ghost use Rattle.std.specs.Prelude.{◌≡◌, ◌≤◌, IfOk};
 
 use crate::audits::{Found, committed, double, exchange, judge, leave_out, node_named};
 use crate::nodes::{Served, add_nodes, add_twin, traces_of};
 use crate::serving::{Shift, serve};
+use crate::turns::tell_turns;
 use kx_cases::{StepFault, Tally, value};
 use kx_message::PartitionId;
 use kx_nodes::Receipt;
@@ -89,6 +93,12 @@ impl Session {
         Ok(writeln!(self.told, "{told}")?)
     }
 
+    // Tells the steps in the order of the audit.
+    fn tell_turns(&mut self) -> Result<(), StepFault> {
+        let run = self.found.as_ref().ok_or(StepFault::Unknown)?;
+        tell_turns(&mut self.told, run)
+    }
+
     // Tells how many committed records a partition has.
     fn tell_committed(&mut self, partition: &str) -> Result<(), StepFault> {
         let number: u16 = value(partition)?;
@@ -119,6 +129,7 @@ impl Session {
             }
             ["exchange", name] => self.exchange(name),
             ["audit"] => self.audit(),
+            ["turns"] => self.tell_turns(),
             ["committed", partition] => self.tell_committed(partition),
             _ => Err(StepFault::Unknown),
         }
