@@ -91,7 +91,8 @@ module _ {C P O F : Type 0} (Coordinates : NodeState → C → Type 0)
       by_found : (client : Option Client) (processing : Option Processing)
           → client_in s.world.clients number ≡ client
           → processor_in s.processors number ≡ processing
-          → TakesBy (all nodes) (all_of image_of new) input (node_with client processing) (Some taken)
+          → TakesBy (all nodes) (all_of image_of new) input (node_with client processing)
+          (Some taken)
           → IsHandedIn s (node.Client number) m input (Stand after_nodes) taken
       by_found None processing there beside takes = absurd takes
       by_found (Some c) None there beside takes =

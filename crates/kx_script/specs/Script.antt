@@ -61,7 +61,8 @@ performed (Some s) (order.Fetch partition from mode max) =
     (fetches s partition from mode max, Some s)
 performed (Some s) (order.Offset group partition stable) =
     where_true (has_partition s.system.world partition) (
-      offset_text (offset_fetch (entries_at s.system.world offsets_partition) group partition stable),
+      offset_text
+          (offset_fetch (entries_at s.system.world offsets_partition) group partition stable),
       Some s,
     )
 performed (Some s) order.Rows = Some (rows_text (rows (notes s.system.world)), Some s)

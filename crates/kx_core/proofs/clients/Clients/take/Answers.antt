@@ -25,7 +25,8 @@ returns-in_err-taken g c =
     let there = subst (λ (xs : List (AnyClient _)). slice_get xs place ≡ Some found.0)
     (sym c.self.view_is) found.1 in
     let same = (refused_at image_of c.self.inside.clients.items place c.args.number
-    c.index_mut.result.now found.0 c.self.invariant there found.2 c.index_mut.ensures.value c.take.new.machine
+    c.index_mut.result.now found.0 c.self.invariant there found.2 c.index_mut.ensures.value
+    c.take.new.machine
     (sym (c.in_err-taken.ensures (state_of image_of c.index_mut.result.now) refl))).1
     ∙ ap (all_of image_of) c.self.view_is in search rules
 

@@ -36,8 +36,8 @@ returns-clause-shows g c =
     let told = shows_told c.publish-publisher.result.1 (log old.machine) c.in-Some.publisher new
     c.publish-publisher.ensures.partition c.publish-publisher.ensures.published in
     let is : old.publisher ≡ Some c.in-Some.publisher = search rules in
-    subst (λ (h : UnderLock g.row.M.Denot). Shows c.is_ok.result (log h.machine) h.published (Some new))
-    c.self.view_is
+    subst (λ (h : UnderLock g.row.M.Denot).
+    Shows c.is_ok.result (log h.machine) h.published (Some new)) c.self.view_is
     (subst (λ (o : Option Done). Shows c.is_ok.result (log old.machine) o (Some new)) (sym is)
     (subst (λ (b : Bool). Shows b (log old.machine) (Some c.in-Some.publisher) (Some new))
     (sym c.is_ok.ensures.value) told))
