@@ -1,7 +1,7 @@
 //! Record batches. `crc`, `size`, `read`, `header`, `layout`, `producer`, `records`, `record N`,
 //! `end-marker` tell of bytes; `cuts` reads each front of them, `flips BITS FROM` them with each
 //! byte from a place on changed. `build`, `push`, `built`, `finish` and `based` make a batch,
-//! `marker` a control batch. A text is told as `null`, in digits, or where it is long by its length.
+//! `marker` a control batch. A text is told as `null`, in digits, or by its length if it is long.
 use kx_batch::{
     BatchBuilder, BatchView, BuildFault, HeaderView, RecordView, crc32c, marker_text, set_base,
 };

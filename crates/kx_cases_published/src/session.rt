@@ -12,8 +12,8 @@
 //!   that it is in before and after that, and has it leave. The second publish, and the end, wait
 //!   for a reader that doesn't leave;
 //! - `race R N` has R threads, each with a reader, enter, look and leave while N batches are put,
-//!   each published at once: `R readers saw growing logs`, or what a thread saw instead; `pages R N`
-//!   does the same with pages of 64 KiB, and tells how many they took.
+//!   each published at once: `R readers saw growing logs`, or what a thread saw instead;
+//!   `pages R N` does the same with pages of 64 KiB, and tells how many they took.
 ghost use Rattle.std.specs.Prelude.{◌<◌, length, IfOk};
 
 use crate::crowd::Crowd;

@@ -9,12 +9,12 @@
 //!   which hands the messages of frames to their receivers; `settle`, which waits until no step is
 //!   under way and none is to come; then the line `end`;
 //! - `receipts`, which tells how many there are; `leave NODE PLACE` and `double NODE PLACE`, by
-//!   which one is left out, or stands twice; `exchange NODE`, by which those of the run before stand
-//!   in place of the node's; `audit`, which tells what an audit finds; `turns`, which tells the
-//!   steps in the order into which it put them, each as `NODE PLACE INPUT > RECEIVER MESSAGE ..`,
-//!   a message by its text, any other input by the first word of its line, and behind them what was
-//!   answered beside messages; and `committed P`, which tells how many committed records a data
-//!   partition then has.
+//!   which one is left out, or stands twice; `exchange NODE`, by which those of the run before
+//!   stand in place of the node's; `audit`, which tells what an audit finds; `turns`, which tells
+//!   the steps in the order into which it put them, each as
+//!   `NODE PLACE INPUT > RECEIVER MESSAGE ..`, a message by its text, any other input by the first
+//!   word of its line, and behind them what was answered beside messages; and `committed P`, which
+//!   tells how many committed records a data partition then has.
 ghost use Rattle.std.specs.Prelude.{◌≡◌, ◌≤◌, IfOk};
 
 use crate::audits::{Found, committed, double, exchange, judge, leave_out, node_named};

@@ -1,9 +1,9 @@
 //! The program. `kx_main sim` runs a script over a world of nodes whose logs are held in memory;
 //! `kx_main dump FILE` prints the record batches that a file holds; `kx_main serve` serves clients
 //! over sockets; `kx_main demo` plays both ends over a bad line and audits what happened. The world
-//! is kx_core's, what a script's lines do kx_script's, dumps are kx_text's, the server is kx_server's
-//! and the demonstration kx_demo's; here are the arguments, streams and files, and which status each
-//! outcome ends with.
+//! is kx_core's, what a script's lines do kx_script's, dumps are kx_text's, the server is
+//! kx_server's and the demonstration kx_demo's; here are the arguments, streams and files, and
+//! which status each outcome ends with.
 #![tactic(auto)]
 
 mod playing;

@@ -1,7 +1,7 @@
 //! Schedules of systems with processors, which consume, process and produce: each comes to a
 //! schedule of a world without processors, and keeps the promises of exactly-once semantics. The
-//! definitions stand in `kx_system` and `kx_model`; the functions here do nothing when they run, and
-//! carry the laws in their contracts.
+//! definitions stand in `kx_system` and `kx_model`; the functions here do nothing when they run,
+//! and carry the laws in their contracts.
 //!
 //! In `proofs/`:
 //!

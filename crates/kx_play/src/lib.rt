@@ -6,9 +6,9 @@
 //!
 //! `options` and `fault` are what is asked for and what may fail. `nodes` makes the nodes,
 //! `serving` has those of the core behind their connections, `wires` opens these, and
-//! `connections` has their threads. `client` is a client before its end of a connection, `producers`
-//! and `members` are what the clients do, and `clients` all of them in turn. `setup` makes all of
-//! these, and `playing` goes from the first connection to the last thread.
+//! `connections` has their threads. `client` is a client before its end of a connection,
+//! `producers` and `members` are what the clients do, and `clients` all of them in turn. `setup`
+//! makes all of these, and `playing` goes from the first connection to the last thread.
 #![tactic(auto)]
 
 mod client;

@@ -25,8 +25,8 @@ pub enum ServeFault {
         /// Why.
         fault: OpenFault,
     },
-    /// The log in this file is whole, but another program wrote it: a batch has a leader epoch, or a
-    /// marker isn't spelled as a partition spells one.
+    /// The log in this file is whole, but another program wrote it: a batch has a leader epoch, or
+    /// a marker isn't spelled as a partition spells one.
     #[error("{file}: another program wrote the log")]
     Foreign {
         /// The file.

@@ -329,8 +329,8 @@ fn serve_over<
     serve_named::<Brand, F, R, W>(rt, alloc, folder, options, books, offsets, out)
 }
 
-// Keeps other servers out of a folder, which is made where there is none, for as long as the file is
-// open.
+// Keeps other servers out of a folder, which is made where there is none, for as long as the file
+// is open.
 fn lock_folder<R: Files<File = File>>(
     rt: &R,
     alloc: Global,

@@ -1,15 +1,13 @@
 use Rattle.std.proofs.Common.{◌≡◌, ◌≤◌, ◌<◌, ◌+◌, arith}
 use Rattle.kx_varint.proofs.Bounds.{limit_step, low_below}
 use Rattle.kx_varint.proofs.groups.+read_groups.Goals as goal
-use Rattle.kx_varint.proofs.groups.+read_groups.Goals.{else-most-eq1-via-then-most-eq1+else-first-top}
-use Rattle.kx_varint.proofs.groups.+read_groups.Goals.{else-most-eq1-via-else-most-eq1}
 
 pub returns-then-first-lt128-clause-bound : goal.returns-then-first-lt128-clause-bound
 returns-then-first-lt128-clause-bound t c =
     let last : c.args.most ≡ 1 → c.in-Some.first.now ≤ c.args.top =
     elim c.else-most-eq1.branch [
-      | else-most-eq1-via-then-most-eq1+else-first-top w ↦ λ _. omega arith
-      | else-most-eq1-via-else-most-eq1 w ↦ λ e. omega arith
+      | goal.else-most-eq1-via-then-most-eq1+else-first-top w ↦ λ _. omega arith
+      | goal.else-most-eq1-via-else-most-eq1 w ↦ λ e. omega arith
     ] in
     let b = low_below c.in-Some.first.now c.args.top c.args.most c.requires.some
     (omega arith) last in
@@ -19,8 +17,8 @@ pub read_groups-requires : goal.read_groups-requires
 read_groups-requires t c =
     let many : 1 < c.args.most =
     elim c.else-most-eq1.branch [
-      | else-most-eq1-via-then-most-eq1+else-first-top w ↦ omega arith
-      | else-most-eq1-via-else-most-eq1 w ↦ omega arith
+      | goal.else-most-eq1-via-then-most-eq1+else-first-top w ↦ omega arith
+      | goal.else-most-eq1-via-else-most-eq1 w ↦ omega arith
     ] in (
       omega arith,
       (
@@ -36,8 +34,8 @@ pub overflow_mul-result : goal.overflow_mul-result
 overflow_mul-result t c =
     let many : 1 < c.args.most =
     elim c.else-most-eq1.branch [
-      | else-most-eq1-via-then-most-eq1+else-first-top w ↦ omega arith
-      | else-most-eq1-via-else-most-eq1 w ↦ omega arith
+      | goal.else-most-eq1-via-then-most-eq1+else-first-top w ↦ omega arith
+      | goal.else-most-eq1-via-else-most-eq1 w ↦ omega arith
     ] in
     omega (arith, limit_step (c.args.top + 1) c.args.most many, c.in_ok-high.ensures.bound)
 
@@ -45,8 +43,8 @@ pub overflow_add-result : goal.overflow_add-result
 overflow_add-result t c =
     let many : 1 < c.args.most =
     elim c.else-most-eq1.branch [
-      | else-most-eq1-via-then-most-eq1+else-first-top w ↦ omega arith
-      | else-most-eq1-via-else-most-eq1 w ↦ omega arith
+      | goal.else-most-eq1-via-then-most-eq1+else-first-top w ↦ omega arith
+      | goal.else-most-eq1-via-else-most-eq1 w ↦ omega arith
     ] in
     omega (
       arith,
@@ -59,8 +57,8 @@ pub returns-clause-bound : goal.returns-clause-bound
 returns-clause-bound t c =
     let many : 1 < c.args.most =
     elim c.else-most-eq1.branch [
-      | else-most-eq1-via-then-most-eq1+else-first-top w ↦ omega arith
-      | else-most-eq1-via-else-most-eq1 w ↦ omega arith
+      | goal.else-most-eq1-via-then-most-eq1+else-first-top w ↦ omega arith
+      | goal.else-most-eq1-via-else-most-eq1 w ↦ omega arith
     ] in
     omega (
       arith,
