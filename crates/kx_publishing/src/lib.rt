@@ -5,10 +5,10 @@
 //! What is published is the log to which the node's trace leads, as it is at the publish.
 #![tactic(auto)]
 
-mod desk;
 mod fault;
 mod node;
+mod published_machine;
 
-pub use desk::{Desk, marker_comes_right};
 pub use fault::PublishFault;
 pub use node::PublishedNode;
+pub use published_machine::{PublishedMachine, marker_comes_right};

@@ -5,8 +5,8 @@ ghost use Rattle.kx_message.specs.declared.message.Node.TheVariants as node;
 ghost use Rattle.kx_model.specs.PartitionNode.{empty_partition};
 ghost use Rattle.kx_nodes.specs.Replay.{name_of};
 
-use crate::desk::Desk;
 use crate::fault::PublishFault;
+use crate::published_machine::PublishedMachine;
 use kx_machine::{Input, Machine};
 use kx_message::Node as NodeName;
 use kx_nodes::{Finished, Made, NodeFault, Receipt};
@@ -18,7 +18,7 @@ use std::marker::Model;
 use std::sync::{Mutex, Wait};
 
 /// A machine that threads share, with the trace of what it took, and the writer's end of its log,
-/// if that is published. Steps and publishes are made under the node's own lock, as [`Desk`] makes
+/// if that is published. Steps and publishes are made under the node's own lock, as [`PublishedMachine`] makes
 /// them. Readers take no lock.
 ///
 /// Dropping a node waits for readers that are in its log, so whatever holds both drops the reader
@@ -26,7 +26,7 @@ use std::sync::{Mutex, Wait};
 #[derive(Drop)]
 pub struct PublishedNode<M: Machine, B: Made, J: Naming, R: Wait + Drop> {
     name: NodeName,
-    lock: Mutex<Desk<M, B, J, R>>,
+    lock: Mutex<PublishedMachine<M, B, J, R>>,
 }
 
 // What stays: its name.
@@ -47,11 +47,11 @@ impl<M: Machine, B: Made, J: Naming, R: Wait + Drop> PublishedNode<M, B, J, R> {
     {
         PublishedNode {
             name: made.name(),
-            lock: Mutex::new(Desk::new(alloc, made, machine)),
+            lock: Mutex::new(PublishedMachine::new(alloc, made, machine)),
         }
     }
 
-    /// An empty partition's node, whose log is published, as [`Desk::publishing`] makes it. At most
+    /// An empty partition's node, whose log is published, as [`PublishedMachine::publishing`] makes it. At most
     /// `readers` readers exist at a time.
     ///
     /// # Errors
@@ -72,10 +72,10 @@ impl<M: Machine, B: Made, J: Naming, R: Wait + Drop> PublishedNode<M, B, J, R> {
         ensures { IfOk result (λ n. n ≡ node.Partition opened.partition) }
     {
         let name = made.name();
-        let desk = Desk::publishing(rt, alloc, made, machine, opened, readers)?;
+        let machine = PublishedMachine::publishing(rt, alloc, made, machine, opened, readers)?;
         Ok(PublishedNode {
             name,
-            lock: Mutex::new(desk),
+            lock: Mutex::new(machine),
         })
     }
 
@@ -90,7 +90,7 @@ impl<M: Machine, B: Made, J: Naming, R: Wait + Drop> PublishedNode<M, B, J, R> {
     ///
     /// # Errors
     ///
-    /// As [`Desk::take`]. Then there was no step.
+    /// As [`PublishedMachine::take`]. Then there was no step.
     pub fn take(&self, rt: &R, input: Input) -> Result<Receipt, NodeFault>
         ensures { IfOk result (λ receipt. receipt.input ≡ input) }
     {
@@ -107,19 +107,19 @@ impl<M: Machine, B: Made, J: Naming, R: Wait + Drop> PublishedNode<M, B, J, R> {
     ///
     /// # Errors
     ///
-    /// As [`Desk::publish`]. Readers then see what they saw.
+    /// As [`PublishedMachine::publish`]. Readers then see what they saw.
     pub fn publish(&self, rt: &R) -> Result<Told<J>, PublishFault>
         ensures { IfOk result (λ told. node.Partition told.partition ≡ self.now) }
     {
-        let mut desk = self.lock.lock(rt);
-        let Some(partition) = desk.partition() else {
+        let mut machine = self.lock.lock(rt);
+        let Some(partition) = machine.partition() else {
             return Err(PublishFault::NoReader);
         };
         // Never so, since the log of this partition was opened for it.
         if self.name != NodeName::Partition(partition) {
             return Err(PublishFault::NoReader);
         }
-        desk.publish()
+        machine.publish()
     }
 
     /// A reader of the published log, which knows of the publishes so far. It may go to any thread,
@@ -127,7 +127,7 @@ impl<M: Machine, B: Made, J: Naming, R: Wait + Drop> PublishedNode<M, B, J, R> {
     ///
     /// # Errors
     ///
-    /// As [`Desk::reader`].
+    /// As [`PublishedMachine::reader`].
     pub fn reader(&self, rt: &R) -> Result<PageReader<J>, PublishFault>
         ensures { IfOk result (λ reader. node.Partition reader.partition ≡ self.now) }
     {

@@ -5,15 +5,15 @@
 //! server runs for as long as it likes.
 #![tactic(auto)]
 
-mod desk;
 mod growing;
 mod logging;
 mod machine;
 mod node;
 mod opened;
+mod served_machine;
 
-pub use desk::{Desk, Served};
 pub use logging::Logging;
 pub use machine::BrokerMachine;
 pub use node::ServedNode;
 pub use opened::wrote_itself;
+pub use served_machine::{Served, ServedMachine};

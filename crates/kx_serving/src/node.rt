@@ -6,8 +6,8 @@ ghost use Rattle.kx_nodes.specs.Replay.{name_of};
 ghost use Rattle.kx_publishing.specs.Publishing.{WroteItself};
 ghost use Rattle.kx_serving.specs.Serving.{IsAnswer};
 
-use crate::desk::{Desk, Served};
 use crate::logging::Logging;
+use crate::served_machine::{Served, ServedMachine};
 use kx_machine::Input;
 use kx_message::Node as NodeName;
 use kx_published::book::{Naming, Opened};
@@ -18,14 +18,14 @@ use std::marker::Model;
 use std::sync::{Mutex, Wait};
 
 /// A machine that threads share, and the writer's end of its log, if that is published. Steps are
-/// made under the node's own lock, as [`Desk`] makes them. Readers take no lock.
+/// made under the node's own lock, as [`ServedMachine`] makes them. Readers take no lock.
 ///
 /// Dropping a node waits for readers that are in its log, so whatever holds both drops the reader
 /// first.
 #[derive(Drop)]
 pub struct ServedNode<M: Logging, J: Naming, R: Wait + Drop> {
     name: NodeName,
-    lock: Mutex<Desk<M, J, R>>,
+    lock: Mutex<ServedMachine<M, J, R>>,
 }
 
 // What stays: its name.
@@ -45,11 +45,11 @@ impl<M: Logging, J: Naming, R: Wait + Drop> ServedNode<M, J, R> {
     {
         ServedNode {
             name,
-            lock: Mutex::new(Desk::new(machine)),
+            lock: Mutex::new(ServedMachine::new(machine)),
         }
     }
 
-    /// A partition's node, whose log is published, as [`Desk::publishing`] makes it. At most
+    /// A partition's node, whose log is published, as [`ServedMachine::publishing`] makes it. At most
     /// `readers` readers exist at a time.
     ///
     /// # Errors
@@ -69,10 +69,10 @@ impl<M: Logging, J: Naming, R: Wait + Drop> ServedNode<M, J, R> {
         ensures { IfOk result (λ n. n ≡ node.Partition opened.partition) }
     {
         let name = NodeName::Partition(opened.partition);
-        let desk = Desk::publishing(rt, alloc, machine, opened, readers)?;
+        let machine = ServedMachine::publishing(rt, alloc, machine, opened, readers)?;
         Ok(ServedNode {
             name,
-            lock: Mutex::new(desk),
+            lock: Mutex::new(machine),
         })
     }
 
@@ -83,7 +83,7 @@ impl<M: Logging, J: Naming, R: Wait + Drop> ServedNode<M, J, R> {
         self.name
     }
 
-    /// One step and a publish of the log that it left, as [`Desk::take`] makes them. Waits until no
+    /// One step and a publish of the log that it left, as [`ServedMachine::take`] makes them. Waits until no
     /// other thread makes one here.
     ///
     /// A reader that stays inside a published log makes the second publish after it wait, under the
@@ -91,7 +91,7 @@ impl<M: Logging, J: Naming, R: Wait + Drop> ServedNode<M, J, R> {
     ///
     /// # Errors
     ///
-    /// As [`Desk::take`]. Then there was no step.
+    /// As [`ServedMachine::take`]. Then there was no step.
     pub fn take(&self, rt: &R, input: &Input) -> Result<Served, AllocError>
         ensures { IfOk result (λ served. IsAnswer (input_of input.now) served.taken) }
     {
@@ -103,7 +103,7 @@ impl<M: Logging, J: Naming, R: Wait + Drop> ServedNode<M, J, R> {
     ///
     /// # Errors
     ///
-    /// As [`Desk::reader`].
+    /// As [`ServedMachine::reader`].
     pub fn reader(&self, rt: &R) -> Result<PageReader<J>, PublishFault>
         ensures { IfOk result (λ reader. node.Partition reader.partition ≡ self.now) }
     {

@@ -12,7 +12,7 @@ use kx_message::PartitionId;
 use kx_published::opened::is_written;
 
 /// Whether a machine whose log was opened wrote that itself, so that it may be
-/// [published](crate::Desk::publishing): whether the log is stored as a partition writes one, as
+/// [published](crate::ServedMachine::publishing): whether the log is stored as a partition writes one, as
 /// [`is_written`] finds. The machine stands for a partition that has parked nothing.
 pub fn wrote_itself<M: Logging>(partition: PartitionId, machine: &M) -> bool
     requires stands { M.stands (AtPartition partition (opened_partition (M.log machine.now)))
