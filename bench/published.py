@@ -1,10 +1,10 @@
 #!/usr/bin/env python3
 """Pages a second of a log that grows meanwhile: published.py [SECONDS].
 
-One thread puts batches of one record of 64 bytes and publishes each at once, while 1, 2 and 4 others
-take pages of 64 KiB of the published log; then the same with the log under a lock, which each
-reader takes for its page and the writer for each put. Each is done with twice as many puts until it
-takes SECONDS (2), or there are 800,000 puts. It runs crates/kx_cases_published_run, which `rt run`
+One thread puts batches of one record of 64 bytes and publishes each at once, while 1, 2 and 4
+others take pages of 64 KiB of the published log; then the same with the log under a lock, which
+each reader takes for its page and the writer for each put. Each is done with twice as many puts
+until it takes SECONDS (2), or there are 800,000 puts. It runs crates/kx_cases_run, which `rt run`
 there proves and builds.
 """
 import os
@@ -15,7 +15,7 @@ import time
 
 PROGRAM = os.path.join(
     os.path.dirname(os.path.abspath(__file__)),
-    "../crates/kx_cases_published_run/out/kx_cases_published_run",
+    "../crates/kx_cases_run/out/kx_cases_run",
 )
 SECONDS = float(sys.argv[1]) if len(sys.argv) > 1 else 2.0
 MOST_PUTS = 800_000

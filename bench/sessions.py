@@ -1,5 +1,5 @@
 #!/usr/bin/env python3
-"""Tries the sessions of crates/kx_cases_server_run/data against a program: NAME.session has to tell
+"""Tries the sessions of crates/kx_cases_run/data/server against a program: NAME.session has to tell
 NAME.out.
 
     sessions.py PROGRAM
@@ -22,7 +22,7 @@ import time
 from frames import connect, next_frame
 
 HERE = os.path.dirname(os.path.abspath(__file__))
-DATA = os.path.join(HERE, "..", "crates", "kx_cases_server_run", "data")
+DATA = os.path.join(HERE, "..", "crates", "kx_cases_run", "data", "server")
 
 
 class Session:

@@ -10,6 +10,7 @@
 pub use fault::StepFault;
 pub use lines::{Line, read_line};
 pub use runs::Runs;
+pub use script::{Script, judge_script, tell};
 pub use subject::Subject;
 pub use tally::{Tally, try_cases};
 pub use telling::{
@@ -20,6 +21,7 @@ pub use texts::Texts;
 mod fault;
 mod lines;
 mod runs;
+mod script;
 mod subject;
 mod tally;
 mod telling;

@@ -9,7 +9,7 @@ use std::alloc::Global;
 
 /// A client, once it is made.
 #[derive(Drop)]
-pub struct ClientCases {
+pub(crate) struct ClientCases {
     alloc: Global,
     client: Option<ProducerClient>,
 }

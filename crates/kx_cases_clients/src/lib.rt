@@ -1,6 +1,7 @@
 //! Cases of clients (`kx_client`).
 #![tactic(auto)]
 
-pub use client::ClientCases;
+pub use files::try_clients;
 
 mod client;
+mod files;

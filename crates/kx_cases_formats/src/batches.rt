@@ -17,7 +17,7 @@ const TOLD: usize = 32;
 
 /// The batch that a case makes.
 #[derive(Drop)]
-pub struct BatchCases {
+pub(crate) struct BatchCases {
     alloc: Global,
     builder: BatchBuilder,
 }

@@ -12,7 +12,7 @@ use std::alloc::Global;
 
 /// The stream of a case.
 #[derive(Drop)]
-pub struct FrameCases {
+pub(crate) struct FrameCases {
     alloc: Global,
     frames: Frames,
 }

@@ -2,13 +2,12 @@
 //! (`kx_wire`), and record batches (`kx_batch`).
 #![tactic(auto)]
 
-pub use batches::BatchCases;
-pub use frames::{FrameCases, message_of};
-pub use numbers::NumberCases;
-pub use values::ValueCases;
+pub use files::try_formats;
+pub use frames::message_of;
 
 mod batches;
 mod conversions;
+mod files;
 mod frames;
 mod numbers;
 mod values;

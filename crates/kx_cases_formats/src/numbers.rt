@@ -13,7 +13,7 @@ use std::fmt::Display;
 
 /// What a case has written so far.
 #[derive(Drop)]
-pub struct NumberCases {
+pub(crate) struct NumberCases {
     alloc: Global,
     written: Vec<u8>,
 }

@@ -15,7 +15,7 @@ use std::str;
 
 /// What a case keeps by transactional ids, by producers and by groups.
 #[derive(Drop)]
-pub struct ValueCases {
+pub(crate) struct ValueCases {
     alloc: Global,
     counts: BTreeMap<TxnId, u64>,
     lasts: BTreeMap<ProducerId, u64>,

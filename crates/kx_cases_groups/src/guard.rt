@@ -10,7 +10,7 @@ use std::alloc::Global;
 
 /// The parked requests of a case.
 #[derive(Drop)]
-pub struct GuardCases {
+pub(crate) struct GuardCases {
     alloc: Global,
     guard: Guard,
 }

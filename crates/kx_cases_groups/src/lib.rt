@@ -3,10 +3,9 @@
 //! (`kx_group`).
 #![tactic(auto)]
 
-pub use groups::GroupCases;
-pub use guard::GuardCases;
-pub use offsets::OffsetCases;
+pub use files::try_groups;
 
+mod files;
 mod groups;
 mod growth;
 mod guard;

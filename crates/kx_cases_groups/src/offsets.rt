@@ -10,7 +10,7 @@ use std::alloc::{AllocError, Global};
 
 /// Records of the offsets partition: no step leaves anything.
 #[derive(Drop)]
-pub struct OffsetCases {
+pub(crate) struct OffsetCases {
     alloc: Global,
 }
 

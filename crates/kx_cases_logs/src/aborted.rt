@@ -9,7 +9,7 @@ use std::alloc::Global;
 
 /// The index of a case.
 #[derive(Drop)]
-pub struct AbortedCases {
+pub(crate) struct AbortedCases {
     alloc: Global,
     index: AbortedIndex,
 }

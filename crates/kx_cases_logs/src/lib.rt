@@ -3,15 +3,11 @@
 //! the transaction coordinator (`kx_txnlog`).
 #![tactic(auto)]
 
-pub use aborted::AbortedCases;
-pub use entries::EntryCases;
-pub use logs::LogCases;
-pub use open::OpenCases;
-pub use producers::ProducerCases;
-pub use txnlogs::TxnLogCases;
+pub use files::try_logs;
 
 mod aborted;
 mod entries;
+mod files;
 mod logs;
 mod open;
 mod producers;

@@ -12,7 +12,7 @@ use std::alloc::Global;
 
 /// The log of a case.
 #[derive(Drop)]
-pub struct LogCases {
+pub(crate) struct LogCases {
     alloc: Global,
     log: Option<PartitionLog<FailingStore>>,
 }

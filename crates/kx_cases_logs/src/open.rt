@@ -10,7 +10,7 @@ use std::alloc::Global;
 
 /// The transactions that are open in a case.
 #[derive(Drop)]
-pub struct OpenCases {
+pub(crate) struct OpenCases {
     alloc: Global,
     open: OpenTxns,
 }

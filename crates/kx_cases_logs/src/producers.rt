@@ -9,7 +9,7 @@ use std::alloc::Global;
 
 /// The producers of a case.
 #[derive(Drop)]
-pub struct ProducerCases {
+pub(crate) struct ProducerCases {
     alloc: Global,
     producers: Producers,
 }

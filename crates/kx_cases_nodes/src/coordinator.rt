@@ -19,7 +19,7 @@ type Running = Coordinator<FaultStore<MemStore>>;
 
 /// A coordinator, or what a refused opening left of its store.
 #[derive(Drop)]
-pub struct CoordinatorNode {
+pub(crate) struct CoordinatorNode {
     alloc: Global,
     running: Option<Running>,
     left: Option<FaultStore<MemStore>>,

@@ -8,7 +8,7 @@ use std::str;
 
 /// What was printed of the bytes that were dumped last, and how many of its lines were told.
 #[derive(Drop)]
-pub struct Dumps {
+pub(crate) struct Dumps {
     alloc: Global,
     printed: Vec<u8>,
     told: usize,

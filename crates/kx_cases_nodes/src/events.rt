@@ -19,7 +19,7 @@ type Local = LocalWorld<Prefixed>;
 
 /// The world of a case, once it is made, and the events that are yet to happen in it.
 #[derive(Drop)]
-pub struct WorldEvents {
+pub(crate) struct WorldEvents {
     alloc: Global,
     world: Option<Local>,
     events: Vec<Event<Prefixed>>,

@@ -15,7 +15,7 @@ type Prefixing = Processor<Prefixed>;
 
 /// The processor of a case, once it is made.
 #[derive(Drop)]
-pub struct ImageCases {
+pub(crate) struct ImageCases {
     alloc: Global,
     processor: Option<Prefixing>,
 }

@@ -2,18 +2,13 @@
 //! and the text of scripts and dumps.
 #![tactic(auto)]
 
-pub use coordinator::CoordinatorNode;
-pub use dump::Dumps;
-pub use events::WorldEvents;
-pub use images::ImageCases;
+pub use files::try_nodes;
 pub use pair::try_pair;
-pub use partition::PartitionNode;
-pub use replies::Replies;
-pub use scripts::Scripts;
 
 mod coordinator;
 mod dump;
 mod events;
+mod files;
 mod images;
 mod lines;
 mod pair;

@@ -1,12 +1,12 @@
 //! A script, and what it has to write.
 ghost use Rattle.std.specs.Prelude.{◌≡◌, ◌≤◌, IfOk};
 
-use kx_cases::Tally;
+use kx_cases::{Script, Tally, tell};
 use kx_script::run_script;
 use kx_text::ScriptFault;
 use std::alloc::{AllocError, Global};
+use std::io;
 use std::rt::Files;
-use std::{fs, io};
 
 // Whether what has to be written ends in the bad line of this number.
 fn ends_badly(alloc: Global, wanted: &str, number: u64) -> Result<bool, AllocError> {
@@ -30,27 +30,11 @@ fn is_right(alloc: Global, script: &str, wanted: &str) -> Result<bool, AllocErro
     }
 }
 
-// The text of the file NAME.KIND.
-fn read(rt: &(impl Files + AllocGlobal), name: &str, kind: &str) -> io::Result<String> {
-    fs::read_to_string(rt, format!(in rt.alloc(); "{name}.{kind}")?)
-}
-
-// Tells whether the script of this name wrote what it had to.
-fn tell(rt: &impl Print, name: &str, is_right: bool) -> io::Result<()> {
-    let told = if is_right { "ok" } else { "FAILED" };
-    println!(rt; "{told} {name}")
-}
-
 /// Runs the script NAME.kx, which has to write NAME.out, and prints `ok NAME` or `FAILED NAME`.
 pub fn try_pair(rt: &(impl Files + Print + AllocGlobal), name: &str) -> io::Result<Tally>
     ensures { IfOk result (λ tally. (tally.tried ≡ 1) × (tally.failed ≤ 1)) }
 {
-    let script = read(rt, name, "kx")?;
-    let wanted = read(rt, name, "out")?;
-    let is_right = is_right(rt.alloc(), script.as_str(), wanted.as_str())?;
-    tell(rt, name, is_right)?;
-    Ok(Tally {
-        tried: 1,
-        failed: u64::from(!is_right),
-    })
+    let script = Script::read(rt, name, "kx")?;
+    let (text, wanted) = (script.text.as_str(), script.wanted.as_str());
+    tell(rt, name, is_right(rt.alloc(), text, wanted)?)
 }

@@ -10,7 +10,7 @@ use std::mem;
 
 /// A partition, once it is open.
 #[derive(Drop)]
-pub struct PartitionNode {
+pub(crate) struct PartitionNode {
     alloc: Global,
     kept: Option<Kept>,
 }

@@ -12,7 +12,7 @@ use std::mem;
 
 /// The reply that came.
 #[derive(Drop)]
-pub struct Replies {
+pub(crate) struct Replies {
     alloc: Global,
     reply: Option<Message>,
 }

@@ -11,7 +11,7 @@ use std::io::BufRead;
 
 /// Nothing is kept between two scripts.
 #[derive(Drop)]
-pub struct Scripts {
+pub(crate) struct Scripts {
     alloc: Global,
 }
 

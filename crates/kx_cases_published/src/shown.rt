@@ -11,7 +11,7 @@ ghost use Rattle.kx_model.specs.PartitionNode.{empty_partition};
 use crate::locked::compare;
 use crate::session::Session;
 use kx_broker::PartitionMachine;
-use kx_cases::{StepFault, Tally, value};
+use kx_cases::{Script, StepFault, Tally, judge_script, value};
 use kx_log::MemStore;
 use kx_machine::Making;
 use kx_message::PartitionId;
@@ -19,11 +19,11 @@ use kx_nodes::Locked;
 use kx_published::book::{Naming, Opened};
 use kx_publishing::PublishedNode;
 use std::alloc::{AllocError, Global};
+use std::io;
 use std::marker::Brand;
 use std::rt::Files;
 use std::sync::Wait;
 use std::thread::Threads;
-use std::{fs, io};
 
 // The server of a partition, as it is made, with an empty log in memory. The offsets partition's is
 // another one.
@@ -123,14 +123,6 @@ fn told<R: Threads + Wait + Copy + Send + 'static>(
     }
 }
 
-// Tells what came in place of what is wanted.
-fn tell_other(rt: &impl Print, told: Result<String, StepFault>) -> io::Result<()> {
-    match told {
-        Ok(told) => print!(rt; "{told}"),
-        Err(fault) => println!(rt; "{fault}"),
-    }
-}
-
 /// Carries out the script NAME.shown, which has to tell NAME.out, and prints `ok NAME` or
 /// `FAILED NAME`.
 pub fn try_shown<R: Files + Print + AllocGlobal + Threads + Wait + Copy + Send + 'static>(
@@ -139,19 +131,7 @@ pub fn try_shown<R: Files + Print + AllocGlobal + Threads + Wait + Copy + Send +
 ) -> io::Result<Tally>
     ensures { IfOk result (λ tally. (tally.tried ≡ 1) × (tally.failed ≤ 1)) }
 {
-    let alloc = rt.alloc();
-    let script = fs::read_to_string(rt, format!(in alloc; "{name}.shown")?)?;
-    let wanted = fs::read_to_string(rt, format!(in alloc; "{name}.out")?)?;
-    let told = told(*rt, alloc, script);
-    let is_right = matches!(&told, Ok(told) if told.as_str() == wanted.as_str());
-    if is_right {
-        println!(rt; "ok {name}")?;
-    } else {
-        println!(rt; "FAILED {name}")?;
-        tell_other(rt, told)?;
-    }
-    Ok(Tally {
-        tried: 1,
-        failed: u64::from(!is_right),
-    })
+    let Script { text, wanted } = Script::read(rt, name, "shown")?;
+    let told = told(*rt, rt.alloc(), text);
+    judge_script(rt, name, wanted.as_str(), told)
 }

@@ -1,17 +1,17 @@
 //! Demonstrations, and what each has to print.
 ghost use Rattle.std.specs.Prelude.{◌≡◌, ◌≤◌, IfOk};
 
-use kx_cases::{StepFault, Tally, value};
+use kx_cases::{Script, StepFault, Tally, judge_script, value};
 use kx_demo::demo;
 use kx_play::{PlayOptions, Records, WorkerCount};
 use kx_relay::{Holding, Losses};
 use std::alloc::Global;
 use std::fs::{File, Files};
+use std::io;
 use std::net::{Net, TcpListener, TcpStream};
 use std::sync::Wait;
 use std::thread::Threads;
 use std::time::Clock;
-use std::{fs, io};
 
 // What a demonstration is asked for, as a line has it.
 fn options_in(alloc: Global, line: &str) -> Result<PlayOptions, StepFault> {
@@ -86,27 +86,7 @@ pub fn try_demo<
 >(rt: &R, name: &str) -> io::Result<Tally>
     ensures { IfOk result (λ tally. (tally.tried ≡ 1) × (tally.failed ≤ 1)) }
 {
-    let alloc = rt.alloc();
-    let asked = fs::read_to_string(rt, format!(in alloc; "{name}.demo")?)?;
-    let wanted = fs::read_to_string(rt, format!(in alloc; "{name}.out")?)?;
-    let told = played(rt, asked.as_str().trim_end());
-    let is_right = matches!(&told, Ok(told) if told.as_str() == wanted.as_str());
-    if is_right {
-        println!(rt; "ok {name}")?;
-    } else {
-        println!(rt; "FAILED {name}")?;
-        tell_other(rt, told)?;
-    }
-    Ok(Tally {
-        tried: 1,
-        failed: u64::from(!is_right),
-    })
-}
-
-// Tells what came in place of what is wanted.
-fn tell_other(rt: &impl Print, told: Result<String, StepFault>) -> io::Result<()> {
-    match told {
-        Ok(told) => print!(rt; "{told}"),
-        Err(fault) => println!(rt; "{fault}"),
-    }
+    let Script { text, wanted } = Script::read(rt, name, "demo")?;
+    let told = played(rt, text.as_str().trim_end());
+    judge_script(rt, name, wanted.as_str(), told)
 }

@@ -26,13 +26,6 @@ use std::sync::Wait;
 use std::thread::Threads;
 use std::time::Clock;
 
-/// What a session told, and why it ended before its last line, if it did.
-#[derive(Drop)]
-pub(crate) struct Told {
-    pub(crate) text: String,
-    pub(crate) ended: Result<(), StepFault>,
-}
-
 /// A session: the server, if one runs, its port, its clients, and what is told.
 #[derive(Drop)]
 pub(crate) struct Session<R: Drop> {
@@ -204,12 +197,12 @@ where
         Ok(())
     }
 
-    /// Takes all steps of a session, up to one that can't be taken.
-    pub(crate) fn run(mut self, session: &str) -> Told {
-        let ended = self.take_all(session);
-        Told {
-            text: self.told,
-            ended,
+    /// Takes all steps of a session, up to one that can't be taken, and gives what they tell. The
+    /// fault of a step is told last.
+    pub(crate) fn run(mut self, session: &str) -> Result<String, StepFault> {
+        if let Err(fault) = self.take_all(session) {
+            writeln!(self.told, "{fault}")?;
         }
+        Ok(self.told)
     }
 }

@@ -16,7 +16,7 @@ type Server = PartitionMachine<MemStore>;
 
 /// The server of a case, once a stream came to it.
 #[derive(Drop)]
-pub struct StreamCases {
+pub(crate) struct StreamCases {
     alloc: Global,
     server: Option<Server>,
 }

@@ -21,7 +21,7 @@ use crate::audits::{Found, committed, double, exchange, judge, leave_out, node_n
 use crate::nodes::{Served, add_nodes, add_twin, traces_of};
 use crate::serving::{Shift, serve};
 use crate::turns::tell_turns;
-use kx_cases::{StepFault, Tally, value};
+use kx_cases::{Script, StepFault, Tally, judge_script, value};
 use kx_message::PartitionId;
 use kx_nodes::Receipt;
 use kx_script::order_in;
@@ -29,7 +29,7 @@ use std::alloc::{AllocError, Global};
 use std::rt::Files;
 use std::sync::{Arc, Wait};
 use std::thread::Threads;
-use std::{fs, io, mem};
+use std::{io, mem};
 
 // A run: its nodes, the receipts of its steps and those of the run before, and what is told.
 #[derive(Drop)]
@@ -180,14 +180,6 @@ fn told<R: Threads + Wait + Copy + Send + 'static>(
     Ok(session.told)
 }
 
-// Tells what came in place of what is wanted.
-fn tell_other(rt: &impl Print, told: Result<String, StepFault>) -> io::Result<()> {
-    match told {
-        Ok(told) => print!(rt; "{told}"),
-        Err(fault) => println!(rt; "{fault}"),
-    }
-}
-
 /// Carries out the script NAME.served, which has to tell NAME.out, and prints `ok NAME` or
 /// `FAILED NAME`.
 pub fn try_served<R: Files + Print + AllocGlobal + Threads + Wait + Copy + Send + 'static>(
@@ -196,19 +188,7 @@ pub fn try_served<R: Files + Print + AllocGlobal + Threads + Wait + Copy + Send 
 ) -> io::Result<Tally>
     ensures { IfOk result (λ tally. (tally.tried ≡ 1) × (tally.failed ≤ 1)) }
 {
-    let alloc = rt.alloc();
-    let script = fs::read_to_string(rt, format!(in alloc; "{name}.served")?)?;
-    let wanted = fs::read_to_string(rt, format!(in alloc; "{name}.out")?)?;
-    let told = told(*rt, alloc, script.as_str());
-    let is_right = matches!(&told, Ok(told) if told.as_str() == wanted.as_str());
-    if is_right {
-        println!(rt; "ok {name}")?;
-    } else {
-        println!(rt; "FAILED {name}")?;
-        tell_other(rt, told)?;
-    }
-    Ok(Tally {
-        tried: 1,
-        failed: u64::from(!is_right),
-    })
+    let script = Script::read(rt, name, "served")?;
+    let told = told(*rt, rt.alloc(), script.text.as_str());
+    judge_script(rt, name, script.wanted.as_str(), told)
 }

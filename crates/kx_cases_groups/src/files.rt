@@ -1,0 +1,31 @@
+//! Which of these cases a file has, by the front of its name.
+ghost use Rattle.std.specs.Prelude.{◌≤◌, IfOk, IfSome};
+
+use crate::groups::GroupCases;
+use crate::guard::GuardCases;
+use crate::offsets::OffsetCases;
+use kx_cases::{Tally, try_cases};
+use std::alloc::Global;
+use std::io;
+
+/// Tries the cases of a file whose name begins so, up to its first `_`: `offsets`, `guard` or
+/// `groups`. None where they are of anything else.
+///
+/// # Errors
+///
+/// Where what came can't be printed, or for want of memory.
+pub fn try_groups(
+    rt: &(impl Print + AllocGlobal),
+    front: &str,
+    text: &str,
+) -> io::Result<Option<Tally>>
+    ensures { IfOk result (λ found. IfSome found (λ tally. tally.failed ≤ tally.tried)) }
+{
+    let tally = match front {
+        "offsets" => try_cases::<OffsetCases>(rt, text)?,
+        "guard" => try_cases::<GuardCases>(rt, text)?,
+        "groups" => try_cases::<GroupCases>(rt, text)?,
+        _ => return Ok(None),
+    };
+    Ok(Some(tally))
+}
