@@ -21,8 +21,13 @@ use kx_cases_published::try_shown;
 use kx_cases_server::{try_demo, try_session};
 use kx_cases_streams::try_streams;
 use kx_cases_threads::try_served;
+use std::env::Env;
+use std::fs::{File, Files};
+use std::net::{Net, TcpListener, TcpStream};
 use std::process::ExitCode;
-use std::rt::Files;
+use std::sync::Wait;
+use std::thread::Threads;
+use std::time::Clock;
 use std::{env, fs, io};
 
 // Tries cases of what the front of their file's name says. Cases of anything else fail.
@@ -60,24 +65,38 @@ fn try_file(rt: &(impl Files + Print + AllocGlobal), name: &str) -> io::Result<T
     try_front(rt, name.split('_').next().unwrap_or(""), text.as_str())
 }
 
-// Tries what an argument names. A file of another ending fails.
-fn try_argument(rt: &HostRuntime, path: &str) -> io::Result<Tally> {
-    match path.rsplit_once('.') {
-        Some((name, "cases")) => try_file(rt, name),
-        Some((name, "kx")) => try_pair(rt, name),
-        Some((name, "served")) => try_served(rt, name),
-        Some((name, "shown")) => try_shown(rt, name),
-        Some((name, "session")) => try_session(rt, name),
-        Some((name, "demo")) => try_demo(rt, name),
-        Some(_) | None => tell(rt, path, false),
-    }
-}
-
-// Tries what the arguments name.
-fn try_arguments(rt: &HostRuntime) -> io::Result<Tally> {
+// Tries what the arguments name. A file of another ending fails.
+fn try_arguments<
+    R: Env
+        + Files<File = File>
+        + Print
+        + AllocGlobal
+        + Eprint
+        + Net<Listener = TcpListener, Stream = TcpStream>
+        + Threads
+        + Wait
+        + Clock
+        + Copy
+        + Send
+        + Sync
+        + Drop
+        + 'static,
+>(rt: &R) -> io::Result<Tally>
+where
+    R::Dir: Send,
+{
     let mut tally = Tally::none();
     for path in env::args(rt)?.skip(1) {
-        tally = tally.and(try_argument(rt, path.as_str())?);
+        let tried = match path.rsplit_once('.') {
+            Some((name, "cases")) => try_file(rt, name)?,
+            Some((name, "kx")) => try_pair(rt, name)?,
+            Some((name, "served")) => try_served(rt, name)?,
+            Some((name, "shown")) => try_shown(rt, name)?,
+            Some((name, "session")) => try_session(rt, name)?,
+            Some((name, "demo")) => try_demo(rt, name)?,
+            Some(_) | None => tell(rt, path.as_str(), false)?,
+        };
+        tally = tally.and(tried);
     }
     Ok(tally)
 }
