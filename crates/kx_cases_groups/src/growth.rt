@@ -56,7 +56,7 @@ fn made(groups: &mut Kept, commit: &TxnOffsetCommit, call: &Call<'_>) -> Result<
         }
         Call::Reload => match groups.reload() {
             Ok(content) => {
-                let _ = groups.install(content);
+                drop(groups.install(content));
                 Ok(true)
             }
             Err(fault) if fault == OpenFault::Memory => Err(AllocError),

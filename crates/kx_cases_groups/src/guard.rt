@@ -81,6 +81,21 @@ impl GuardCases {
         }
     }
 
+    // Whether those that are parked are these.
+    fn parked(&self, texts: &Texts, of: &str, frames: &[&str]) -> Result<String, StepFault> {
+        let held = known_request(self.alloc, texts, of)?.held();
+        let wanted = requests(self.alloc, texts, frames)?;
+        told_parked(self.alloc, self.guard.parked(held), wanted.as_slice())
+    }
+
+    // Takes out those that are parked, and tells whether they are these.
+    fn reply(&mut self, texts: &Texts, of: &str, frames: &[&str]) -> Result<String, StepFault> {
+        let held = known_request(self.alloc, texts, of)?.held();
+        let wanted = requests(self.alloc, texts, frames)?;
+        let taken = self.guard.reply(held);
+        told_parked(self.alloc, taken.as_slice(), wanted.as_slice())
+    }
+
     // A step that takes one frame.
     fn frame_step(&mut self, name: &str, frame: &[u8]) -> Result<String, StepFault> {
         match name {
@@ -102,17 +117,8 @@ impl Subject for GuardCases {
 
     fn answer(&mut self, texts: &Texts, words: &[&str]) -> Result<String, StepFault> {
         match words {
-            ["parked", of, frames @ ..] => {
-                let held = known_request(self.alloc, texts, of)?.held();
-                let wanted = requests(self.alloc, texts, frames)?;
-                told_parked(self.alloc, self.guard.parked(held), wanted.as_slice())
-            }
-            ["reply", of, frames @ ..] => {
-                let held = known_request(self.alloc, texts, of)?.held();
-                let wanted = requests(self.alloc, texts, frames)?;
-                let taken = self.guard.reply(held);
-                told_parked(self.alloc, taken.as_slice(), wanted.as_slice())
-            }
+            ["parked", of, frames @ ..] => self.parked(texts, of, frames),
+            ["reply", of, frames @ ..] => self.reply(texts, of, frames),
             [name, frame] => self.frame_step(name, texts.bytes(frame)?.as_slice()),
             _ => Err(StepFault::Unknown),
         }

@@ -79,6 +79,12 @@ fn commit(alloc: Global, frame: &[u8], batch: &[u8]) -> Result<String, StepFault
     Ok(told_same(alloc, text.as_slice(), batch)?)
 }
 
+// Whether a change of a group's members becomes this batch.
+fn changed(alloc: Global, fact: Fact, batch: &[u8]) -> Result<String, StepFault> {
+    let text = membership_batch(alloc, fact)?;
+    Ok(told_same(alloc, text.as_slice(), batch)?)
+}
+
 impl Subject for OffsetCases {
     fn new(alloc: Global) -> Self {
         OffsetCases { alloc }
@@ -91,15 +97,12 @@ impl Subject for OffsetCases {
                 says(self.alloc, batch.as_slice())
             }
             ["commit", frame, batch] => {
-                let (frame, batch) = (texts.bytes(frame)?, texts.bytes(batch)?);
-                commit(self.alloc, frame.as_slice(), batch.as_slice())
+                let batch = texts.bytes(batch)?;
+                commit(self.alloc, texts.bytes(frame)?.as_slice(), batch.as_slice())
             }
             [name, group, member, batch] => {
-                let member = ClientId::from(value::<u32>(member)?);
-                let fact = change(name, value(group)?, member)?;
-                let text = membership_batch(self.alloc, fact)?;
-                let batch = texts.bytes(batch)?;
-                Ok(told_same(self.alloc, text.as_slice(), batch.as_slice())?)
+                let fact = change(name, value(group)?, ClientId::from(value::<u32>(member)?))?;
+                changed(self.alloc, fact, texts.bytes(batch)?.as_slice())
             }
             _ => Err(StepFault::Unknown),
         }

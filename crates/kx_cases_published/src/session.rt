@@ -129,10 +129,15 @@ impl<
         node.reader(&self.rt).ok()
     }
 
+    // Takes a step, and tells its receipt.
+    fn step(&mut self, input: Input) -> Result<(), StepFault> {
+        let receipt = self.take(input)?;
+        tell_receipt(&mut self.told, &receipt)
+    }
+
     fn put(&mut self, words: &str) -> Result<(), StepFault> {
         let values = values_of(self.alloc, words)?;
-        let receipt = self.take(Input::Put(values))?;
-        tell_receipt(&mut self.told, &receipt)
+        self.step(Input::Put(values))
     }
 
     fn bring(&mut self, bytes: &str) -> Result<(), StepFault> {
@@ -142,8 +147,7 @@ impl<
             .feed(bytes.as_slice())
             .map_err(|_| StepFault::Unknown)?;
         for message in messages {
-            let receipt = self.take(Input::Deliver(message))?;
-            tell_receipt(&mut self.told, &receipt)?;
+            self.step(Input::Deliver(message))?;
         }
         Ok(())
     }
@@ -214,7 +218,7 @@ impl<
     fn grow(&mut self, count: u64) -> Result<(), StepFault> {
         for _ in 0..count {
             let values = values_of(self.alloc, VALUE)?;
-            let _receipt = self.take(Input::Put(values))?;
+            drop(self.take(Input::Put(values))?);
             let _number = self.show()?;
         }
         Ok(())
@@ -251,20 +255,27 @@ impl<
         tell_pages(&mut self.told, seen.as_slice())
     }
 
+    // Carries out a line that names a reader.
+    fn call_reader(&mut self, words: &[&str]) -> Result<(), StepFault> {
+        match words {
+            ["reader", name] => self.add_reader(name),
+            ["drop", name] => self.drop_reader(name),
+            ["learn", name] => self.learn(name),
+            ["leave", name] => self.leave(name),
+            ["page", name, from, mode] => self.page(name, view_of(from, mode)?),
+            _ => Err(StepFault::Unknown),
+        }
+    }
+
     // Carries out a line in words of its own number.
     fn call(&mut self, words: &[&str]) -> Result<(), StepFault> {
         match words {
             ["bytes", name, "=", bytes] => self.texts.name(name, bytes),
             ["publish"] => self.publish(),
             ["finish"] => self.finish(),
-            ["reader", name] => self.add_reader(name),
-            ["drop", name] => self.drop_reader(name),
-            ["learn", name] => self.learn(name),
-            ["leave", name] => self.leave(name),
-            ["page", name, from, mode] => self.page(name, view_of(from, mode)?),
             ["race", readers, count] => self.race(value(readers)?, value(count)?),
             ["pages", readers, count] => self.pages(value(readers)?, value(count)?),
-            _ => Err(StepFault::Unknown),
+            _ => self.call_reader(words),
         }
     }
 

@@ -89,7 +89,7 @@ impl Session {
         let nodes = mem::replace(&mut self.nodes, Vec::new(self.alloc));
         let traces = traces_of(self.alloc, nodes)?;
         let (told, found) = judge(self.alloc, traces, self.receipts.as_slice())?;
-        self.found = found;
+        drop(mem::replace(&mut self.found, found));
         Ok(writeln!(self.told, "{told}")?)
     }
 
@@ -151,7 +151,8 @@ impl Session {
         }
         let words: Vec<&str> = shift.split(' ').collect(self.alloc)?;
         let shift = shift_of(words.as_slice())?;
-        self.receipts = serve(rt, self.alloc, self.nodes.as_slice(), shift, lines)?;
+        let receipts = serve(rt, self.alloc, self.nodes.as_slice(), shift, lines)?;
+        drop(mem::replace(&mut self.receipts, receipts));
         for line in behind.lines() {
             self.look(line)?;
         }
@@ -160,9 +161,10 @@ impl Session {
 
     // Sets the receipts of a run aside, and begins anew.
     fn go_on(&mut self) {
-        self.earlier = mem::replace(&mut self.receipts, Vec::new(self.alloc));
-        self.nodes = Vec::new(self.alloc);
-        self.found = None;
+        let receipts = mem::replace(&mut self.receipts, Vec::new(self.alloc));
+        drop(mem::replace(&mut self.earlier, receipts));
+        drop(mem::replace(&mut self.nodes, Vec::new(self.alloc)));
+        drop(self.found.take());
     }
 }
 
