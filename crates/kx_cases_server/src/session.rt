@@ -197,12 +197,10 @@ where
         Ok(())
     }
 
-    /// Takes all steps of a session, up to one that can't be taken, and gives what they tell. The
-    /// fault of a step is told last.
+    /// Takes all steps of a session, and gives what they tell; or the fault of the first one that
+    /// can't be taken.
     pub(crate) fn run(mut self, session: &str) -> Result<String, StepFault> {
-        if let Err(fault) = self.take_all(session) {
-            writeln!(self.told, "{fault}")?;
-        }
+        self.take_all(session)?;
         Ok(self.told)
     }
 }
