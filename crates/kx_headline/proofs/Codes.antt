@@ -1,5 +1,6 @@
 -- What is said of replies by their codes, and what an EndTxn holds.
-use Rattle.std.proofs.Common.{Option, Some, None}
+use Rattle.std.proofs.Common.{Option, Some, None, refl}
+use Rattle.std.specs.Prelude.{◌≢◌}
 use Rattle.std.specs.Bool.{⊤}
 use Rattle.kx_message.specs.declared.code.ErrorCode.{ErrorCode}
 use Rattle.kx_message.specs.declared.code.ErrorCode.TheVariants as code
@@ -16,6 +17,11 @@ WithNoError other A = ⊤
 pub with_no_error : {A B : Type 0} (c : ErrorCode) → (A → B) → WithNoError c A → WithNoError c B
 with_no_error code.NoError f a = f a
 with_no_error other f a = tt
+
+-- of another code nothing is said
+pub with_error : (c : ErrorCode) (A : Type 0) → c ≢ code.NoError → WithNoError c A
+with_error code.NoError A other = absurd (other refl)
+with_error c A other = tt
 
 -- a code that says nothing of a group's members
 abbrev pub OfNoGroup : ErrorCode → Type 0

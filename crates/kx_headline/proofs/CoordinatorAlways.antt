@@ -1,16 +1,18 @@
 -- Over every schedule: the coordinator's log is one that it may have written, and each message says
 -- what still stands of it.
-use Rattle.std.proofs.Common.{ℕ, cond, List, [], ◌++◌, Contains, All}
+use Rattle.std.proofs.Common.{ℕ, cond, List, [], ◌∷◌, ◌++◌, Contains, All}
 use Rattle.std.proofs.Common.{◌==◌}
 use Rattle.std.proofs.lemmas.Bool.{cond_both}
-use Rattle.std.proofs.lemmas.List.Elements.{All-append, All-contains, All-map, All-nil, All-push}
-use Rattle.std.proofs.lemmas.List.Elements.{All-weaker, Contains-append_left}
+use Rattle.std.proofs.lemmas.List.Elements.{All-append, All-cons, All-contains, All-map, All-nil}
+use Rattle.std.proofs.lemmas.List.Elements.{All-push, All-weaker, Contains-append_left}
 use Rattle.kx_message.specs.declared.message.Message.{Message}
 use Rattle.kx_model.specs.Client.{Client, new_client}
 use Rattle.kx_model.specs.Coordinator.{Note}
 use Rattle.kx_model.specs.CoordinatorNode.{Coordinated, notes_of}
 use Rattle.kx_model.specs.Headline.{Always}
+use Rattle.kx_model.specs.Open.{AlwaysOpen}
 use Rattle.kx_model.specs.World.{World, notes, start, with_client, with_coordinator}
+use Rattle.kx_model.proofs.Schedules.{closed_from_open}
 use Rattle.kx_headline.proofs.CoordinatorDoes.{CoordinatorOk, CoordinatorDoes, Out, Says}
 use Rattle.kx_headline.proofs.CoordinatorDoes.{does_ok, expires_does, ok_later, passes_does}
 use Rattle.kx_headline.proofs.CoordinatorDoes.{reminds_does, restarts_does, says_later, takes_does}
@@ -18,11 +20,11 @@ use Rattle.kx_headline.proofs.CoordinatorGrows
 use Rattle.kx_headline.proofs.CoordinatorGrows.{Grows, History, history_sound, note_grows}
 use Rattle.kx_headline.proofs.CoordinatorSound.{Sound}
 use Rattle.kx_headline.proofs.EventDoes.{CoordinatorTurn, ClientTurn, Turn, nobodys, coordinators}
-use Rattle.kx_headline.proofs.EventDoes.{partitions, clients, making, always, expires_now}
-use Rattle.kx_headline.proofs.EventDoes.{reminds_now}
+use Rattle.kx_headline.proofs.EventDoes.{partitions, clients, making, expires_now}
+use Rattle.kx_headline.proofs.EventDoes.{OpenTurn, always_open, arrives, inside, reminds_now}
 use Rattle.kx_laws.proofs.Membership.{find_tells}
 use Rattle.kx_headline.proofs.SentKinds.{IsClients, IsPartitions, WaitsForOwn, client_sends}
-use Rattle.kx_headline.proofs.SentKinds.{turn_sends}
+use Rattle.kx_headline.proofs.SentKinds.{requests_are, turn_sends}
 use Rattle.kx_headline.proofs.SentKinds
 
 pub record CoordinatorStands (w : World) : Type 0 where
@@ -145,8 +147,27 @@ stands_first count = record {
   says = All-nil (Says [] (notes (start count)));
 }
 
+-- a client's request arrives from outside
+pub stands_arrived : (w : World) (m : Message) → CoordinatorStands w → IsClients m
+    → CoordinatorStands (record w { sent = w.sent ++ m ∷ [] })
+stands_arrived w m stands kind = record {
+  coordinator = ok_later (up w.sent (m ∷ [])) stands.coordinator;
+  waiting = stands.waiting;
+  says = others_say w stands (m ∷ []) IsClients (clients_say (w.sent ++ m ∷ []) (notes w))
+      (All-cons IsClients m [] kind (All-nil IsClients));
+}
+
+stands_open_next : (w later : World) → CoordinatorStands w → OpenTurn w later
+    → CoordinatorStands later
+stands_open_next w later stands (inside x turn) = stands_next w later stands turn
+stands_open_next w later stands (arrives m asks fits) =
+    stands_arrived w m stands (requests_are m asks)
+
+pub coordinator_stands_open : AlwaysOpen CoordinatorStands
+coordinator_stands_open = always_open CoordinatorStands stands_first stands_open_next
+
 pub coordinator_stands_always : Always CoordinatorStands
-coordinator_stands_always = always CoordinatorStands stands_first stands_next
+coordinator_stands_always = closed_from_open CoordinatorStands coordinator_stands_open
 
 pub stands_sound : {w : World} → CoordinatorStands w → Sound (notes w)
 stands_sound stands = history_sound stands.coordinator.history

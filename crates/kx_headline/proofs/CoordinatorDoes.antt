@@ -27,7 +27,7 @@ use Rattle.kx_message.specs.Ranges.{spent_epoch}
 use Rattle.kx_message.specs.declared.outcome.Outcome.{Outcome}
 use Rattle.kx_model.specs.Coordinator.{Row, Note, CoordinatorEpoch, Allot, Written, State, Empty}
 use Rattle.kx_model.specs.Coordinator.{Ongoing, Prepare, Complete, coordinator_epoch, ends, next_id}
-use Rattle.kx_model.specs.Coordinator.{is, lists, row_of, rows}
+use Rattle.kx_model.specs.Coordinator.{is, lists, outcome_of, row_of, rows}
 use Rattle.kx_model.specs.CoordinatorNode.{Coordinator, Coordinated, Reply}
 use Rattle.kx_model.specs.CoordinatorNode.{coordinator_restarts, coordinator_takes, expires}
 use Rattle.kx_model.specs.CoordinatorNode.{expires_row, has_no_id, is_appended, notes_of}
@@ -39,11 +39,12 @@ use Rattle.kx_model.specs.Markers.{Answered, Settled, Ignored, Noted, Completes}
 use Rattle.kx_model.specs.Markers.{expire, greatest_epoch, is_answered, marker_message}
 use Rattle.kx_model.specs.Markers.{markers_after, markers_in, markers_of}
 use Rattle.kx_model.specs.Markers.{reopen, settle, without_row}
-use Rattle.kx_model.specs.Requests.{Answer, add, add_at, add_in, end_txn, init, is_old, is_own}
+use Rattle.kx_model.specs.Requests.{Answer, add, add_at, add_in, end_txn, held_after, init}
+use Rattle.kx_model.specs.Requests.{is_old, is_own}
 use Rattle.kx_model.specs.Requests.{is_prepared, or_answer, own_pair, refused_first, refuses}
 use Rattle.kx_model.specs.Requests.{repeats, with_added}
 use Rattle.kx_model.specs.Requests as requests
-use Rattle.kx_headline.proofs.Codes.{OfGiven, OfNext, OfNoGroup, WithNoError, of_given, of_next}
+use Rattle.kx_headline.proofs.Codes.{OfGiven, OfNext, OfNoGroup, WithNoError, of_next}
 use Rattle.kx_headline.proofs.Codes.{with_no_error}
 use Rattle.kx_headline.proofs.CoordinatorFollows
 use Rattle.kx_headline.proofs.CoordinatorFollows.{Follows}
@@ -72,13 +73,23 @@ pub record Marks (log : List Note) (partition : ℕ) (held : Held) (coordinator 
   pub listed : Contains row.partitions partition
   pub in_range : FitsSigned w32 coordinator
 
--- a row has the pair, and its owner is the client; or the id was allotted
-pub data Has (log : List Note) (client : ℕ) (held : Held) : Type 0 where
+-- a row of the transactional id has the pair, and its owner is the client; or, without one, the id
+-- was allotted
+pub data Has (log : List Note) (client : ℕ) (txn : Option (List ℕ)) (held : Held) : Type 0 where
   by_row : (r : Row) → Contains log (Written r) → r.owner ≡ client → held ≡ own_pair r
-      → Has log client held
-  by_allotment : Contains log (Allot held.id) → held.epoch ≡ 0 → Has log client held
+      → txn ≡ Some r.txn → Has log client txn held
+  by_allotment : Contains log (Allot held.id) → held.epoch ≡ 0 → txn ≡ None
+      → Has log client txn held
 
--- a row ends the transaction of an EndTxn that was sent, and gives the pair after it
+-- a pair that a client asked for
+pub record GivesFirst (sent : List Message) (log : List Note) (caller : Caller)
+    (held : Held) : Type 0 where
+  pub txn : Option (List ℕ)
+  pub timeout : ℕ
+  pub asked : Contains sent (the.InitProducerId caller txn timeout)
+  pub has : Has log caller.client txn held
+
+-- a row ends the transaction of an EndTxn that was sent, as that asks, and gives the pair after it
 pub record GivesNext (sent : List Message) (log : List Note) (caller : Caller)
     (held : Held) : Type 0 where
   pub txn : List ℕ
@@ -87,8 +98,11 @@ pub record GivesNext (sent : List Message) (log : List Note) (caller : Caller)
   pub asked : Contains sent (the.EndTxn caller txn ending outcome)
   pub row : Row
   pub written : Contains log (Written row)
+  pub its_txn : row.txn ≡ txn
   pub its_end : ends ending.id ending.epoch row ≡ true
   pub given : Gives row held
+  pub so : outcome_of row.state ≡ Some outcome
+  pub next : held ≡ held_after row
 
 -- what a message says for good of the coordinator's log
 abbrev pub Says : List Message → List Note → Message → Type 0
@@ -96,7 +110,7 @@ Says sent log (msg.WriteMarker it) =
     Marks log it.partition it.held it.coordinator_epoch it.outcome
 Says sent log (msg.AddReply it) =
     WithNoError it.code (Listed log it.partition it.held.id it.held.epoch) × OfNoGroup it.code
-Says sent log (msg.InitReply it) = OfGiven it.code it.held (Has log it.caller.client)
+Says sent log (msg.InitReply it) = OfNext it.code it.held (GivesFirst sent log it.caller)
 Says sent log (msg.EndReply it) =
     OfNext it.code it.held (GivesNext sent log it.caller)
 Says sent log m = ⊤
@@ -133,9 +147,11 @@ pub record Out (client : ℕ) (sent : List Message) (before log : List Note) (m 
 ------ what stands as more is sent, and the log grows
 
 has_later : (log log' : List Note) → ((note : Note) → Contains log note → Contains log' note)
-    → (client : ℕ) (held : Held) → Has log client held → Has log' client held
-has_later log log' on client held (by_row r w o e) = by_row r (on (Written r) w) o e
-has_later log log' on client held (by_allotment w e) = by_allotment (on (Allot held.id) w) e
+    → (client : ℕ) (txn : Option (List ℕ)) (held : Held) → Has log client txn held
+    → Has log' client txn held
+has_later log log' on client txn held (by_row r w o e t) = by_row r (on (Written r) w) o e t
+has_later log log' on client txn held (by_allotment w e t) =
+    by_allotment (on (Allot held.id) w) e t
 
 pub says_later : (sent later : List Message) (log log' : List Note)
     → ((m : Message) → Contains sent m → Contains later m)
@@ -161,7 +177,12 @@ says_later sent later log log' up on (msg.AddReply it) said = (
   said.1,
 )
 says_later sent later log log' up on (msg.InitReply it) said =
-    of_given it.code it.held (has_later log log' on it.caller.client) said
+    of_next it.code it.held (λ held s. record {
+      txn = s.txn;
+      timeout = s.timeout;
+      asked = up (the.InitProducerId it.caller s.txn s.timeout) s.asked;
+      has = has_later log log' on it.caller.client s.txn held s.has;
+    }) said
 says_later sent later log log' up on (msg.EndReply it) said =
     of_next it.code it.held (λ held s. record {
       txn = s.txn;
@@ -170,8 +191,11 @@ says_later sent later log log' up on (msg.EndReply it) said =
       asked = up (the.EndTxn it.caller s.txn s.ending s.outcome) s.asked;
       row = s.row;
       written = on (Written s.row) s.written;
+      its_txn = s.its_txn;
       its_end = s.its_end;
       given = s.given;
+      so = s.so;
+      next = s.next;
     }) said
 says_later sent later log log' up on m s = tt
 
@@ -375,29 +399,42 @@ module _ (sent : List Message) (co : Coordinator) (ok : CoordinatorOk sent co) w
 
   ------ requests
 
-  init_out : (caller : Caller) (entry : Option Note) (c : ErrorCode) (held : Option Held)
-      → (c ≡ code.NoError → InitSays (notes_of co) caller.client entry held)
+  init_out : (caller : Caller) (txn : Option (List ℕ)) (timeout : ℕ)
+      → Contains sent (the.InitProducerId caller txn timeout) → (entry : Option Note)
+      (c : ErrorCode) (held : Option Held)
+      → (c ≡ code.NoError → InitSays (notes_of co) caller.client txn entry held)
       → Out caller.client sent (notes_of co) (log_after (notes_of co) entry)
       (the.InitReply caller c held)
-  init_out caller entry code.NoError held h = by entry held (h refl)
+  init_out caller txn timeout m entry code.NoError held h = by entry held (h refl)
     where
       by : (entry : Option Note) (held : Option Held)
-          → InitSays (notes_of co) caller.client entry held
+          → InitSays (notes_of co) caller.client txn entry held
           → Out caller.client sent (notes_of co) (log_after (notes_of co) entry)
           (the.InitReply caller code.NoError held)
-      by _ x (owned entry r there same) = record {
-        says = by_row r there same refl;
+      by _ x (owned entry r there same its) = record {
+        says = record {
+          txn = txn;
+          timeout = timeout;
+          asked = m;
+          has = by_row r there same refl its;
+        };
         kind = init_reply;
         is_new = inl (r, there, refl);
         addressed = refl;
       }
-      by _ x allotted = record {
-        says = by_allotment (Contains-push (notes_of co) (Allot (next_id (notes_of co)))) refl;
+      by _ x (allotted without) = record {
+        says = record {
+          txn = txn;
+          timeout = timeout;
+          asked = m;
+          has = by_allotment (Contains-push (notes_of co) (Allot (next_id (notes_of co)))) refl
+              without;
+        };
         kind = init_reply;
         is_new = inr refl;
         addressed = refl;
       }
-  init_out caller entry c held h =
+  init_out caller txn timeout m entry c held h =
       record { says = tt; kind = init_reply; is_new = tt; addressed = refl }
 
   add_in_code : (clock : ℕ) (r : Row) (held : Held) (partition : ℕ) (st : State)
@@ -457,16 +494,17 @@ module _ (sent : List Message) (co : Coordinator) (ok : CoordinatorOk sent co) w
   end_out : (caller : Caller) (txn : List ℕ) (ending : Held) (outcome : Outcome)
       → Contains sent (the.EndTxn caller txn ending outcome) → (entry : Option Note)
       (c : ErrorCode) (held : Option Held)
-      → (c ≡ code.NoError → EndSays (notes_of co) ending entry held)
+      → (c ≡ code.NoError → EndSays (notes_of co) txn ending outcome entry held)
       → Out 0 sent (notes_of co) (log_after (notes_of co) entry)
       (the.EndReply caller c held)
   end_out caller txn ending outcome m entry code.NoError held h =
       by entry held (h refl)
     where
-      by : (entry : Option Note) (held : Option Held) → EndSays (notes_of co) ending entry held
+      by : (entry : Option Note) (held : Option Held)
+          → EndSays (notes_of co) txn ending outcome entry held
           → Out 0 sent (notes_of co) (log_after (notes_of co) entry)
           (the.EndReply caller code.NoError held)
-      by _ x (ended entry r given there its_end gives) = record {
+      by _ x (ended entry r given there its_txn its_end gives so next) = record {
         says = record {
           txn = txn;
           ending = ending;
@@ -474,8 +512,11 @@ module _ (sent : List Message) (co : Coordinator) (ok : CoordinatorOk sent co) w
           asked = m;
           row = r;
           written = there;
+          its_txn = its_txn;
           its_end = its_end;
           given = gives;
+          so = so;
+          next = next;
         };
         kind = end_reply;
         is_new = tt;
@@ -490,10 +531,10 @@ module _ (sent : List Message) (co : Coordinator) (ok : CoordinatorOk sent co) w
       (coordinator_takes co store (the.InitProducerId caller txn timeout))
   init_request_does store caller txn timeout m =
       let a : Answer = init (notes_of co) caller.client txn timeout in
-      replies_does caller.client store (InitSays (notes_of co) caller.client) a
+      replies_does caller.client store (InitSays (notes_of co) caller.client txn) a
       (the.InitReply caller)
       (init_does sent (notes_of co) caller timeout txn m)
-      (λ h. init_out caller a.note a.code a.held h)
+      (λ h. init_out caller txn timeout m a.note a.code a.held h)
       (record { says = tt; kind = init_reply; is_new = tt; addressed = refl })
 
   add_request_does : (store : Store) (txn : List ℕ) (held : Held) (partition : ℕ)
@@ -515,7 +556,7 @@ module _ (sent : List Message) (co : Coordinator) (ok : CoordinatorOk sent co) w
       (coordinator_takes co store (the.EndTxn caller txn held outcome))
   end_request_does store caller txn held outcome m =
       let a : Answer = end_txn (notes_of co) txn held outcome in
-      replies_does 0 store (EndSays (notes_of co) held) a (the.EndReply caller)
+      replies_does 0 store (EndSays (notes_of co) txn held outcome) a (the.EndReply caller)
       (end_does sent (notes_of co) sound caller held outcome txn m)
       (λ h. end_out caller txn held outcome m a.note a.code a.held h)
       (record { says = tt; kind = end_reply; is_new = tt; addressed = tt })

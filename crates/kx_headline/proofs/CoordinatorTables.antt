@@ -8,7 +8,7 @@ use Rattle.std.proofs.Common.{◌∙◌, subst, ⊎_elim, IfSome, arith, filter_
 use Rattle.std.proofs.Common.{bytes_eq}
 use Rattle.std.specs.List.{cons_option, list_all, list_any}
 use Rattle.std.proofs.lemmas.Bool.{and_from, and_parts, cond_both, not-false, or_parts, or_right}
-use Rattle.std.specs.Prelude.{is_some, option_map, ◌≤◌}
+use Rattle.std.specs.Prelude.{is_some, option_map, unwrap_or, ◌≤◌}
 use Rattle.std.proofs.lemmas.Bool.Decides.{nat_tests}
 use Rattle.std.proofs.lemmas.List.Elements.{All-contains, All-push, Contains-push}
 use Rattle.std.proofs.lemmas.Slice.Eq.{bytes_eq-Decides}
@@ -26,7 +26,7 @@ use Rattle.kx_message.specs.declared.outcome.Outcome.TheVariants.{Abort, Commit}
 use Rattle.kx_model.specs.Coordinator.{Row, Note, Allot, Written, State, Empty, Ongoing, Prepare}
 use Rattle.kx_model.specs.Coordinator.{Complete, ByInit, ByEnd, ByExpiry, ends, is}
 use Rattle.kx_model.specs.Coordinator.{is_complete}
-use Rattle.kx_model.specs.Coordinator.{lists, next_id, outcome_of, row_of, rows}
+use Rattle.kx_model.specs.Coordinator.{lists, next_id, outcome_of, row_of, rows, same_outcome}
 use Rattle.kx_message.specs.Ranges.{last_epoch, spent_epoch}
 use Rattle.kx_model.specs.Coordinator.{txns}
 use Rattle.kx_model.specs.Markers.{Answered, Settled, Ignored, Noted, Completes, answered_at}
@@ -47,7 +47,7 @@ use Rattle.kx_headline.proofs.CoordinatorFollows.{gives_up, completes, by_end, b
 use Rattle.kx_headline.proofs.CoordinatorFollows.{given_up, is_raised, lists_added, taken_over}
 use Rattle.kx_headline.proofs.CoordinatorFollows.{Raised, higher, anew, there, not_prepare}
 use Rattle.kx_headline.proofs.CoordinatorRows.{ends_own, row_of-found, row_of-own_txn}
-use Rattle.kx_headline.proofs.CoordinatorSound.{Sound}
+use Rattle.kx_headline.proofs.CoordinatorSound.{Shape, Sound}
 use Rattle.kx_laws.proofs.Lists.{list_all_tells}
 use Rattle.kx_laws.proofs.Membership.{find_tells}
 use Rattle.kx_laws.proofs.Membership.{any_holds, cons_cases, no_element}
@@ -71,83 +71,86 @@ refused code h = record { follows = tt; says = λ e. absurd (h e) }
 
 ------ a client asks for an id and an epoch
 
--- a row of the log has the pair, and its owner is the client; or the id is allotted now
-pub data InitSays (log : List Note) (client : ℕ) : Option Note → Option Held → Type 0 where
+-- a row of the transactional id has the pair, and its owner is the client; or, without one, the id
+-- is allotted now
+pub data InitSays (log : List Note) (client : ℕ) (txn : Option (List ℕ)) :
+    Option Note → Option Held → Type 0 where
   owned : (note : Option Note) (r : Row) → Contains (log_after log note) (Written r)
-      → r.owner ≡ client → InitSays log client note (Some (own_pair r))
-  allotted : InitSays log client (Some (Allot (next_id log)))
+      → r.owner ≡ client → txn ≡ Some r.txn → InitSays log client txn note (Some (own_pair r))
+  allotted : txn ≡ None → InitSays log client txn (Some (Allot (next_id log)))
       (Some (record { id = next_id log; epoch = 0 }))
 
 module _ (sent : List Message) (log : List Note) (caller : Caller) (timeout : ℕ) where
-  abbrev InitDoes : Answer → Type 0
-  InitDoes a = Does sent log (InitSays log caller.client) a
+  abbrev pub InitDoes : Option (List ℕ) → Answer → Type 0
+  InitDoes txn a = Does sent log (InitSays log caller.client txn) a
 
   module _ (r : Row) (found : row_of log r.txn ≡ Some r)
       (m : Contains sent (the.InitProducerId caller (Some r.txn) timeout)) where
-    again : (st : State) → caller.client ≡ r.owner → InitDoes (asked_again r st)
+    again : (st : State) → caller.client ≡ r.owner → InitDoes (Some r.txn) (asked_again r st)
     again Empty same = record {
       follows = tt;
-      says = λ e. owned None r (row_of-found log r.txn r found).0 (sym same);
+      says = λ e. owned None r (row_of-found log r.txn r found).0 (sym same) refl;
     }
     again Ongoing same = refused InvalidTxnState (λ e. cc)
     again (Prepare o) same = refused InvalidTxnState (λ e. cc)
     again (Complete o) same = refused InvalidTxnState (λ e. cc)
 
     takes : IsSettled r.state → r.owner < caller.client
-        → InitDoes (writes (taken_over log r caller.client timeout))
+        → InitDoes (Some r.txn) (writes (taken_over log r caller.client timeout))
     takes resting above = record {
       follows =
           CoordinatorFollows.takes_over r caller timeout found resting above m;
       says = λ e. owned (Some (Written (taken_over log r caller.client timeout)))
           (taken_over log r caller.client timeout)
-          (Contains-push log (Written (taken_over log r caller.client timeout))) refl;
+          (Contains-push log (Written (taken_over log r caller.client timeout))) refl refl;
     }
 
-    fences : r.state ≡ Ongoing → InitDoes (fences_owner log r)
+    fences : r.state ≡ Ongoing → InitDoes (Some r.txn) (fences_owner log r)
     fences going = record {
       follows = prepares r Abort ByInit found going by_init;
       says = λ e. absurd cc;
     }
 
     new : (st : State) → r.state ≡ st → r.owner < caller.client
-        → InitDoes (newcomer log caller.client timeout r st)
+        → InitDoes (Some r.txn) (newcomer log caller.client timeout r st)
     new Empty e above = takes (subst IsSettled (sym e) empty) above
     new Ongoing e above = fences e
     new (Prepare o) e above = refused ConcurrentTransactions (λ e. cc)
     new (Complete o) e above = takes (subst IsSettled (sym e) (complete o)) above
 
-    row_does : InitDoes (init_row log caller.client timeout r)
+    row_does : InitDoes (Some r.txn) (init_row log caller.client timeout r)
     row_does =
         cond_both (nat_lt caller.client r.owner) (refuses ProducerFenced)
         (cond (caller.client == r.owner) (asked_again r r.state)
         (newcomer log caller.client timeout r r.state))
-        InitDoes (λ e. refused ProducerFenced (λ e. cc))
+        (InitDoes (Some r.txn)) (λ e. refused ProducerFenced (λ e. cc))
         (λ e. cond_both (caller.client == r.owner) (asked_again r r.state)
-        (newcomer log caller.client timeout r r.state) InitDoes
+        (newcomer log caller.client timeout r r.state) (InitDoes (Some r.txn))
         (λ f. again r.state (grind (arith, nat_tests)))
         (λ f. new r.state refl (grind (arith, nat_tests))))
 
   pub init_does : (txn : Option (List ℕ))
       → Contains sent (the.InitProducerId caller txn timeout)
-      → InitDoes (init log caller.client txn timeout)
+      → InitDoes txn (init log caller.client txn timeout)
   init_does None m =
-      record { follows = allots caller timeout m; says = λ e. allotted }
+      record { follows = allots caller timeout m; says = λ e. allotted refl }
   init_does (Some txn) m = at (row_of log txn) refl
     where
       at : (o : Option Row) → row_of log txn ≡ o
-          → InitDoes (init_at log caller.client txn timeout o)
+          → InitDoes (Some txn) (init_at log caller.client txn timeout o)
       at None none =
           let first = first_use log caller.client txn timeout in
           record {
             follows = begins txn caller timeout none m;
             says = λ e. owned (Some (Written first)) first
-                (Contains-push log (Written first)) refl;
+                (Contains-push log (Written first)) refl refl;
           }
       at (Some r) found =
           let same : r.txn ≡ txn = (row_of-found log txn r found).1 in
-          row_does r (row_of-own_txn log txn r found)
+          subst (λ t. InitDoes (Some t) (init_row log caller.client timeout r)) same
+          (row_does r (row_of-own_txn log txn r found)
           (subst (λ t. Contains sent (the.InitProducerId caller (Some t) timeout))
-          (sym same) m)
+          (sym same) m))
 
 ------ what both other requests are refused for first
 
@@ -284,16 +287,63 @@ pub data Gives (r : Row) : Held → Type 0 where
   gives_own : Gives r (own_pair r)
   gives_next : Gives r (held_after r)
 
--- a row of the log ends the transaction of this pair, and gives the one after it
-pub data EndSays (log : List Note) (held : Held) : Option Note → Option Held → Type 0 where
+-- a row of the transactional id ends the transaction of this pair so, and gives the one after it
+pub data EndSays (log : List Note) (txn : List ℕ) (held : Held) (outcome : Outcome) :
+    Option Note → Option Held → Type 0 where
   ended : (note : Option Note) (r : Row) (given : Held) → Contains (log_after log note) (Written r)
-      → ends held.id held.epoch r ≡ true → Gives r given → EndSays log held note (Some given)
+      → r.txn ≡ txn → ends held.id held.epoch r ≡ true → Gives r given
+      → outcome_of r.state ≡ Some outcome → given ≡ held_after r
+      → EndSays log txn held outcome note (Some given)
 
 ended_gives : (r : Row) (st : State) → Gives r (ended_as r st)
 ended_gives r Empty = gives_own
 ended_gives r Ongoing = gives_own
 ended_gives r (Prepare outcome) = gives_next
 ended_gives r (Complete outcome) = gives_own
+
+same_outcomes : (a b : Outcome) → same_outcome a b ≡ true → a ≡ b
+same_outcomes Abort Abort e = refl
+same_outcomes Commit Commit e = refl
+same_outcomes Abort Commit e = absurd cc
+same_outcomes Commit Abort e = absurd cc
+
+has_decided : (outcome : Outcome) (st : State) → has_outcome outcome st ≡ true
+    → outcome_of st ≡ Some outcome
+has_decided outcome Empty e = absurd cc
+has_decided outcome Ongoing e = absurd cc
+has_decided outcome (Prepare o) e = ap Some (same_outcomes o outcome e)
+has_decided outcome (Complete o) e = ap Some (same_outcomes o outcome e)
+
+-- a row whose transaction doesn't wait for its markers names no next id
+no_next : (r : Row) → Shape r → ((o : Outcome) → r.state ≡ Prepare o → ⊥) → r.next ≡ None
+no_next r shape rests = by r.next refl
+  where
+    by : (o : Option ℕ) → r.next ≡ o → o ≡ None
+    by None e = refl
+    by (Some id) e =
+        let high = shape.next_only id e in
+        let low = shape.resting rests in
+        absurd (omega (arith, high, low))
+
+-- so what its end is answered when it is asked again is the pair after it
+ended_after : (r : Row) → Shape r → (outcome : Outcome) (st : State) → r.state ≡ st
+    → has_outcome outcome st ≡ true → ended_as r st ≡ held_after r
+ended_after r shape outcome Empty e h = absurd cc
+ended_after r shape outcome Ongoing e h = absurd cc
+ended_after r shape outcome (Prepare o) e h = refl
+ended_after r shape outcome (Complete o) e h =
+    let none = no_next r shape (λ p f. complete_waits (sym e ∙ f)) in
+    after_no_next r.next (sym none)
+  where
+    complete_waits : {p : Outcome} → Complete o ≡ Prepare p → ⊥
+    complete_waits e = cc
+
+    after_no_next : (next : Option ℕ) → None ≡ next → own_pair r ≡ record {
+      id = unwrap_or next r.id;
+      epoch = cond (is_some next) 0 r.epoch;
+    }
+    after_no_next None e = refl
+    after_no_next (Some id) e = absurd cc
 
 -- a row that is raised ends the transaction of the one before
 raised_ends : (log : List Note) (s r : Row) → Raised log s r → s.epoch ≤ 32766
@@ -310,89 +360,96 @@ raised_ends log s r (anew a b c d) low now =
 
 module _ (sent : List Message) (log : List Note) (sound : Sound log) (caller : Caller)
     (held : Held) (outcome : Outcome) where
-  abbrev EndDoes : Answer → Type 0
-  EndDoes a = Does sent log (EndSays log held) a
+  abbrev pub EndDoes : List ℕ → Answer → Type 0
+  EndDoes txn a = Does sent log (EndSays log txn held outcome) a
 
   module _ (r : Row) (found : row_of log r.txn ≡ Some r)
       (m : Contains sent (the.EndTxn caller r.txn held outcome)) where
     its_row : Contains log (Written r)
     its_row = (row_of-found log r.txn r found).0
 
-    gives : held ≡ own_pair r → IsSettled r.state
+    gives : Abort ≡ outcome → held ≡ own_pair r → IsSettled r.state
         → Contains sent (the.EndTxn caller r.txn held Abort)
-        → EndDoes (writes (given_up log r))
-    gives own resting m = record {
+        → EndDoes r.txn (writes (given_up log r))
+    gives so own resting m = record {
       follows = gives_up r caller found resting
           (subst (λ h. Contains sent (the.EndTxn caller r.txn h Abort)) own m);
       says = λ e. ended (Some (Written (given_up log r))) (given_up log r)
           (held_after (given_up log r))
-          (Contains-push log (Written (given_up log r)))
+          (Contains-push log (Written (given_up log r))) refl
           (subst (λ h. ends h.id h.epoch (given_up log r) ≡ true) (sym own)
           (raised_ends log r (given_up log r) (is_raised log r (Complete Abort) ByEnd)
-          ((sound.shape r its_row).resting (not_prepare r.state resting)) refl)) gives_next;
+          ((sound.shape r its_row).resting (not_prepare r.state resting)) refl)) gives_next
+          (ap Some so) refl;
     }
 
-    nothing : (o : Outcome) → held ≡ own_pair r → IsSettled r.state
+    nothing : (o : Outcome) → o ≡ outcome → held ≡ own_pair r → IsSettled r.state
         → Contains sent (the.EndTxn caller r.txn held o)
-        → EndDoes (nothing_sent log r o)
-    nothing Abort own resting m = gives own resting m
-    nothing Commit own resting m = refused InvalidTxnState (λ e. cc)
+        → EndDoes r.txn (nothing_sent log r o)
+    nothing Abort so own resting m = gives so own resting m
+    nothing Commit so own resting m = refused InvalidTxnState (λ e. cc)
 
     prepares_it : held ≡ own_pair r → r.state ≡ Ongoing
-        → EndDoes (writes (prepared log r outcome ByEnd))
+        → EndDoes r.txn (writes (prepared log r outcome ByEnd))
     prepares_it own going = record {
       follows = prepares r outcome ByEnd found going (by_end outcome caller
           (subst (λ h. Contains sent (the.EndTxn caller r.txn h outcome)) own m));
       says = λ e. ended (Some (Written (prepared log r outcome ByEnd)))
           (prepared log r outcome ByEnd) (held_after (prepared log r outcome ByEnd))
-          (Contains-push log (Written (prepared log r outcome ByEnd)))
+          (Contains-push log (Written (prepared log r outcome ByEnd))) refl
           (ends_own held.id held.epoch (prepared log r outcome ByEnd)
-          (sym (ap (λ h. h.id) own)) (ap (λ h. h.epoch + 1) (sym own)) refl) gives_next;
+          (sym (ap (λ h. h.id) own)) (ap (λ h. h.epoch + 1) (sym own)) refl) gives_next refl
+          refl;
     }
 
     in_does : (st : State) → r.state ≡ st → held ≡ own_pair r
-        → EndDoes (end_in log r outcome st)
-    in_does Empty e own = nothing outcome own (subst IsSettled (sym e) empty) m
+        → EndDoes r.txn (end_in log r outcome st)
+    in_does Empty e own = nothing outcome refl own (subst IsSettled (sym e) empty) m
     in_does Ongoing e own = prepares_it own e
     in_does (Prepare o) e own = refused ConcurrentTransactions (λ e. cc)
-    in_does (Complete o) e own = nothing outcome own (subst IsSettled (sym e) (complete o)) m
+    in_does (Complete o) e own =
+        nothing outcome refl own (subst IsSettled (sym e) (complete o)) m
 
-    repeats_it : ends held.id held.epoch r ≡ true → EndDoes
+    repeats_it : ends held.id held.epoch r ≡ true → EndDoes r.txn
         (cond (has_outcome outcome r.state) (repeats (ended_as r r.state))
         (refuses InvalidTxnState))
     repeats_it done =
         cond_both (has_outcome outcome r.state) (repeats (ended_as r r.state))
-        (refuses InvalidTxnState) EndDoes
+        (refuses InvalidTxnState) (EndDoes r.txn)
         (λ e. record {
           follows = tt;
-          says = λ e. ended None r (ended_as r r.state) its_row done (ended_gives r r.state);
+          says = λ f. ended None r (ended_as r r.state) its_row refl done (ended_gives r r.state)
+              (has_decided outcome r.state e)
+              (ended_after r (sound.shape r its_row) outcome r.state refl e);
         })
         (λ e. refused InvalidTxnState (λ e. cc))
 
-    end_row_does : refused_first r held ≡ None → EndDoes (end_row log r held outcome)
+    end_row_does : refused_first r held ≡ None → EndDoes r.txn (end_row log r held outcome)
     end_row_does first =
         let again : Answer =
         cond (has_outcome outcome r.state) (repeats (ended_as r r.state))
         (refuses InvalidTxnState) in
         let last : Answer = end_in log r outcome r.state in
         cond_both (ends held.id held.epoch r) again
-        (cond (is_old r held) (refuses ProducerFenced) last) EndDoes repeats_it
-        (λ e. cond_both (is_old r held) (refuses ProducerFenced) last EndDoes
+        (cond (is_old r held) (refuses ProducerFenced) last) (EndDoes r.txn) repeats_it
+        (λ e. cond_both (is_old r held) (refuses ProducerFenced) last (EndDoes r.txn)
         (λ old. refused ProducerFenced (λ e. cc))
         (λ old. in_does r.state refl (own_passes r held first old)))
 
   pub end_does : (txn : List ℕ) → Contains sent (the.EndTxn caller txn held outcome)
-      → EndDoes (end_txn log txn held outcome)
+      → EndDoes txn (end_txn log txn held outcome)
   end_does txn m = at (row_of log txn) refl
     where
-      at : (o : Option Row) → row_of log txn ≡ o → EndDoes (end_at log o held outcome)
+      at : (o : Option Row) → row_of log txn ≡ o → EndDoes txn (end_at log o held outcome)
       at None none = refused InvalidProducerIdMapping (λ e. cc)
       at (Some r) found =
           let same : r.txn ≡ txn = (row_of-found log txn r found).1 in
-          or_answer_does r held (end_row log r held outcome)
+          subst (λ t. EndDoes t (or_answer (refused_first r held) (end_row log r held outcome)))
+          same
+          (or_answer_does r held (end_row log r held outcome)
           (end_row_does r (row_of-own_txn log txn r found)
           (subst (λ t. Contains sent (the.EndTxn caller t held outcome))
-          (sym same) m))
+          (sym same) m)))
 
 ------ markers answered
 

@@ -9,7 +9,7 @@ use Rattle.std.proofs.lemmas.Bool.{cond_both}
 use Rattle.std.proofs.lemmas.Bool.Decides.{nat_tests}
 use Rattle.std.proofs.lemmas.List.Elements.{All-contains_itself, All-head, All-tail}
 use Rattle.kx_varint.specs.Text.{IsBytes}
-use Rattle.kx_message.specs.Message.{IsU32}
+use Rattle.kx_message.specs.Message.{IsMessage, IsU32}
 use Rattle.kx_message.specs.Ranges.{IsName, IsTimeout, offsets_partition}
 use Rattle.kx_message.specs.declared.message.Message.{Message}
 use Rattle.kx_message.specs.declared.message.Node.{Node}
@@ -20,6 +20,8 @@ use Rattle.kx_model.specs.CoordinatorNode.{expires, reminds}
 use Rattle.kx_model.specs.Disk.{Reopening, Store, reopening}
 use Rattle.kx_model.specs.Groups.{judge_drop}
 use Rattle.kx_model.specs.Headline.{Always}
+use Rattle.kx_model.specs.Open.{AlwaysOpen, Arrives, Inside, IsOpenEvent, IsOpenSchedule}
+use Rattle.kx_model.specs.Open.{OpenEvent, is_request, open_run, open_step}
 use Rattle.kx_model.specs.PartitionNode.{Partition, Served, changed, entries_of, node_takes}
 use Rattle.kx_model.specs.PartitionNode.{partition_restarts, puts}
 use Rattle.kx_model.specs.Replies.{take_reply}
@@ -227,3 +229,34 @@ pub always : (Fact : World → Type 0) → ((count : ℕ) → Fact (start count)
     → ((w later : World) → Fact w → Turn w later → Fact later) → Always Fact
 always Fact first keeps count events fits =
     kept_by_turns Fact keeps events (start count) fits (first count)
+
+------ open schedules
+
+-- a turn, or a client's request arrives from outside
+pub data OpenTurn (w : World) : World → Type 0 where
+  inside : (later : World) → Turn w later → OpenTurn w later
+  arrives : (m : Message) → is_request m ≡ true → IsMessage m
+      → OpenTurn w (record w { sent = w.sent ++ m ∷ [] })
+
+pub open_step_is : (w : World) (event : OpenEvent) → IsOpenEvent event
+    → OpenTurn w (open_step w event).0
+unfolding open_step
+open_step_is w (Inside event) fits = inside (step w event).0 (step_is w event fits)
+open_step_is w (Arrives m) fits = arrives m fits.0 fits.1
+
+-- what each turn keeps, and each request that arrives, an open schedule keeps
+pub kept_by_open_turns : (Fact : World → Type 0)
+    → ((w later : World) → Fact w → OpenTurn w later → Fact later) → (events : List OpenEvent)
+    (w : World) → IsOpenSchedule events → Fact w → Fact (open_run events w)
+unfolding open_run
+kept_by_open_turns Fact keeps [] w fits fact = fact
+kept_by_open_turns Fact keeps (event ∷ events) w fits fact =
+    kept_by_open_turns Fact keeps events (open_step w event).0
+    (All-tail IsOpenEvent event events fits)
+    (keeps w (open_step w event).0 fact
+    (open_step_is w event (All-head IsOpenEvent event events fits)))
+
+pub always_open : (Fact : World → Type 0) → ((count : ℕ) → Fact (start count))
+    → ((w later : World) → Fact w → OpenTurn w later → Fact later) → AlwaysOpen Fact
+always_open Fact first keeps count events fits =
+    kept_by_open_turns Fact keeps events (start count) fits (first count)

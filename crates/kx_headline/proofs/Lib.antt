@@ -1,3 +1,5 @@
+pub mod Acknowledged
+pub mod AnswersAlways
 pub mod Codes
 pub mod ClientAsks
 pub mod ClientCommands
@@ -14,10 +16,13 @@ pub mod CoordinatorRows
 pub mod CoordinatorSound
 pub mod CoordinatorTables
 pub mod EventDoes
+mod FalseAnswers
 pub mod Fencing
 pub mod Loads
 pub mod LogCauses
 pub mod MarkersFit
+pub mod Memberships
+pub mod NamedRequests
 pub mod NothingShown
 pub mod OffsetsFollow
 pub mod OneHolder
@@ -26,6 +31,7 @@ pub mod OpenOwed
 pub mod OverSchedules
 pub mod OwedRows
 pub mod Owners
+pub mod PartitionAnswers
 pub mod PartitionDoes
 pub mod PartitionHolds
 pub mod PartitionPromises

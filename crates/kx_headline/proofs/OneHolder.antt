@@ -30,7 +30,7 @@ use Rattle.kx_headline.proofs.ClientHolds.{Handed, by_init, by_end, HoldsOwn, Is
 use Rattle.kx_headline.proofs.ClientHolds.{entitled_later, holds_later, turn_holds}
 use Rattle.kx_headline.proofs.CoordinatorAlways.{CoordinatorStands}
 use Rattle.kx_headline.proofs.CoordinatorAlways.{stands_first, stands_next, turn_does}
-use Rattle.kx_headline.proofs.CoordinatorDoes.{CoordinatorDoes, GivesNext, Has, by_row}
+use Rattle.kx_headline.proofs.CoordinatorDoes.{CoordinatorDoes, GivesFirst, GivesNext, Has, by_row}
 use Rattle.kx_headline.proofs.CoordinatorDoes.{by_allotment, IsCoordinators, Out, Says, does_ok}
 use Rattle.kx_headline.proofs.CoordinatorDoes
 use Rattle.kx_headline.proofs.CoordinatorGrows.{Grows, History, none, more}
@@ -186,12 +186,14 @@ module _ (w : World) (h : HoldersStand w) (s : Coordinated)
       → Contains s.1 (the.InitReply (caller_with c k) code.NoError (Some held))
       → Owned (notes_of s.0) c held
   owned_init c k held there =
-      by (out (the.InitReply (caller_with c k) code.NoError (Some held)) there).says
+      let g : GivesFirst w.sent (notes_of s.0) (caller_with c k) held =
+      (out (the.InitReply (caller_with c k) code.NoError (Some held)) there).says in
+      by g.txn g.has
     where
-      by : Has (notes_of s.0) c held → Owned (notes_of s.0) c held
-      by (by_row r at o e) =
+      by : (txn : Option (List ℕ)) → Has (notes_of s.0) c txn held → Owned (notes_of s.0) c held
+      by txn (by_row r at o e t) =
           by_pair r at o (has_now (sym (ap (λ x. x.id) e)) (sym (ap (λ x. x.epoch) e)))
-      by (by_allotment at e) = by_id at
+      by txn (by_allotment at e t) = by_id at
 
   -- the row that ends a transaction has the owner of its pair
   ended_owner : (c : ℕ) (ending : Held) → Owned (notes w) c ending → (r : Row)

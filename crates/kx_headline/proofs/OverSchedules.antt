@@ -1,6 +1,7 @@
--- The theorems over every schedule that rest on the coordinator's log and on what partitions have
--- their messages for: markers agree, readers get what is visible, nothing fenced commits, offsets
--- follow decisions, and open transactions are owed their markers.
+-- The theorems that rest on the coordinator's log and on what partitions have their messages for:
+-- markers agree, readers get what is visible, a batch stands at most once, nothing fenced commits,
+-- offsets follow decisions, and open transactions are owed their markers. They hold over every open
+-- schedule, and so over every schedule.
 use Rattle.std.proofs.Common.{ℕ, List, Option, Some, None, Contains, refl, subst}
 use Rattle.std.proofs.Common.{IfSome, ⊎_elim}
 use Rattle.kx_model.specs.Headline.{Always, FetchedGivesVisible, GetsExactlyVisible}
@@ -12,11 +13,16 @@ use Rattle.kx_message.specs.Messages as the
 use Rattle.kx_model.proofs.Logs.{entries-push}
 use Rattle.std.proofs.lemmas.List.Elements.{All-contains, Contains-push_cases}
 use Rattle.kx_model.specs.PartitionNode.{Partition}
-use Rattle.kx_model.specs.World.{World, log_at, log_in, partition_at, run, start}
-use Rattle.kx_headline.proofs.PartitionsAlways.{PartitionsStand, Promised, partitions_stand_always}
+use Rattle.kx_model.specs.World.{World, log_at, log_in, partition_at, start}
+use Rattle.kx_model.specs.Open.{AlwaysOpen, open_run}
+use Rattle.kx_model.specs.OpenHeadline.{FencedNeverCommit, OffsetsFollow, OpenAreOwed}
+use Rattle.kx_model.specs.OpenHeadline.{ReadersGetVisible, StandsAtMostOnce}
+use Rattle.kx_model.proofs.Schedules.{closed_from_open}
+use Rattle.kx_headline.proofs.PartitionsAlways.{PartitionsStand, Promised, partitions_stand_open}
 use Rattle.kx_headline.proofs.Fencing.{fenced_never, no_commit_marker}
 use Rattle.kx_headline.proofs.NothingShown.{not_shown}
 use Rattle.kx_laws.specs.Grown.{IsGrown}
+use Rattle.kx_laws.proofs.Sequences.{grown_ordered}
 use Rattle.kx_headline.proofs.WorldReaders.{fetch_gives_visible, gives_visible, grown_at}
 use Rattle.kx_headline.proofs.LogCauses.{MarkerCause, marker_came}
 use Rattle.kx_headline.proofs.MarkersFit.{markers_fit}
@@ -70,26 +76,38 @@ module _ (w : World) (h : PartitionsStand w) where
   answered_reached p txn held there =
       All-contains (Promised w) w.sent (the.MarkerReply p txn held NoError) h.promised there
 
-pub markers_agree : MarkersAgree
-markers_agree count events fits =
-    one_outcome (run events (start count)) (partitions_stand_always count events fits)
+------ over every open schedule
 
-pub readers_get_what_is_visible : GetsExactlyVisible
-readers_get_what_is_visible count events fits q from room within =
-    let w = run events (start count) in
-    let h = partitions_stand_always count events fits in
-    gives_visible w h.holds (markers_fit w h.coordinator) (one_outcome w h) q from room
+-- what holds where partitions stand always holds
+always_where_they_stand : (Fact : World → Type 0) → ((w : World) → PartitionsStand w → Fact w)
+    → AlwaysOpen Fact
+always_where_they_stand Fact holds count events fits =
+    holds (open_run events (start count)) (partitions_stand_open count events fits)
 
-pub fetches_get_what_is_visible : FetchedGivesVisible
-fetches_get_what_is_visible count events fits q room from got e =
-    let w = run events (start count) in
-    let h = partitions_stand_always count events fits in
-    fetch_gives_visible w h.holds (markers_fit w h.coordinator) (one_outcome w h) q room from got e
+pub markers_agree_open : AlwaysOpen HasOneOutcome
+markers_agree_open = always_where_they_stand HasOneOutcome one_outcome
 
-pub nothing_commits : NothingCommits
-nothing_commits count events fits id epoch fenced =
-    let w = run events (start count) in
-    let h = partitions_stand_always count events fits in
+pub readers_get : (w : World) → PartitionsStand w → ReadersGetVisible w
+readers_get w h =
+    let fit = markers_fit w h.coordinator in
+    record {
+      pages = λ q from room within. gives_visible w h.holds fit (one_outcome w h) q from room;
+      fetches = λ q room from got e.
+          fetch_gives_visible w h.holds fit (one_outcome w h) q room from got e;
+    }
+
+pub readers_get_open : AlwaysOpen ReadersGetVisible
+readers_get_open = always_where_they_stand ReadersGetVisible readers_get
+
+pub at_most_once : (w : World) → PartitionsStand w → StandsAtMostOnce w
+at_most_once w h q batch =
+    (grown_ordered (log_at w q) (grown_at w q h.holds (markers_fit w h.coordinator))).once batch
+
+pub at_most_once_open : AlwaysOpen StandsAtMostOnce
+at_most_once_open = always_where_they_stand StandsAtMostOnce at_most_once
+
+pub fenced_commit_never : (w : World) → PartitionsStand w → FencedNeverCommit w
+fenced_commit_never w h id epoch fenced =
     let un = fenced_never h.coordinator.coordinator.history id epoch fenced in
     record {
       undecided = un;
@@ -97,18 +115,50 @@ nothing_commits count events fits id epoch fenced =
       not_shown = not_shown w h.holds (markers_fit w h.coordinator) (one_outcome w h) id epoch un;
     }
 
+pub nothing_commits_open : AlwaysOpen FencedNeverCommit
+nothing_commits_open = always_where_they_stand FencedNeverCommit fenced_commit_never
+
+pub offsets_do_follow : (w : World) → PartitionsStand w → OffsetsFollow w
+offsets_do_follow w h = follows_decisions w (one_outcome w h)
+
+pub offsets_follow_open : AlwaysOpen OffsetsFollow
+offsets_follow_open = always_where_they_stand OffsetsFollow offsets_do_follow
+
+pub open_owed_at : (w : World) → PartitionsStand w → OpenAreOwed w
+open_owed_at w h p = open_owed w h.coordinator (answered_reached w h) p (log_built w h p)
+
+pub open_is_owed_open : AlwaysOpen OpenAreOwed
+open_is_owed_open = always_where_they_stand OpenAreOwed open_owed_at
+
+-- each partition's log is grown
+abbrev pub LogsAreGrown : World → Type 0
+LogsAreGrown w = (partition : ℕ) → IsGrown (log_at w partition)
+
+pub logs_grow_open : AlwaysOpen LogsAreGrown
+logs_grow_open = always_where_they_stand LogsAreGrown
+    (λ w h q. grown_at w q h.holds (markers_fit w h.coordinator))
+
+------ over every schedule, which is an open one
+
+pub markers_agree : MarkersAgree
+markers_agree = closed_from_open HasOneOutcome markers_agree_open
+
+pub readers_get_what_is_visible : GetsExactlyVisible
+readers_get_what_is_visible count events fits =
+    (closed_from_open ReadersGetVisible readers_get_open count events fits).pages
+
+pub fetches_get_what_is_visible : FetchedGivesVisible
+fetches_get_what_is_visible count events fits =
+    (closed_from_open ReadersGetVisible readers_get_open count events fits).fetches
+
+pub nothing_commits : NothingCommits
+nothing_commits = closed_from_open FencedNeverCommit nothing_commits_open
+
 pub offsets_with_their_transaction : OffsetsWithTheirTransaction
-offsets_with_their_transaction count events fits =
-    follows_decisions (run events (start count)) (markers_agree count events fits)
+offsets_with_their_transaction = closed_from_open OffsetsFollow offsets_follow_open
 
 pub open_is_owed : OpenIsOwed
-open_is_owed count events fits p =
-    let w = run events (start count) in
-    let h = partitions_stand_always count events fits in
-    open_owed w h.coordinator (answered_reached w h) p (log_built w h p)
+open_is_owed = closed_from_open OpenAreOwed open_is_owed_open
 
-pub logs_grow : Always (λ w. (partition : ℕ) → IsGrown (log_at w partition))
-logs_grow count events fits q =
-    let w = run events (start count) in
-    let h = partitions_stand_always count events fits in
-    grown_at w q h.holds (markers_fit w h.coordinator)
+pub logs_grow : Always LogsAreGrown
+logs_grow = closed_from_open LogsAreGrown logs_grow_open

@@ -5,7 +5,8 @@ use Rattle.std.proofs.Common.{◌≡◌, ℕ, ℤ, pos, negsuc, Bool, true, fals
 use Rattle.std.proofs.Common.{List, [], ◌∷◌, ◌++◌, Option, Some, None, refl, sym, ap, ◌∙◌, subst}
 use Rattle.std.proofs.Common.{◌==◌, cond, Contains, All, map, arith, slice_index_or}
 use Rattle.std.proofs.Common.{append-nil, Result, Ok, Err}
-use Rattle.std.specs.Prelude.{◌≢◌, min, option_to_list}
+use Rattle.std.specs.Bool.{⊤}
+use Rattle.std.specs.Prelude.{◌≢◌, length, min, nat_lt, option_to_list}
 use Rattle.std.specs.List.{list_any}
 use Rattle.std.proofs.lemmas.Bool.{and_parts, cond_both}
 use Rattle.std.proofs.lemmas.Bool.Decides.{nat_tests}
@@ -13,6 +14,10 @@ use Rattle.std.proofs.lemmas.List.Elements.{All-append, All-cons, All-filter, Al
 use Rattle.std.proofs.lemmas.List.Elements.{All-nil, All-push, All-tail, All-weaker}
 use Rattle.std.proofs.lemmas.List.Elements.{Contains-get_or}
 use Rattle.std.proofs.lemmas.List.Elements.{filter_passes}
+use Rattle.kx_message.specs.declared.replies.FetchReply.{FetchReply}
+use Rattle.kx_message.specs.declared.replies.JoinReply.{JoinReply}
+use Rattle.kx_message.specs.declared.replies.LeaveReply.{LeaveReply}
+use Rattle.kx_message.specs.declared.replies.OffsetFetchReply.{OffsetFetchReply}
 use Rattle.kx_message.specs.declared.requests.Caller.{Caller}
 use Rattle.kx_message.specs.Ranges.{offsets_partition}
 use Rattle.kx_message.specs.declared.code.ErrorCode.{ErrorCode}
@@ -29,8 +34,9 @@ use Rattle.kx_batch.specs.Record.{Record}
 use Rattle.kx_model.specs.Disk.{GrowsTo, Reopening, Reopens, CannotRead, CannotWrite, Store, Works}
 use Rattle.kx_model.specs.Disk.{Fails, CannotLoad, appended, is_written, left_behind, works}
 use Rattle.kx_model.specs.Groups.{Membership, Already, Refuses, Changes, judge_join, judge_leave}
-use Rattle.kx_model.specs.Groups.{membership_text, offset_fetch, record_of}
-use Rattle.kx_model.specs.Log.{Entry, Stored, end, entries}
+use Rattle.kx_model.specs.Groups.{OffsetAnswer, generation, members, membership_text}
+use Rattle.kx_model.specs.Groups.{offset_fetch, place_of, record_of}
+use Rattle.kx_model.specs.Log.{Stored, end, entries}
 use Rattle.kx_model.specs.PartitionNode.{Partition, Served, answers_request, at_end}
 use Rattle.kx_model.specs.PartitionNode.{changed, data_takes, entries_of, marked_with, marker_of}
 use Rattle.kx_model.specs.PartitionNode.{offsets_takes, on_add_reply}
@@ -38,7 +44,7 @@ use Rattle.kx_model.specs.PartitionNode.{fetch_reply, join_reply, node_takes, on
 use Rattle.kx_model.specs.PartitionNode.{partition_restarts, partition_takes}
 use Rattle.kx_model.specs.PartitionNode.{passes_on, puts, refused_produce, reopened, resumes}
 use Rattle.kx_model.specs.PartitionNode.{taken}
-use Rattle.kx_model.specs.Page.{Page, fetched}
+use Rattle.kx_model.specs.Page.{Page, fetched, page}
 use Rattle.kx_model.specs.Produce.{Appends, Answers, MarkerVerdict, Verdict, Next, Duplicate}
 use Rattle.kx_model.specs.Produce.{Unverified, Refused, judge_marker, judge_text, stored_at}
 use Rattle.kx_model.specs.Produce.{text_of}
@@ -47,6 +53,7 @@ use Rattle.kx_model.specs.Verification.{is_full, judge_request, pair_of}
 use Rattle.kx_model.specs.Verification.{parked_for, partition_of, passed_on, reply_to, request_of}
 use Rattle.kx_model.specs.Verification.{same_request, with_parked, without}
 use Rattle.kx_model.proofs.NodeSteps.{grows_on, same}
+use Rattle.kx_headline.proofs.Codes.{WithNoError, with_error, with_no_error}
 use Rattle.kx_headline.proofs.Verdicts.{Tells, request_tells}
 
 -- a text, stored behind a log
@@ -60,14 +67,6 @@ HasNoProducer text = (batch_of text).producer_id ≡ negsuc 0
 -- what a parked request waits for is its batch's id and epoch
 abbrev pub IsPaired : Parked → Type 0
 IsPaired parked = pair_of parked.request ≡ Some parked.held
-
--- answers that say nothing of what stands in a log
-abbrev pub IsReading : Message → Type 0
-IsReading (msg.FetchReply it) = Unit {0}
-IsReading (msg.JoinReply it) = Unit {0}
-IsReading (msg.LeaveReply it) = Unit {0}
-IsReading (msg.OffsetFetchReply it) = Unit {0}
-IsReading m = ⊥
 
 -- a batch that is made without a producer
 pub made_without_producer : (records : List Record)
@@ -119,6 +118,73 @@ module _ (number : ℕ) (p : Partition) (input : Option Message) where
     left : (text : List ℕ) → May log text → Hidden log (Some (behind log text))
     gone : Hidden log None
 
+  ------ what is read of the log, and of its members
+
+  -- a page of the log as it was
+  pub record ReadsPage (log : List Stored) (reply : FetchReply) : Type 0 where
+    pub from : ℤ
+    pub max : ℕ
+    pub committed : Bool
+    pub page : Page
+    pub asked : input ≡ Some (the.Fetch reply.caller number from max committed)
+    pub here : reply.partition ≡ number
+    pub grown : GrowsTo p.disk.kept log
+    pub read : fetched p.disk.kept from (min max batch_limit) committed ≡ Ok page
+    pub is : msg.FetchReply reply ≡ fetch_reply reply.caller number (Ok page)
+
+  -- a committed offset of the log as it was
+  pub record ReadsOffset (log : List Stored) (reply : OffsetFetchReply) : Type 0 where
+    pub group : List ℕ
+    pub partition : ℕ
+    pub stable : Bool
+    pub asked : input ≡ Some (the.OffsetFetch reply.caller group partition stable)
+    pub here : number ≡ offsets_partition
+    pub grown : GrowsTo p.disk.kept log
+    pub read : offset_fetch (entries p.disk.kept) group partition stable
+        ≡ record { code = code.NoError; offset = reply.offset }
+
+  -- the log after a batch of no producer that is answered with 0, by the verdict on it
+  abbrev pub IsPut : List ℕ → Verdict → List Stored → Type 0
+  IsPut text Next after = after ≡ p.disk.kept ++ behind p.disk.kept text ∷ []
+  IsPut text (Duplicate offset) after = after ≡ p.disk.kept
+  IsPut text Unverified after = ⊥
+  IsPut text (Refused c) after = c ≡ code.NoError
+
+  -- the log after a change of members that is answered with 0
+  abbrev pub Became : Membership → List Stored → Type 0
+  Became Already after = after ≡ p.disk.kept
+  Became (Refuses c) after = c ≡ code.NoError
+  Became (Changes fact) after =
+      IsPut (membership_text fact) (judge_text (entries p.disk.kept) true (membership_text fact))
+      after
+
+  pub record Joins (log : List Stored) (reply : JoinReply) : Type 0 where
+    pub group : List ℕ
+    pub after : List Stored
+    pub asked : input ≡ Some (the.Join reply.caller group)
+    pub here : number ≡ offsets_partition
+    pub grown : GrowsTo after log
+    pub became : Became (judge_join (entries p.disk.kept) group reply.caller.client) after
+    pub generation : reply.generation ≡ pos (generation (entries after) group)
+    pub place : reply.place ≡ place_of (entries after) group reply.caller.client
+    pub count : reply.count ≡ length (members (entries after) group)
+
+  pub record Leaves (log : List Stored) (reply : LeaveReply) : Type 0 where
+    pub group : List ℕ
+    pub after : List Stored
+    pub asked : input ≡ Some (the.Leave reply.caller group)
+    pub here : number ≡ offsets_partition
+    pub grown : GrowsTo after log
+    pub became : Became (judge_leave (entries p.disk.kept) group reply.caller.client) after
+
+  -- what a reply of code 0 that says nothing of a batch rests on
+  abbrev pub Reads : List Stored → Message → Type 0
+  Reads log (msg.FetchReply it) = WithNoError it.code (ReadsPage log it)
+  Reads log (msg.JoinReply it) = WithNoError it.code (Joins log it)
+  Reads log (msg.LeaveReply it) = WithNoError it.code (Leaves log it)
+  Reads log (msg.OffsetFetchReply it) = WithNoError it.code (ReadsOffset log it)
+  Reads log m = ⊥
+
   -- what a message that goes out rests on
   pub data Out (log : List Stored) : Message → Type 0 where
     done : (r : Request) (earlier : List Stored) (verified : Bool) → Origin r
@@ -148,7 +214,7 @@ module _ (number : ℕ) (p : Partition) (input : Option Message) where
         → (c ≡ code.NoError → judge_marker (entries p.disk.kept)
         (marker_of held coordinator outcome) ≡ Answers code.NoError)
         → Out log (the.MarkerReply number txn held c)
-    reads : (x : Message) → IsReading x → Out log x
+    reads : (x : Message) → Reads log x → Out log x
 
   -- a parked request is one that came, with its pair
   pub record Waits (x : Parked) : Type 0 where
@@ -177,6 +243,49 @@ module _ (number : ℕ) (p : Partition) (input : Option Message) where
   silent q st =
       record { state = st; grows = same q.disk.kept; out = All-nil (Out q.disk.kept) }
 
+  reads_later : (log later : List Stored) → GrowsTo log later → (x : Message) → Reads log x
+      → Reads later x
+  reads_later log later g (msg.FetchReply it) h = with_no_error it.code (λ r. record {
+    from = r.from;
+    max = r.max;
+    committed = r.committed;
+    page = r.page;
+    asked = r.asked;
+    here = r.here;
+    grown = grows_on p.disk.kept log later r.grown g;
+    read = r.read;
+    is = r.is;
+  }) h
+  reads_later log later g (msg.JoinReply it) h = with_no_error it.code (λ r. record {
+    group = r.group;
+    after = r.after;
+    asked = r.asked;
+    here = r.here;
+    grown = grows_on r.after log later r.grown g;
+    became = r.became;
+    generation = r.generation;
+    place = r.place;
+    count = r.count;
+  }) h
+  reads_later log later g (msg.LeaveReply it) h = with_no_error it.code (λ r. record {
+    group = r.group;
+    after = r.after;
+    asked = r.asked;
+    here = r.here;
+    grown = grows_on r.after log later r.grown g;
+    became = r.became;
+  }) h
+  reads_later log later g (msg.OffsetFetchReply it) h = with_no_error it.code (λ r. record {
+    group = r.group;
+    partition = r.partition;
+    stable = r.stable;
+    asked = r.asked;
+    here = r.here;
+    grown = grows_on p.disk.kept log later r.grown g;
+    read = r.read;
+  }) h
+  reads_later log later g x h = absurd h
+
   out_later : (log later : List Stored) → GrowsTo log later → (x : Message) → Out log x
       → Out later x
   out_later log later g x (done r earlier v o j h) =
@@ -192,7 +301,7 @@ module _ (number : ℕ) (p : Partition) (input : Option Message) where
       ++ behind p.disk.kept (text_of (marker_of held coordinator outcome)) ∷ []) log later h g)
   out_later log later g x (unmarked txn held coordinator outcome c i h) =
       unmarked txn held coordinator outcome c i h
-  out_later log later g x (reads y h) = reads y h
+  out_later log later g x (reads y h) = reads y (reads_later log later g y h)
 
   ------ an append
 
@@ -454,7 +563,32 @@ module _ (number : ℕ) (p : Partition) (input : Option Message) where
   changed_does q store (Changes fact) st =
       puts_does q store (membership_text fact) st (made_without_producer (record_of 0 fact ∷ []))
 
-  tells : (q after : Partition) (x : Message) → Put q after → IsReading x → Does q (after, x ∷ [])
+  is_put : (store : Store) (text : List ℕ) (v : Verdict)
+      → (taken p store text v).code ≡ code.NoError
+      → IsPut text v (taken p store text v).partition.disk.kept
+  is_put store text Next e = at (is_written p.disk store) e
+    where
+      at : (written : Bool)
+          → cond written code.NoError code.KafkaStorageError ≡ code.NoError
+          → cond written (p.disk.kept ++ behind p.disk.kept text ∷ []) p.disk.kept
+          ≡ p.disk.kept ++ behind p.disk.kept text ∷ []
+      at true e = refl
+      at false e = absurd (storage_fails e)
+  is_put store text (Duplicate offset) e = refl
+  is_put store text Unverified e = cc
+  is_put store text (Refused c) e = e
+
+  pub became : (store : Store) (membership : Membership)
+      → (changed p store membership).code ≡ code.NoError
+      → Became membership (changed p store membership).partition.disk.kept
+  became store Already e = refl
+  became store (Refuses c) e = e
+  became store (Changes fact) e =
+      let text = membership_text fact in
+      is_put store text (judge_text (entries_of p) true text) e
+
+  tells : (q after : Partition) (x : Message) → Put q after → Reads after.disk.kept x
+      → Does q (after, x ∷ [])
   tells q after x d r = record {
     state = d.state;
     grows = d.grows;
@@ -494,6 +628,19 @@ module _ (number : ℕ) (p : Partition) (input : Option Message) where
 
 ------ the whole of a message
 
+-- a refusal has a code
+abbrev IsAnswer : Result Page ErrorCode → Type 0
+IsAnswer (Ok page) = ⊤
+IsAnswer (Err c) = c ≢ code.NoError
+
+fetched_tells : (log : List Stored) (from : ℤ) (room : ℕ) (committed : Bool)
+    → IsAnswer (fetched log from room committed)
+unfolding fetched
+fetched_tells log (negsuc n) room committed = λ e. cc
+fetched_tells log (pos from) room committed =
+    cond_both (nat_lt (end (entries log)) from) (Err code.OffsetOutOfRange)
+    (Ok (page log from room committed)) IsAnswer (λ e f. cc) (λ e. tt)
+
 module _ (number : ℕ) (p : Partition) (store : Store) (paired : All IsPaired p.parked) where
   abbrev DoesWith : Message → Served → Type 0
   DoesWith m s = Does number p (Some m) p s
@@ -523,18 +670,35 @@ module _ (number : ℕ) (p : Partition) (store : Store) (paired : All IsPaired p
       let m = msg.Fetch it in
       let none = fetch_reply it.caller it.partition (Err code.UnknownTopicOrPartition) in
       cond_both (it.partition == number) _ _ (DoesWith m)
-      (λ e. fetch_does m it.caller
-      (fetched p.disk.kept it.from (min it.max batch_limit) it.committed))
+      (λ e. fetch_does m it.caller it.from it.max it.committed
+      (ap (λ x. Some (the.Fetch it.caller x it.from it.max it.committed))
+      (is_here it.partition e))
+      (fetched p.disk.kept it.from (min it.max batch_limit) it.committed) refl
+      (fetched_tells p.disk.kept it.from (min it.max batch_limit) it.committed))
       (λ e. says number p (Some m) p none (before m) (reads none tt))
     where
-      fetch_does : (m : Message) (caller : Caller) (r : Result Page ErrorCode)
+      fetch_does : (m : Message) (caller : Caller) (from : ℤ) (max : ℕ) (committed : Bool)
+          → Some m ≡ Some (the.Fetch caller number from max committed)
+          → (r : Result Page ErrorCode)
+          → fetched p.disk.kept from (min max batch_limit) committed ≡ r → IsAnswer r
           → DoesWith m (p, fetch_reply caller number r ∷ [])
-      fetch_does m caller (Ok page) =
-          says number p (Some m) p (fetch_reply caller number (Ok page)) (before m)
-          (reads (fetch_reply caller number (Ok page)) tt)
-      fetch_does m caller (Err c) =
-          says number p (Some m) p (fetch_reply caller number (Err c)) (before m)
-          (reads (fetch_reply caller number (Err c)) tt)
+      fetch_does m caller from max committed asked (Ok page) e a =
+          let reply = fetch_reply caller number (Ok page) in
+          says number p (Some m) p reply (before m) (reads reply (record {
+            from = from;
+            max = max;
+            committed = committed;
+            page = page;
+            asked = asked;
+            here = refl;
+            grown = same p.disk.kept;
+            read = e;
+            is = refl;
+          }))
+      fetch_does m caller from max committed asked (Err c) e a =
+          let reply = fetch_reply caller number (Err c) in
+          says number p (Some m) p reply (before m)
+          (reads reply (with_error c (ReadsPage number p (Some m) p.disk.kept _) a))
   takes_does m = silent number p (Some m) p (before m)
 
   data_takes_does : number ≢ offsets_partition → (m : Message)
@@ -556,10 +720,55 @@ module _ (p : Partition) (store : Store) (paired : All IsPaired p.parked) where
   abbrev at_offsets : (m : Message) → State offsets_partition p (Some m) p
   at_offsets m = was offsets_partition p (Some m) paired
 
-  join_reads : (caller : Caller) (group : List ℕ) (log : List Entry) (c : ErrorCode)
-      → IsReading (join_reply caller group log c)
-  join_reads caller group log code.NoError = tt
-  join_reads caller group log c = tt
+  join_reads : (m : Message) (store : Store) (caller : Caller) (group : List ℕ)
+      → m ≡ the.Join caller group → (after : List Stored) (c : ErrorCode)
+      → (c ≡ code.NoError → Became offsets_partition p (Some m)
+      (judge_join (entries_of p) group caller.client) after)
+      → Reads offsets_partition p (Some m) after
+      (join_reply caller group (entries after) c)
+  join_reads m store caller group asked after code.NoError b = record {
+    group = group;
+    after = after;
+    asked = ap Some asked;
+    here = refl;
+    grown = same after;
+    became = b refl;
+    generation = refl;
+    place = refl;
+    count = refl;
+  }
+  join_reads m store caller group asked after c b = tt
+
+  leave_reads : (m : Message) (store : Store) (caller : Caller) (group : List ℕ)
+      → m ≡ the.Leave caller group → (after : List Stored) (c : ErrorCode)
+      → (c ≡ code.NoError → Became offsets_partition p (Some m)
+      (judge_leave (entries_of p) group caller.client) after)
+      → Reads offsets_partition p (Some m) after (the.LeaveReply caller c)
+  leave_reads m store caller group asked after code.NoError b = record {
+    group = group;
+    after = after;
+    asked = ap Some asked;
+    here = refl;
+    grown = same after;
+    became = b refl;
+  }
+  leave_reads m store caller group asked after c b = tt
+
+  offset_reads : (caller : Caller) (group : List ℕ) (partition : ℕ) (stable : Bool)
+      (a : OffsetAnswer) → offset_fetch (entries_of p) group partition stable ≡ a
+      → (c : ErrorCode) → a.code ≡ c
+      → Reads offsets_partition p (Some (the.OffsetFetch caller group partition stable))
+      p.disk.kept (the.OffsetFetchReply caller c a.offset)
+  offset_reads caller group partition stable a e code.NoError f = record {
+    group = group;
+    partition = partition;
+    stable = stable;
+    asked = refl;
+    here = refl;
+    grown = same p.disk.kept;
+    read = e ∙ (λ i. record { code = f i; offset = a.offset });
+  }
+  offset_reads caller group partition stable a e c f = tt
 
   offsets_takes_does : (m : Message) → OffsetsDoes m (offsets_takes p store m)
   offsets_takes_does (msg.TxnOffsetCommit it) =
@@ -575,7 +784,9 @@ module _ (p : Partition) (store : Store) (paired : All IsPaired p.parked) where
       (changed_does offsets_partition p (Some m) p store
       (judge_join (entries_of p) it.group it.caller.client)
       (at_offsets m))
-      (join_reads it.caller it.group (entries_of t.partition) t.code)
+      (join_reads m store it.caller it.group refl t.partition.disk.kept t.code
+      (became offsets_partition p (Some m) store
+      (judge_join (entries_of p) it.group it.caller.client)))
   offsets_takes_does (msg.Leave it) =
       let m = msg.Leave it in
       let t = changed p store (judge_leave (entries_of p) it.group it.caller.client) in
@@ -583,12 +794,15 @@ module _ (p : Partition) (store : Store) (paired : All IsPaired p.parked) where
       (changed_does offsets_partition p (Some m) p store
       (judge_leave (entries_of p) it.group it.caller.client)
       (at_offsets m))
-      tt
+      (leave_reads m store it.caller it.group refl t.partition.disk.kept t.code
+      (became offsets_partition p (Some m) store
+      (judge_leave (entries_of p) it.group it.caller.client)))
   offsets_takes_does (msg.OffsetFetch it) =
       let m = msg.OffsetFetch it in
       let a = offset_fetch (entries_of p) it.group it.partition it.stable in
       let reply = the.OffsetFetchReply it.caller a.code a.offset in
-      says offsets_partition p (Some m) p reply (at_offsets m) (reads reply tt)
+      says offsets_partition p (Some m) p reply (at_offsets m)
+      (reads reply (offset_reads it.caller it.group it.partition it.stable a refl a.code refl))
   offsets_takes_does (msg.Produce it) =
       let m = msg.Produce it in
       cond_both (it.partition == offsets_partition) _ _ (OffsetsDoes m)

@@ -34,7 +34,7 @@ use Rattle.kx_laws.proofs.Duplicates.{StoredLike, duplicate_stands}
 use Rattle.kx_laws.proofs.GrownLogs.{batch_is, marker_is}
 use Rattle.kx_laws.proofs.LogRules.{AtLeast, marker_epoch, reached_by, reaches}
 use Rattle.kx_laws.proofs.Membership.{in_the_middle, map_keeps}
-use Rattle.kx_headline.proofs.PartitionDoes.{IsReading, behind}
+use Rattle.kx_headline.proofs.PartitionDoes.{behind}
 use Rattle.kx_headline.proofs.PartitionDoes as does
 use Rattle.kx_headline.proofs.PartitionHolds.{Comes, MarkersFit, PartitionHolds, WasAsked}
 use Rattle.kx_headline.proofs.PartitionHolds.{handed_out, origin_asked, text_next, text_verdict}
@@ -42,7 +42,7 @@ use Rattle.kx_laws.proofs.StoredTexts.{judged_as}
 
 ------ logs grow
 
-entries_grow : (log later : List Stored) → GrowsTo log later
+pub entries_grow : (log later : List Stored) → GrowsTo log later
     → (more : List Entry) × (entries later ≡ entries log ++ more)
 entries_grow log later g = (entries g.more, ap entries g.parts ∙ map-append entry_of log g.more)
 
@@ -102,12 +102,13 @@ Promises sent number log (msg.OffsetsReply it) =
     WithNoError it.code ((offsets_partition ≡ number) × IsStored sent number log it.caller)
 Promises sent number log m = ⊤
 
-reading_promises : (sent : List Message) (number : ℕ) (log : List Stored) (m : Message)
-    → IsReading m → Promises sent number log m
-reading_promises sent number log (msg.MarkerReply it) is = absurd is
-reading_promises sent number log (msg.ProduceReply it) is = absurd is
-reading_promises sent number log (msg.OffsetsReply it) is = absurd is
-reading_promises sent number log m is = tt
+reading_promises : (sent : List Message) (number : ℕ) (p : Partition) (input : Option Message)
+    (log later : List Stored) (m : Message) → does.Reads number p input later m
+    → Promises sent number log m
+reading_promises sent number p input log later (msg.MarkerReply it) is = absurd is
+reading_promises sent number p input log later (msg.ProduceReply it) is = absurd is
+reading_promises sent number p input log later (msg.OffsetsReply it) is = absurd is
+reading_promises sent number p input log later m is = tt
 
 marker_promises : (sent : List Message) (number : ℕ) (log : List Stored) (txn : List ℕ)
     (held : Held) (c : ErrorCode)
@@ -245,7 +246,8 @@ module _ (sent : List Message) (number : ℕ) (p : Partition) (input : Option Me
       marker_promises sent number log txn held c
       (λ e. reached_stays p.disk.kept log held.id held.epoch grows
       (answered_reached (entries p.disk.kept) (marker_of held coordinator outcome) (j e)))
-  out_promises log grows m (does.reads x r) = reading_promises sent number log x r
+  out_promises log grows m (does.reads x r) =
+      reading_promises sent number p input log log x r
 
   -- each message that a partition hands out keeps its promise
   pub step_promises : (s : Served) → does.Does number p input p s

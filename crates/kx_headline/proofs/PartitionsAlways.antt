@@ -7,7 +7,7 @@ use Rattle.std.proofs.Common.{ap, ◌∙◌, subst}
 use Rattle.std.specs.Prelude.{IfSome, slice_get, slice_set}
 use Rattle.std.proofs.lemmas.Bool.{cond_both}
 use Rattle.std.proofs.lemmas.List.{append-nil}
-use Rattle.std.proofs.lemmas.List.Elements.{All-append, All-contains, All-nil, All-weaker}
+use Rattle.std.proofs.lemmas.List.Elements.{All-append, All-cons, All-contains, All-nil, All-weaker}
 use Rattle.std.proofs.lemmas.List.Elements.{Contains-append_left}
 use Rattle.kx_message.specs.declared.requests.Caller.{Caller}
 use Rattle.std.specs.Bool.{⊤}
@@ -20,6 +20,7 @@ use Rattle.kx_model.specs.CoordinatorNode.{notes_of}
 use Rattle.kx_model.specs.Disk.{GrowsTo}
 use Rattle.kx_model.specs.Groups.{judge_drop}
 use Rattle.kx_model.specs.Headline.{Always}
+use Rattle.kx_model.specs.Open.{AlwaysOpen}
 use Rattle.kx_model.specs.Log.{entries}
 use Rattle.kx_model.specs.PartitionNode.{Partition, Served, changed, empty_partition, entries_of}
 use Rattle.kx_model.specs.PartitionNode.{node_takes, partition_restarts, puts}
@@ -28,12 +29,13 @@ use Rattle.kx_model.specs.Step.{plain_text}
 use Rattle.kx_model.specs.World.{World, entries_at, log_at, log_in, notes, partition_at, start}
 use Rattle.kx_model.specs.World.{with_client, with_coordinator, with_partition}
 use Rattle.kx_model.proofs.NodeSteps.{same}
-use Rattle.kx_model.proofs.Schedules.{placed_with}
+use Rattle.kx_model.proofs.Schedules.{closed_from_open, placed_with}
 use Rattle.kx_headline.proofs.CoordinatorAlways.{CoordinatorStands, stands_first, stands_next}
-use Rattle.kx_headline.proofs.CoordinatorAlways.{turn_does}
+use Rattle.kx_headline.proofs.CoordinatorAlways.{stands_arrived, turn_does}
 use Rattle.kx_headline.proofs.CoordinatorDoes
 use Rattle.kx_headline.proofs.CoordinatorDoes.{IsCoordinators, Out}
-use Rattle.kx_headline.proofs.EventDoes.{PartitionTurn, Turn, always, clients, coordinators, drops}
+use Rattle.kx_headline.proofs.EventDoes.{OpenTurn, PartitionTurn, Turn, always_open, arrives}
+use Rattle.kx_headline.proofs.EventDoes.{clients, coordinators, drops, inside}
 use Rattle.kx_headline.proofs.EventDoes.{making, nobodys, partitions, puts_values, restarts}
 use Rattle.kx_laws.proofs.Membership.{find_tells}
 use Rattle.kx_laws.proofs.LogRules.{AtLeast}
@@ -46,7 +48,7 @@ use Rattle.kx_headline.proofs.PartitionHolds.{holds_later, message, no_message, 
 use Rattle.kx_headline.proofs.PartitionPromises.{IsStored, Promises, like_stays, reached_stays}
 use Rattle.kx_headline.proofs.PartitionPromises.{step_promises}
 use Rattle.kx_headline.proofs.SentKinds
-use Rattle.kx_headline.proofs.SentKinds.{IsClients, WaitsForOwn, client_sends}
+use Rattle.kx_headline.proofs.SentKinds.{IsClients, WaitsForOwn, client_sends, requests_are}
 
 -- of each partition of a world
 abbrev pub PartitionsHold : World → Type 0
@@ -128,13 +130,13 @@ module _ (w : World) (number : ℕ) (p : Partition) (fit : MarkersFit w.sent)
 
 ------ a later world
 
-record Later (w later : World) : Type 0 where
-  more : List Message
-  sent : later.sent ≡ w.sent ++ more
-  logs : (q : ℕ) → GrowsTo (log_at w q) (log_at later q)
+pub record Later (w later : World) : Type 0 where
+  pub more : List Message
+  pub sent : later.sent ≡ w.sent ++ more
+  pub logs : (q : ℕ) → GrowsTo (log_at w q) (log_at later q)
 
 module _ (w later : World) (l : Later w later) where
-  there_later : (m : Message) → Contains w.sent m → Contains later.sent m
+  pub there_later : (m : Message) → Contains w.sent m → Contains later.sent m
   there_later m c =
       subst (λ list. Contains list m) (sym l.sent) (Contains-append_left w.sent l.more m c)
 
@@ -199,7 +201,7 @@ set_there (x ∷ items) zero new old e = refl
 set_there (x ∷ items) (suc i) new old e = set_there items i new old e
 
 -- the partition that changed is there
-changed_there : (w : World) (number : ℕ) (p : Partition) (s : Served)
+pub changed_there : (w : World) (number : ℕ) (p : Partition) (s : Served)
     → partition_at w number ≡ Some p → partition_at (with_partition w number s) number ≡ Some s.0
 changed_there w number p s there = at (number == offsets_partition) there
   where
@@ -211,10 +213,10 @@ changed_there w number p s there = at (number == offsets_partition) there
 
 module _ (w : World) (number : ℕ) (p : Partition) (s : Served)
     (there : partition_at w number ≡ Some p) where
-  abbrev after : World
+  abbrev pub after : World
   after = with_partition w number s
 
-  log_is : s.0.disk.kept ≡ log_at after number
+  pub log_is : s.0.disk.kept ≡ log_at after number
   log_is = sym (ap log_in (changed_there w number p s there))
 
   is_there : (q : ℕ) (caller : Caller) → q ≡ number
@@ -244,7 +246,7 @@ module _ (w : World) (number : ℕ) (p : Partition) (s : Served)
       with_no_error it.code (λ h. is_there offsets_partition it.caller h.0 h.1) said
   node_promised m h = tt
 
-  abbrev logs_after : GrowsTo p.disk.kept s.0.disk.kept → Later w after
+  abbrev pub logs_after : GrowsTo p.disk.kept s.0.disk.kept → Later w after
   logs_after grows = record {
     more = s.1;
     sent = refl;
@@ -348,5 +350,24 @@ partitions_first count = record {
   promised = All-nil (Promised (start count));
 }
 
+------ open schedules
+
+-- a client's request arrives from outside
+pub partitions_arrived : (w : World) (m : Message) → PartitionsStand w → IsClients m
+    → PartitionsStand (record w { sent = w.sent ++ m ∷ [] })
+partitions_arrived w m h kind =
+    let later : World = record w { sent = w.sent ++ m ∷ [] } in
+    still w h later (m ∷ []) (stands_arrived w m h.coordinator kind) (λ q. refl) refl
+    (All-cons (Promised later) m [] (clients_promise later m kind) (All-nil (Promised later)))
+
+partitions_open_next : (w later : World) → PartitionsStand w → OpenTurn w later
+    → PartitionsStand later
+partitions_open_next w later h (inside x turn) = partitions_next w later h turn
+partitions_open_next w later h (arrives m asks fits) =
+    partitions_arrived w m h (requests_are m asks)
+
+pub partitions_stand_open : AlwaysOpen PartitionsStand
+partitions_stand_open = always_open PartitionsStand partitions_first partitions_open_next
+
 pub partitions_stand_always : Always PartitionsStand
-partitions_stand_always = always PartitionsStand partitions_first partitions_next
+partitions_stand_always = closed_from_open PartitionsStand partitions_stand_open

@@ -31,7 +31,8 @@ use Rattle.kx_headline.proofs.ClientReplies.{reply_knows}
 use Rattle.kx_headline.proofs.ClientRequests.{AreMade, HeldFits, IsIts, Knows, RequestsStand}
 use Rattle.kx_headline.proofs.ClientRequests.{IsAwaited, sender}
 use Rattle.kx_headline.proofs.CoordinatorAlways.{CoordinatorStands, stands_sound, turn_does}
-use Rattle.kx_headline.proofs.CoordinatorDoes.{GivesNext, Has, Out, Says, by_allotment, by_row}
+use Rattle.kx_headline.proofs.CoordinatorDoes.{GivesFirst, GivesNext, Has, Out, Says, by_row}
+use Rattle.kx_headline.proofs.CoordinatorDoes.{by_allotment}
 use Rattle.kx_headline.proofs.CoordinatorDoes
 use Rattle.kx_headline.proofs.CoordinatorGrows.{history_in_range}
 use Rattle.kx_headline.proofs.CoordinatorRows.{Ends, Names, above_own, ends_tells, next, one_higher}
@@ -94,12 +95,14 @@ module _ (w : World) (stands : CoordinatorStands w) where
 
   pub handed_fits : (c : ℕ) (held : Held) → Handed w.sent c held → HeldFits held
   handed_fits c held (by_init k there) =
-      by (says (the.InitReply (caller_with c k) code.NoError (Some held)) there)
+      let g : GivesFirst w.sent (notes w) (caller_with c k) held =
+      says (the.InitReply (caller_with c k) code.NoError (Some held)) there in
+      by g.txn g.has
     where
-      by : Has (notes w) c held → HeldFits held
-      by (by_row r at o e) =
+      by : (txn : Option (List ℕ)) → Has (notes w) c txn held → HeldFits held
+      by txn (by_row r at o e t) =
           subst HeldFits (sym e) (named_fits r at r.id r.epoch (own refl) (omega arith))
-      by (by_allotment at e) = record {
+      by txn (by_allotment at e t) = record {
         id = let low = allotted_below (notes w) held.id at in omega (arith, low, ids);
         epoch = omega (arith, e);
       }

@@ -33,6 +33,7 @@ use Rattle.kx_model.specs.Client.{value_records}
 use Rattle.kx_model.specs.Disk.{Store}
 use Rattle.kx_model.specs.Groups.{judge_join}
 use Rattle.kx_model.specs.Log.{Entry}
+use Rattle.kx_model.specs.Open.{is_request}
 use Rattle.kx_model.specs.Page.{Page}
 use Rattle.kx_model.specs.PartitionNode.{Partition, Served, answers_request, changed, data_takes}
 use Rattle.kx_model.specs.PartitionNode.{entries_of, fetch_reply, join_reply}
@@ -211,6 +212,18 @@ pub data IsClients : Message → Type 0 where
       → IsClients (the.Fetch caller partition from max committed)
   fetches_offset : {caller : Caller} {group : List ℕ} {partition : ℕ} {stable : Bool}
       → IsClients (the.OffsetFetch caller group partition stable)
+
+-- what a client may send is of its kinds
+pub requests_are : (m : Message) → is_request m ≡ true → IsClients m
+requests_are (msg.InitProducerId it) e = init
+requests_are (msg.EndTxn it) e = ends
+requests_are (msg.Produce it) e = produce
+requests_are (msg.Fetch it) e = fetches
+requests_are (msg.Join it) e = join
+requests_are (msg.Leave it) e = leave
+requests_are (msg.TxnOffsetCommit it) e = commit
+requests_are (msg.OffsetFetch it) e = fetches_offset
+requests_are m e = absurd cc
 
 abbrev pub WaitsForOwn : Client → Type 0
 WaitsForOwn c = All IsClients c.waiting

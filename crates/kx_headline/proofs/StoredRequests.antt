@@ -28,13 +28,13 @@ use Rattle.kx_headline.proofs.PartitionHolds as holds
 ------ a stored batch and its place
 
 -- a stored batch between those before it and those behind it
-record StandsIn (n : ℕ) (log : List Stored) (p : Placed Stored) : Type 0 where
-  before : List Stored
-  after : List Stored
-  parts : log ≡ before ++ p.item ∷ after
-  offset : p.offset ≡ n + end (entries before)
+pub record StandsIn (n : ℕ) (log : List Stored) (p : Placed Stored) : Type 0 where
+  pub before : List Stored
+  pub after : List Stored
+  pub parts : log ≡ before ++ p.item ∷ after
+  pub offset : p.offset ≡ n + end (entries before)
 
-stands_in : (n : ℕ) (log : List Stored) (p : Placed Stored)
+pub stands_in : (n : ℕ) (log : List Stored) (p : Placed Stored)
     → Contains (placed_by stored_width n log) p → StandsIn n log p
 stands_in n [] p c = absurd (no_element p c)
 stands_in n (s ∷ log) p c =

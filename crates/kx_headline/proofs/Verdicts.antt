@@ -104,7 +104,7 @@ module _ (log : List Entry) (verified : Bool) where
       (or_refused (is_plain batch || is_sequenced batch) InvalidRecord
       (judge_entry log verified (entry_in batch)) (λ e. cc) (entry_tells (entry_in batch)))
 
-  text_tells : (text : List ℕ) → Tells verified (judge_text log verified text)
+  pub text_tells : (text : List ℕ) → Tells verified (judge_text log verified text)
   unfolding judge_text
   text_tells text =
       refused_or (ltb batch_limit (length text)) MessageTooLarge
