@@ -1,0 +1,5 @@
+pub mod Layouts
+pub mod Apis
+pub mod Requests
+pub mod Frames
+pub mod Spelling
