@@ -7,6 +7,7 @@ use Rattle.std.proofs.lemmas.List.{take_all}
 use Rattle.std.proofs.lemmas.List.Sums.{sum_by-cons}
 use Rattle.kx_audit.specs.Making.{NodeMaking, Trail, named, node_of, trail_of}
 use Rattle.kx_audit.specs.Merged.{AreDone, IsMerging, Merged, lines_of, told_so_far}
+use Rattle.kx_audit.specs.Refused.{HaveOrder}
 use Rattle.kx_audit.specs.Replayed.{Progress, left, line_of, machines_of, name_at, steps_of}
 use Rattle.kx_audit.specs.Replayed.{traces_of, trails_of}
 use Rattle.kx_audit.specs.Run.{AreTurns, StandsAt}
@@ -103,3 +104,19 @@ module _ {B M : Type 0} (making : B → NodeMaking) (stands : NodeState → M �
         let of = at_trail making m.nodes k t at in
         subst (λ (x : Trail). AnswersSo (node_of x.made) (told_at (named x.made) told) (Ends k))
         of.trail_is (node_answers k of.node of.there)
+
+    -- so they have an order
+    pub have_order : HaveOrder trails
+    have_order = record {
+      told = told;
+      merged = are_merged;
+      answers = λ k t at.
+          let found = all_answer k t at in
+          record {
+            way = found.way;
+            goes = found.goes;
+            steps_are = found.steps_are;
+            takens_are = found.takens_are;
+            stands = tt;
+          };
+    }

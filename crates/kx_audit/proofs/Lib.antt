@@ -1,3 +1,4 @@
+mod Again
 pub mod Lookups
 pub mod Names
 pub mod Handing

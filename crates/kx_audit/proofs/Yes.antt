@@ -55,6 +55,7 @@ module _ {B M : Type 0} (making : B → NodeMaking) (stands : NodeState → M �
       let told_receipts = are_receipts named count distinct in (
         all.0,
         record {
+          apart = is.apart;
           audited = yes;
           promises = subst KeepsAll (sym yes.is.is_run)
               (keeps data_partitions (makings trails ++ yes.events) yes.is.is_schedule);

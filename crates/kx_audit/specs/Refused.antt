@@ -4,7 +4,7 @@ use Rattle.kx_audit.specs.Joined.{AreApart, IsWay, Passed, WasHandedOut, handed_
 use Rattle.kx_audit.specs.Making.{Trail, named, node_of}
 use Rattle.kx_audit.specs.Replayed.{steps_of}
 use Rattle.kx_audit.specs.Told.{AnswersSo, AreToldInOrder, IsToldOf, Told, told_at, told_messages}
-use Rattle.kx_audit.specs.Told.{told_steps}
+use Rattle.kx_audit.specs.Told.{AllAnswer, AreMerged, told_steps}
 use Rattle.kx_audit.specs.declared.fault.AuditFault.{AuditFault}
 use Rattle.kx_audit.specs.declared.fault.AuditFault.TheVariants as fault
 use Rattle.kx_machine.specs.declared.input.Input.TheVariants.{Deliver}
@@ -96,6 +96,13 @@ pub record HaveNoOrder (trails : List Trail) : Type 0 where
   pub origins : HaveStranger trails → ⊥
   pub stuck : AreStuck trails
 
+-- the steps were put into one order, in which each message that is taken in was handed out before,
+-- and each trace that is run again answers so
+pub record HaveOrder (trails : List Trail) : Type 0 where
+  pub told : List Told
+  pub merged : AreMerged trails told
+  pub answers : AllAnswer trails told (λ k node. Unit {0})
+
 ------ receipts
 
 -- the receipt has the input and the answer of the step at its place
@@ -118,6 +125,11 @@ pub record HaveWrong (trails : List Trail) (receipts : List Receipt) : Type 0 wh
   pub there : slice_get receipts number ≡ Some receipt
   pub wrong : IsOfTrace trails receipt → ⊥
 
+-- each receipt is of a step
+abbrev pub AreAllOfTraces : List Trail → List Receipt → Type 0
+AreAllOfTraces trails receipts = (j : ℕ) (receipt : Receipt)
+    → slice_get receipts j ≡ Some receipt → IsOfTrace trails receipt
+
 -- two receipts are of one step
 pub record HaveAlike (receipts : List Receipt) : Type 0 where
   pub first : ℕ
@@ -130,12 +142,13 @@ pub record HaveAlike (receipts : List Receipt) : Type 0 where
   pub same_node : one.node ≡ other.node
   pub same_place : one.place ≡ other.place
 
------- each refusal comes only in its case
+------ each refusal comes only in its case, and where none before it fits: the origin, the order,
+-- the receipt, the count
 
 abbrev pub IsRefused : List Trail → List Receipt → AuditFault → Type 0
 IsRefused trails receipts fault.Order = HaveNoOrder trails
 IsRefused trails receipts fault.Origin = HaveTwins trails ⊎ HaveStranger trails
-IsRefused trails receipts fault.Receipt = HaveWrong trails receipts
-IsRefused trails receipts fault.Count =
-    (length receipts ≡ steps_of trails → ⊥) ⊎ HaveAlike receipts
+IsRefused trails receipts fault.Receipt = HaveOrder trails × HaveWrong trails receipts
+IsRefused trails receipts fault.Count = HaveOrder trails × AreAllOfTraces trails receipts
+    × ((length receipts ≡ steps_of trails → ⊥) ⊎ HaveAlike receipts)
 IsRefused trails receipts fault.Memory = Unit {0}

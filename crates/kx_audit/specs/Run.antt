@@ -1,6 +1,7 @@
 -- A run of the whole system that an audit found, and what its yes says of it.
 use Rattle.std.specs.Prelude.{◌≡◌, ℕ, List, length, slice_get, Option, Some, None}
 use Rattle.kx_audit.specs.Audited.{IsAudited}
+use Rattle.kx_audit.specs.Joined.{AreApart}
 use Rattle.kx_audit.specs.Making.{NodeMaking, Trail, named}
 use Rattle.kx_audit.specs.Receipts.{AreReceipts, IsAnswered}
 use Rattle.kx_audit.specs.Replayed.{trails_of}
@@ -49,11 +50,12 @@ pub record StandsAt {M : Type 0} (stands : NodeState → M → Type 0) (machines
   pub there : slice_get machines number ≡ Some machine
   pub stands_so : stands node machine
 
--- an audit's yes: the steps of the traces are a schedule of the whole system, which led to the
--- nodes for which the machines stand, and so keeps its promises; there is a receipt for each step,
--- which is what the schedule answers
+-- an audit's yes: no two traces are of one node; the steps of the traces are a schedule of the whole
+-- system, which led to the nodes for which the machines stand, and so keeps its promises; there is a
+-- receipt for each step, which is what the schedule answers
 pub record IsYes {B M : Type 0} (making : B → NodeMaking) (stands : NodeState → M → Type 0)
     (run : Ran B M) (given : List Receipt) (s : System) : Type 0 where
+  pub apart : AreApart (trails_of making run.traces)
   pub audited : IsAudited (trails_of making run.traces) run.told (StandsAt stands run.machines) s
   pub promises : KeepsAll s
   pub turns : AreTurns (trails_of making run.traces) run.turns run.told

@@ -4,7 +4,7 @@ ghost use Rattle.std.specs.Bool.{Decides};
 ghost use Rattle.kx_audit.specs.Joined.{AreApart};
 ghost use Rattle.kx_audit.specs.Merged.{AreDone, AreFresh};
 ghost use Rattle.kx_audit.specs.Receipts.{AreDistinct, AreNamed};
-ghost use Rattle.kx_audit.specs.Refused.{HaveStranger, IsRefused};
+ghost use Rattle.kx_audit.specs.Refused.{HaveOrder, HaveStranger, IsRefused};
 ghost use Rattle.kx_audit.specs.Replayed.{AreReplayed, steps_of, traces_of, trails_of};
 ghost use Rattle.kx_audit.specs.Run.{IsYes};
 ghost use Rattle.kx_nodes.specs.declared.receipt.Receipt.{Receipt};
@@ -48,6 +48,7 @@ fn merge<B: Remade>(alloc: Global, nodes: Vec<Replayer<B>>) -> Result<Auditor<B>
     requires origins { HaveStranger (trails_of B.making (traces_of nodes.items)) → ⊥ }
     ensures traces { IfOk result (λ merged. traces_of merged.nodes ≡ traces_of nodes.items) }
     ensures done { IfOk result (λ merged. AreDone merged.nodes) }
+    ensures ordered { OnOk result (HaveOrder (trails_of B.making (traces_of nodes.items))) }
     ensures refused { IfErr result (λ fault. (receipts : List Receipt)
         → IsRefused (trails_of B.making (traces_of nodes.items)) receipts fault) }
 {
@@ -79,7 +80,7 @@ fn check_receipts<B: Remade>(
     receipts: &[Receipt],
 ) -> Result<(), AuditFault>
     requires replayed { AreReplayed B.making B.Machine.stands nodes.now }
-    requires apart { AreApart (trails_of B.making (traces_of nodes.now)) }
+    requires ordered { HaveOrder (trails_of B.making (traces_of nodes.now)) }
     ensures named { OnOk result (AreNamed B.making nodes.now receipts.now) }
     ensures count { OnOk result (length receipts.now ≡ steps_of (traces_of nodes.now)) }
     ensures distinct { OnOk result (AreDistinct receipts.now) }
@@ -113,10 +114,10 @@ fn check_receipts<B: Remade>(
 ///
 /// # Errors
 ///
-/// `Origin` if two traces are of one node, or a step takes in a message that no step of any trace
-/// handed out; `Order` if neither is so, and yet the steps can't be put into one order; `Receipt`
-/// if a receipt is of no step; `Count` if there are not as many receipts as steps, or two are of
-/// one step; `Memory` for want of memory.
+/// The first of these that fits: `Origin` if two traces are of one node, or a step takes in a
+/// message that no step of any trace sent; `Order` if the steps can't be put into one order;
+/// `Receipt` if a receipt is of no step; `Count` if there are not as many receipts as steps, or two
+/// are of one step. `Memory` where memory is refused, which may come in place of any of them.
 pub fn audit<B: Remade>(
     alloc: Global,
     traces: Vec<Trace<B>>,

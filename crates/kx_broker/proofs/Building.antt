@@ -1,7 +1,7 @@
 -- Value after value, a builder comes to the plain batch of all.
 use Rattle.std.proofs.Common.{◌≡◌, ◌<◌, ◌≤◌, ◌+◌, ℕ, pos, negsuc, List, [], ◌∷◌, ◌++◌, Option, None}
 use Rattle.std.proofs.Common.{Some, Bool, true, false, cond, ltb, length, map, refl, sym, ap, ◌∙◌}
-use Rattle.std.proofs.Common.{append_assoc, append-nil, arith, drop, subst}
+use Rattle.std.proofs.Common.{append_assoc, append-nil, arith, drop, is_some, subst, true≢false}
 use Rattle.std.specs.List.{enumerate_from}
 use Rattle.std.proofs.lemmas.Bool.{ltb-true, lt-ltb}
 use Rattle.std.proofs.lemmas.List.{length-append, length-drop}
@@ -34,7 +34,7 @@ abbrev pub pushes : Option (List Record) → List (List ℕ) → Option (List Re
 pushes records [] = records
 pushes records (value ∷ values) = pushes (with_pushed records None (Some value) []) values
 
-pushes-none : (values : List (List ℕ)) → pushes None values ≡ None
+pub pushes-none : (values : List (List ℕ)) → pushes None values ≡ None
 pushes-none [] = refl
 pushes-none (value ∷ values) = pushes-none values
 
@@ -87,7 +87,7 @@ pub pushes-all : (values : List (List ℕ))
     → pushes (Some []) values ≡ within_limit (value_records values)
 pushes-all values = pushes-some [] values refl
 
-limited : (records all : List Record) → within_limit all ≡ Some records
+pub limited : (records all : List Record) → within_limit all ≡ Some records
     → (passes all ≡ false) × (records ≡ all)
 limited records all = at (passes all) where
   at : (b : Bool) → cond b None (Some all) ≡ Some records → (b ≡ false) × (records ≡ all)
@@ -100,10 +100,6 @@ passed all = at (passes all) where
   at true h = refl
   at false h = absurd (cc)
 
--- the draft of all values
-abbrev pub limited_to : List (List ℕ) → Draft
-limited_to values = plain (within_limit (value_records values))
-
 length_plain : (values : List (List ℕ))
     → length (plain_text values) ≡ 61 + length (records_text (value_records values))
 length_plain values =
@@ -115,6 +111,22 @@ length_plain values =
       length-append (fields_text v (length records)) (records_text records),
       length-fields_text v (length records),
     )
+
+is_none : (o : Option (List Record)) → is_some o ≡ false → o ≡ None
+is_none None e = refl
+is_none (Some records) e = absurd (true≢false e)
+
+-- what would pass the limit
+pub passes_limit : (values : List (List ℕ)) → is_some (within_limit (value_records values)) ≡ false
+    → batch_limit < length (plain_text values)
+passes_limit values none =
+    let over : batch_limit < 61 + length (records_text (value_records values)) =
+    ltb-true _ _ (passed (value_records values) (is_none (within_limit (value_records values)) none))
+    in omega (arith, over, length_plain values)
+
+-- the draft of all values
+abbrev pub limited_to : List (List ℕ) → Draft
+limited_to values = plain (within_limit (value_records values))
 
 no_length : (items : List (List ℕ)) → length items ≤ 0 → items ≡ []
 no_length [] le = refl
@@ -152,11 +164,11 @@ module _ (value : List ℕ) (more : List (List ℕ)) (d : Draft) (is : d ≡ lim
         ∙ ap (λ (rs : List Record). made (pos 0) (negsuc 0) (negsuc 0) (negsuc 0) rs) l.1 in
         (h.2 ∙ ap batch_text same, subst (λ (b : Batch). SpellsBatch b text) same h.3)
 
-    pub too_large : Refuses d TooLarge → batch_limit < length (plain_text all)
-    too_large h =
-        let over : batch_limit < 61 + length (records_text (value_records all)) =
-        ltb-true _ _ (passed (value_records all) (sym records_are ∙ h)) in
-        omega (arith, over, length_plain all)
+    pub never_large : is_some (within_limit (value_records all)) ≡ true → Refuses d TooLarge → ⊥
+    never_large fits h =
+        let none : within_limit (value_records all) ≡ None = sym records_are ∙ h in
+        let never : is_some (within_limit (value_records all)) ≡ false = ap is_some none in
+        absurd (true≢false (sym fits ∙ never))
 
     pub never_empty : Refuses d Empty → ⊥
     never_empty h =

@@ -9,7 +9,9 @@ pub mod Fetching
 pub mod Opening
 pub mod Taking
 pub mod Building
+pub mod Plain
 pub mod Messages
+pub mod Adding
 pub mod OffsetsParked
 pub mod OffsetsLogs
 pub mod OffsetsMessages

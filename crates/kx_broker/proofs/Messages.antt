@@ -61,7 +61,9 @@ use Rattle.kx_model.proofs.Logs.{plain_entry}
 use Rattle.kx_partition.proofs.Judging.{plain_judged}
 use Rattle.kx_partition.specs.Answer.{Breaks, FollowsVerdict, IsAnswered, IsAppended, IsMarked}
 use Rattle.kx_partition.specs.Answer.{IsProduced, answer_of, code_of, marker_unless_closed}
-use Rattle.kx_partition.specs.Answer.{unless_closed}
+use Rattle.kx_partition.specs.Answer.{unless_closed, verdict_at}
+use Rattle.kx_broker.proofs.Plain.{IsPlain}
+use Rattle.std.specs.Prelude.{nat_le}
 use Rattle.kx_partition.specs.declared.answer.Produced.{Produced}
 use Rattle.kx_partition.specs.declared.answer.Produced.TheVariants as produced
 use Rattle.kx_varint.specs.Text.{IsBytes}
@@ -140,7 +142,7 @@ by_read log (Err fault) e not_one = absurd cc
 by_read log (Ok found) e not_one =
     one_read log (length found.1) (is_sequenced found.0.batch) found.0.batch refl not_one e
 
-text_is_one : (log : List Entry) (text : List ℕ) → judge_text log false text ≡ Unverified
+pub text_is_one : (log : List Entry) (text : List ℕ) → judge_text log false text ≡ Unverified
     → is_one_sequenced (batch_at text) ≡ false → ⊥
 unfolding judge_text
 text_is_one log text e not_one =
@@ -652,6 +654,36 @@ put_told false true text old new answer (IsAnswered given says same) =
     let is_it : produced.Refused code.KafkaStorageError ≡ given = cc in subst IsTold is_it refl
 put_told false false text old new answer (IsAnswered given says same) = absurd cc
 
+no_room : (closed : Bool) (n : ℕ) → (not closed && nat_le n greatest_offset) ≡ false
+    → answer_of (unless_closed closed (cond (nat_lt greatest_offset n)
+    (Refused code.KafkaStorageError) Next)) ≡ Some (produced.Refused code.KafkaStorageError)
+no_room true n none = by (nat_lt greatest_offset n)
+  where
+    by : (full : Bool) → answer_of (unless_closed true (cond full
+        (Refused code.KafkaStorageError) Next)) ≡ Some (produced.Refused code.KafkaStorageError)
+    by true = refl
+    by false = refl
+no_room false n none =
+    let full : nat_lt greatest_offset n ≡ true = grind (arith, nat_tests, none) in
+    ap (λ b. answer_of (unless_closed false (cond b (Refused code.KafkaStorageError) Next))) full
+
+has_room : (closed : Bool) (n : ℕ) → (not closed && nat_le n greatest_offset) ≡ true
+    → unless_closed closed (cond (nat_lt greatest_offset n) (Refused code.KafkaStorageError) Next)
+    ≡ Next
+has_room true n some = absurd cc
+has_room false n some =
+    let room : nat_lt greatest_offset n ≡ false = grind (arith, nat_tests, some) in
+    ap (λ b. unless_closed false (cond b (Refused code.KafkaStorageError) Next)) room
+
+-- the batch of values that fit is to be appended, where there is room
+pub put_next : (log : LogState) (values : List (List ℕ)) → IsPlain values
+    → (not log.closed && nat_le (end (entries log.batches) + length (value_records values))
+    greatest_offset) ≡ true → verdict_at log true (plain_text values) ≡ Next
+put_next log values plain room =
+    ap (unless_closed log.closed)
+    (plain_verdict (entries log.batches) values (plain_text values) plain.bytes plain.spells)
+    ∙ has_room log.closed (end (entries log.batches) + length (value_records values)) room
+
 -- one that would pass the limit is refused
 too_large : (log : List Entry) (text : List ℕ) → batch_limit < length text
     → judge_text log true text ≡ Refused code.MessageTooLarge
@@ -679,6 +711,22 @@ module _ (number : ℕ) (p : Partition) (old : Serving) (is : IsServed number p 
       (λ store. puts p store t) answer) same
       (puts_by IsGrown (GoesTo number) number p old is log (λ store. puts p store text)
       (code_of answer) (offset_of answer) c answer told)
+
+  -- a log that is closed, or has no offset left
+  pub put_full : IsHeld old.log → IsPlain values
+      → (not old.log.closed && nat_le (end (entries old.log.batches)
+      + length (value_records values)) greatest_offset) ≡ false
+      → Puts (IsServed number) p old (serving old.number old.log old.parked) put_step
+      (produced.Refused code.KafkaStorageError)
+  put_full known plain none =
+      let log = entries old.log.batches in
+      let text = plain_text values in
+      let verdict = plain_verdict log values text plain.bytes plain.spells in
+      put_served text old.log (produced.Refused code.KafkaStorageError) known plain.bytes refl
+      plain.spells
+      (IsAnswered (produced.Refused code.KafkaStorageError)
+      (ap (λ (v : Verdict). answer_of (unless_closed old.log.closed v)) verdict
+      ∙ no_room old.log.closed (end log + length (value_records values)) none) refl)
 
   pub put_refused : batch_limit < length (plain_text values)
       → Puts (IsServed number) p old old put_step (produced.Refused code.MessageTooLarge)

@@ -1,19 +1,25 @@
 -- The commits of offsets that are parked: those of one id and epoch are alike.
 use Rattle.std.proofs.Common.{◌≡◌, ◌++◌, pos, Bool, true, false, cond, List, [], ◌∷◌}
-use Rattle.std.proofs.Common.{sym, ap, ◌∙◌, subst, not}
+use Rattle.std.proofs.Common.{refl, sym, ap, ◌∙◌, subst, not}
 use Rattle.std.specs.List.{All}
 use Rattle.std.specs.Prelude.{Err, MatchResult, Ok, Result}
-use Rattle.std.proofs.lemmas.List.Elements.{All-contains, All-filter, All-push}
+use Rattle.std.proofs.lemmas.List.Elements.{All-contains, All-filter, All-head, All-push, All-tail}
+use Rattle.std.proofs.lemmas.List.Elements.{All-weaker}
 use Rattle.kx_batch.specs.Batch.{Batch, batch_of}
 use Rattle.kx_broker.specs.Offsets.{CommitsAt0, ParksCommit}
 use Rattle.kx_broker.proofs.Parked.{is_for_held, same_there}
-use Rattle.kx_group.specs.Calls.{AreAlike, IsCommitOf, IsToGroup}
+use Rattle.kx_group.specs.Calls.{AreAlike, IsCommitOf, IsResumed, IsResumedHere, IsToGroup}
+use Rattle.kx_group.specs.Calls.{NoneLeft, OneMore, verdict_again, verdict_for}
 use Rattle.kx_laws.proofs.Lists.{All-from_contains}
 use Rattle.kx_laws.proofs.Membership.{filter_holds}
+use Rattle.kx_log.specs.LogState.{LogState}
 use Rattle.kx_message.specs.declared.message.Held.{Held}
-use Rattle.kx_model.specs.Verification.{Parked, Target, is_for, is_full, parked_for, with_parked}
-use Rattle.kx_model.specs.Verification.{without}
+use Rattle.kx_model.specs.Produce.{Verdict}
+use Rattle.kx_model.specs.Verification.{Parked, Target, ToGroup, ToPartition, is_for, is_full}
+use Rattle.kx_model.specs.Verification.{parked_for, with_parked, without}
 use Rattle.kx_offsets.proofs.Commits.{commit_built}
+use Rattle.kx_partition.specs.Answer.{FollowsVerdict}
+use Rattle.kx_partition.specs.declared.answer.Produced.{Produced}
 use Rattle.kx_verify.specs.Guard.{SameParked, after, waits}
 
 commit_at : (held : Held) (q : Parked) → q.held ≡ held → CommitsAt0 q.request
@@ -80,3 +86,30 @@ pub forgotten_all : (given parked : List Parked) (held : Held)
 forgotten_all given parked held same all =
     all_same given (without parked held) same
     (All-filter (λ q. not (is_for held q)) ParksCommit parked all)
+
+------ commits that run again
+
+here_is : (log : LogState) (q : Parked) (target : Target) → IsToGroup target
+    → verdict_for log q target ≡ verdict_again log q
+here_is log q (ToPartition partition) to_group = absurd to_group
+here_is log q (ToGroup group member generation) to_group = refl
+
+-- each runs again as a request of any partition does
+each_again : (requests : List Parked) (old new : LogState) (answers : List Produced)
+    → IsResumedHere requests old new answers → All (λ q. IsToGroup q.request.target) requests
+    → IsResumed requests old new answers
+each_again requests old new answers (NoneLeft log) all = NoneLeft log
+each_again requests old new answers (OneMore q rest o b n a others one more) all =
+    let P = λ (p : Parked). IsToGroup p.request.target in
+    OneMore q rest o b n a others
+    (subst (λ (v : Verdict). FollowsVerdict v q.request.text o b a)
+    (here_is o q q.request.target (All-head P q rest all)) one)
+    (each_again rest b n others more (All-tail P q rest all))
+
+pub resumed_as : (requests : List Parked) (old new : LogState) (answers : List Produced)
+    → AreAlike requests → IsResumedHere requests old new answers
+    → IsResumed requests old new answers
+resumed_as requests old new answers alike run =
+    each_again requests old new answers run
+    (All-weaker (IsCommitOf alike.held alike.first) (λ q. IsToGroup q.request.target)
+    (λ q like. like.target) requests alike.each)

@@ -1,5 +1,5 @@
 -- What a fetch is answered by what came of fetching, of this log or of a copy of it.
-use Rattle.std.specs.Prelude.{◌≡◌, Result, Ok, Err, MatchResult}
+use Rattle.std.specs.Prelude.{◌≡◌, ◌≢◌, [], Result, Ok, Err, MatchResult}
 use Rattle.std.specs.List.{flat_map}
 use Rattle.kx_message.specs.Messages as the
 use Rattle.kx_message.specs.declared.code.ErrorCode.{ErrorCode}
@@ -25,9 +25,9 @@ AnswersFetch it (Err (fault.Refused code)) message =
     message ≡ fetch_reply it.caller it.partition (Err code)
 AnswersFetch it (Err fault.Memory) message = ⊥
 
--- memory may be wanted for the reply that carries a page, and was wanted where it had run out
+-- memory may run out for the reply that carries batches, and had where fetching says so
 abbrev pub MayWantMemory : Result Fetched FetchFault → Type 0
-MayWantMemory (Ok page) = Unit {0}
+MayWantMemory (Ok page) = page.batches ≢ []
 MayWantMemory (Err (fault.Refused code)) = ⊥
 MayWantMemory (Err fault.Memory) = Unit {0}
 

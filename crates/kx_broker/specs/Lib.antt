@@ -1,3 +1,4 @@
 pub mod Fetching
+pub mod Memory
 pub mod Offsets
 pub mod Serving

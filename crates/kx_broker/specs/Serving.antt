@@ -1,7 +1,7 @@
 -- The running server of a partition, and the node of the definitions for which it stands.
-use Rattle.std.specs.Prelude.{◌≡◌, ◌≤◌, ◌<◌, ◌==◌, ◌&&◌, ℕ, ℤ, pos, negsuc, Bool, true, false, not}
-use Rattle.std.specs.Prelude.{List, [], ◌∷◌, length, All, nat_lt, Option, Some, None, is_some}
-use Rattle.kx_batch.specs.Batch.{Batch, SpellsBatch, batch_limit, batch_of}
+use Rattle.std.specs.Prelude.{◌≡◌, ◌≤◌, ◌==◌, ◌&&◌, ℕ, ℤ, pos, negsuc, Bool, true, false, not}
+use Rattle.std.specs.Prelude.{List, [], ◌∷◌, All, nat_lt, None, is_some}
+use Rattle.kx_batch.specs.Batch.{Batch, batch_of}
 use Rattle.kx_batch.specs.Build.{made}
 use Rattle.kx_broker.specs.declared.restart.Restarted.{Restarted}
 use Rattle.kx_broker.specs.declared.restart.Restarted.TheVariants as restarted
@@ -22,7 +22,7 @@ use Rattle.kx_model.specs.Disk.{Disk, Store, reopening, reread}
 use Rattle.kx_model.specs.Log.{Entry, Data, Sequenced, Stored, entry_in}
 use Rattle.kx_model.specs.PartitionNode.{Partition, Served, Taken, entries_of, partition_restarts}
 use Rattle.kx_model.specs.Producers.{expected}
-use Rattle.kx_model.specs.Step.{Done, Unread, partition_note, plain_text}
+use Rattle.kx_model.specs.Step.{Done, Unread, partition_note}
 use Rattle.kx_model.specs.Verification.{Parked, Request, ToPartition, reply_to}
 use Rattle.kx_partition.specs.Answer.{code_of}
 use Rattle.kx_partition.specs.declared.answer.Produced.{Produced}
@@ -181,9 +181,3 @@ pub record RunAgain (requests : List Parked) (old new : LogState) (messages : Li
 abbrev pub plain_batch : List (List ℕ) → Batch
 plain_batch values =
     made (pos 0) (negsuc 0) (negsuc 0) (negsuc 0) (value_records values)
-
--- it is built, but where it would pass the limit
-abbrev pub BuildsPlain : {V : Type 0} → List (List ℕ) → (V → List ℕ) → Option V → Type 0
-BuildsPlain values items (Some text) =
-    (items text ≡ plain_text values) × SpellsBatch (plain_batch values) (items text)
-BuildsPlain values items None = batch_limit < length (plain_text values)

@@ -1,6 +1,7 @@
 //! The coordinator's answers on requests that are parked.
 ghost use Rattle.std.specs.Prelude.{◌≡◌, ◌≢◌, ◌≤◌, ℕ, [], All, IfOk, IsErr, OnErr, length};
-ghost use Rattle.std.specs.Prelude.{vec_capacity};
+ghost use Rattle.std.specs.Prelude.{◌<◌, vec_capacity};
+ghost use Rattle.kx_broker.specs.Memory.{MayLack};
 ghost use Rattle.kx_broker.specs.Serving.{GoesTo, IsServed, RunAgain, Serves, Waits};
 ghost use Rattle.kx_group.specs.Calls.{verdict_again};
 ghost use Rattle.kx_message.specs.declared.code.ErrorCode.TheVariants.{NoError};
@@ -10,6 +11,7 @@ ghost use Rattle.kx_model.specs.Log.{entries};
 ghost use Rattle.kx_model.specs.PartitionNode as node;
 ghost use Rattle.kx_model.specs.PartitionNode.{data_takes, on_add_reply};
 ghost use Rattle.kx_model.specs.Produce.{Next};
+ghost use Rattle.kx_model.specs.Verification.{parked_for};
 ghost use Rattle.kx_partition.specs.Answer.{FollowsVerdict};
 
 use crate::machine::PartitionMachine;
@@ -55,6 +57,7 @@ fn resume<S: Store>(
     ensures err { (number : ℕ) (held : pair.Held)
         → All (Waits (GoesTo number) (entries partition.old.batches) held) requests.now
         → OnErr result (partition.new ≡ partition.old) }
+    ensures memory { IsErr result → 0 < length requests.now }
 {
     let mut replies = room;
     for request in requests {
@@ -72,6 +75,7 @@ impl<S: Store> PartitionMachine<S> {
             (λ store. on_add_reply number p store held.now NoError)) }
         ensures err { (number : ℕ) (p : node.Partition) → IsServed number p self.old
             → OnErr result (self.new ≡ self.old) }
+        ensures memory { IsErr result → 0 < length (parked_for self.old.parked held.now) }
     {
         // Each batch stands in its place.
         let _end = self.partition.end();
@@ -89,6 +93,7 @@ impl<S: Store> PartitionMachine<S> {
             → IfOk result (Serves (IsServed number) p self.old self.new
             (λ store. on_add_reply number p store held.now code)) }
         ensures err { OnErr result (self.new ≡ self.old) }
+        ensures memory { IsErr result → 0 < length (parked_for self.old.parked held.now) }
     {
         let requests = self.guard.parked(*held);
         let room = Vec::with_capacity(self.alloc, requests.len())?;
@@ -102,13 +107,14 @@ impl<S: Store> PartitionMachine<S> {
     ///
     /// # Errors
     ///
-    /// Only for want of memory; then all is as before.
+    /// Out of memory, only where some are parked; then all is as before.
     pub(crate) fn add_reply(&mut self, it: &AddReply) -> Result<Messages, AllocError>
         ensures ok { (number : ℕ) (p : node.Partition) → IsServed number p self.old
             → IfOk result (Serves (IsServed number) p self.old self.new
             (λ store. data_takes number p store (msg.AddReply it.now))) }
         ensures err { (number : ℕ) (p : node.Partition) → IsServed number p self.old
             → OnErr result (self.new ≡ self.old) }
+        ensures memory { IsErr result → MayLack self.old (msg.AddReply it.now) }
     {
         if it.partition != self.number() {
             return Ok(Messages::none(self.alloc));

@@ -1,16 +1,18 @@
 //! What the server of the offsets partition does as that of any partition: markers, fetches, and
 //! opening again.
-ghost use Rattle.std.specs.Prelude.{◌≡◌, ◌≢◌, negsuc, IfOk, MatchResult, OnErr};
+ghost use Rattle.std.specs.Prelude.{◌≡◌, ◌≢◌, negsuc, IfOk, IsErr, MatchResult, OnErr};
+ghost use Rattle.kx_broker.specs.Memory.{GroupsMayLack};
 ghost use Rattle.kx_broker.specs.Offsets.{KeepsOffsets};
 ghost use Rattle.kx_broker.specs.Serving.{Restarts, Serves};
 ghost use Rattle.kx_message.specs.Ranges.{offsets_partition};
 ghost use Rattle.kx_message.specs.declared.message.Message.TheVariants as msg;
 ghost use Rattle.kx_model.specs.PartitionNode.{Partition, marker_of, offsets_takes, on_marker};
 ghost use Rattle.kx_model.specs.PartitionNode.{refused_produce};
+ghost use Rattle.kx_model.specs.Produce.{Appends};
+ghost use Rattle.kx_partition.specs.Answer.{marker_verdict_at};
 
 use crate::fetch::{fetch, refused_fetch};
 use crate::offsets::{OffsetsMachine, end_of};
-use crate::reply::only;
 use crate::restart::{Restarted, unread_after};
 use crate::waiting::ParkedCommits;
 use kx_log::Store;
@@ -34,20 +36,16 @@ fn refused_batch(it: &Produce) -> Message
 
 impl<S: Store> OffsetsMachine<S> {
     /// A batch comes. One for another partition is refused, and one for this partition is no commit
-    /// of offsets and changes nothing.
-    ///
-    /// # Errors
-    ///
-    /// Only for want of memory.
-    pub(crate) fn refuse(&self, it: &Produce) -> Result<Messages, AllocError>
+    /// of offsets and changes nothing. No memory is asked for.
+    pub(crate) fn refuse(&self, it: &Produce) -> Messages
         ensures { (p : Partition) → KeepsOffsets p self.now
-            → IfOk result (Serves KeepsOffsets p self.now self.now
-            (λ store. offsets_takes p store (msg.Produce it.now))) }
+            → Serves KeepsOffsets p self.now self.now
+            (λ store. offsets_takes p store (msg.Produce it.now)) result }
     {
         if it.partition == PartitionId::OFFSETS {
-            Ok(Messages::none(self.alloc))
+            Messages::none(self.alloc)
         } else {
-            Messages::one(self.alloc, refused_batch(it))
+            Messages::one(refused_batch(it))
         }
     }
 
@@ -55,56 +53,57 @@ impl<S: Store> OffsetsMachine<S> {
     ///
     /// # Errors
     ///
-    /// Only for want of memory.
+    /// Out of memory, only for a page that isn't empty.
     pub(crate) fn fetch(&self, it: &Fetch) -> Result<Messages, AllocError>
-        ensures { (p : Partition) → KeepsOffsets p self.now
+        ensures ok { (p : Partition) → KeepsOffsets p self.now
             → IfOk result (Serves KeepsOffsets p self.now self.now
             (λ store. offsets_takes p store (msg.Fetch it.now))) }
+        ensures memory { IsErr result → GroupsMayLack self.now (msg.Fetch it.now) }
     {
         if it.partition == PartitionId::OFFSETS {
             let page = fetch(self.alloc, self.groups.partition(), it)?;
-            Messages::one(self.alloc, page)
+            Ok(Messages::one(page))
         } else {
             let refusal = refused_fetch(self.alloc, it, ErrorCode::UnknownTopicOrPartition);
-            Messages::one(self.alloc, refusal)
+            Ok(Messages::one(refusal))
         }
     }
 
-    // A marker for this partition comes. Room for the reply is asked for first.
+    // A marker for this partition comes.
     fn mark(&mut self, it: &WriteMarker) -> Result<Messages, AllocError>
         ensures ok { (p : Partition) → KeepsOffsets p self.old
             → IfOk result (Serves KeepsOffsets p self.old self.new
             (λ store. on_marker offsets_partition p store it.now.txn it.now.held
             (marker_of it.now.held it.now.coordinator_epoch it.now.outcome))) }
         ensures err { OnErr result (self.new ≡ self.old) }
+        ensures memory { IsErr result → marker_verdict_at self.old.log
+            (marker_of it.now.held it.now.coordinator_epoch it.now.outcome) ≡ Appends }
     {
         let held = it.held;
         // Its id and epoch fit the fields of a marker.
         let _ended = held.get();
-        let mut room = Vec::new(self.alloc);
-        room.reserve(1)?;
         // Each batch stands in its place.
         let _end = end_of(&self.groups);
         let code = self.groups.marker(held, it.coordinator_epoch, it.outcome)?;
-        let message = Message::MarkerReply(MarkerReply {
+        Ok(Messages::one(Message::MarkerReply(MarkerReply {
             partition: PartitionId::OFFSETS,
             txn: it.txn,
             held,
             code,
-        });
-        Ok(only(room, message))
+        })))
     }
 
     /// A marker comes. One for another partition changes nothing.
     ///
     /// # Errors
     ///
-    /// Only for want of memory; then all is as before.
+    /// Out of memory, only where the marker is to be appended; then all is as before.
     pub(crate) fn marker(&mut self, it: &WriteMarker) -> Result<Messages, AllocError>
         ensures ok { (p : Partition) → KeepsOffsets p self.old
             → IfOk result (Serves KeepsOffsets p self.old self.new
             (λ store. offsets_takes p store (msg.WriteMarker it.now))) }
         ensures err { OnErr result (self.new ≡ self.old) }
+        ensures memory { IsErr result → GroupsMayLack self.old (msg.WriteMarker it.now) }
     {
         if it.partition == PartitionId::OFFSETS {
             self.mark(it)
@@ -118,7 +117,7 @@ impl<S: Store> OffsetsMachine<S> {
     ///
     /// # Errors
     ///
-    /// Only for want of memory; then it stands for what it stood for.
+    /// Only out of memory; then it stands for what it stood for.
     pub(crate) fn restart(&mut self) -> Result<Restarted, AllocError>
         ensures { (p : Partition) → KeepsOffsets p self.old
             → MatchResult result (Restarts KeepsOffsets p self.old self.new)

@@ -1,7 +1,9 @@
 //! Pages that are fetched.
-ghost use Rattle.std.specs.Prelude.{◌≡◌, Err, IfOk, MatchResult, Result, flat_map, min};
+ghost use Rattle.std.specs.Prelude.{◌≡◌, ◌≢◌, [], Err, IfOk, IsErr, MatchResult, Result, flat_map};
+ghost use Rattle.std.specs.Prelude.{min};
 ghost use Rattle.kx_batch.specs.Batch.{batch_limit};
 ghost use Rattle.kx_broker.specs.Fetching.{AnswersFetch, IsFetched, MayWantMemory, page_reply};
+ghost use Rattle.kx_broker.specs.Memory.{IsFilled};
 ghost use Rattle.kx_message.specs.declared.code.ErrorCode as refusal;
 ghost use Rattle.kx_model.specs.Page.{Page, fetched};
 ghost use Rattle.kx_model.specs.PartitionNode.{fetch_reply};
@@ -21,10 +23,15 @@ fn len_of(batches: Batches<'_>) -> usize {
     len
 }
 
-// The texts of batches, one after the other, for which room of `len` bytes is asked first.
+// The texts of batches, one after the other, for which room of `len` bytes is asked first. Without
+// batches no memory is asked for.
 fn texts_of(alloc: Global, batches: Batches<'_>, len: usize) -> Result<Bytes, AllocError>
-    ensures { IfOk result (λ bytes. bytes ≡ flat_map (λ s. s.text) batches.entry) }
+    ensures ok { IfOk result (λ bytes. bytes ≡ flat_map (λ s. s.text) batches.entry) }
+    ensures memory { IsErr result → batches.entry ≢ [] }
 {
+    if batches.is_empty() {
+        return Ok(Bytes::from_vec(Vec::new(alloc)));
+    }
     let mut bytes = Vec::with_capacity(alloc, len)?;
     for batch in batches {
         bytes.extend_from_slice(batch.text())?;
@@ -32,9 +39,10 @@ fn texts_of(alloc: Global, batches: Batches<'_>, len: usize) -> Result<Bytes, Al
     Ok(Bytes::from_vec(bytes))
 }
 
-// The reply that carries a page.
+// The reply that carries a page. Without batches no memory is asked for.
 fn page_reply(alloc: Global, it: &Fetch, page: FetchPage<'_>) -> Result<Message, AllocError>
-    ensures { IfOk result (λ message. message ≡ page_reply it.now page.entry) }
+    ensures ok { IfOk result (λ message. message ≡ page_reply it.now page.entry) }
+    ensures memory { IsErr result → page.entry.batches ≢ [] }
 {
     let batches = texts_of(alloc, page.batches(), len_of(page.batches()))?;
     let next = page.next();
@@ -81,8 +89,8 @@ pub fn page_room(it: &Fetch) -> u32
 ///
 /// # Errors
 ///
-/// Only for want of memory, which was wanted already where `page` is [`FetchFault::Memory`], and
-/// never is for the reply to a refusal.
+/// Only out of memory, as it was already where `page` is [`FetchFault::Memory`]. The reply to a
+/// refusal takes none, nor does a page without batches.
 pub fn answer_fetch(
     alloc: Global,
     it: &Fetch,
@@ -106,14 +114,16 @@ pub fn answer_fetch(
 ///
 /// # Errors
 ///
-/// Only for want of memory.
+/// Out of memory, only for a page that isn't empty.
 pub(crate) fn fetch<S: Store>(
     alloc: Global,
     partition: &Partition<S>,
     it: &Fetch,
 ) -> Result<Message, AllocError>
-    ensures { IfOk result (λ message. message ≡ fetch_reply it.now.caller it.now.partition
+    ensures ok { IfOk result (λ message. message ≡ fetch_reply it.now.caller it.now.partition
         (fetched partition.now.batches it.now.from (min it.now.max batch_limit) it.now.committed)) }
+    ensures memory { IsErr result → IsFilled
+        (fetched partition.now.batches it.now.from (min it.now.max batch_limit) it.now.committed) }
 {
     let page = partition.fetch(it.from, page_room(it), it.committed);
     answer_fetch(alloc, it, page)

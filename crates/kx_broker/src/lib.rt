@@ -12,6 +12,7 @@ mod machine;
 mod marker;
 mod member;
 mod offsets;
+mod parking;
 mod produce;
 mod put;
 mod reply;

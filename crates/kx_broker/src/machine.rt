@@ -1,10 +1,12 @@
 //! The server of a data partition.
-ghost use Rattle.std.specs.Prelude.{◌≡◌, ◌==◌, ◌∷◌, ℕ, [], false, Err, IfOk, MatchResult, OnErr};
-ghost use Rattle.std.specs.Prelude.{if◌then◌else◌, min};
+ghost use Rattle.std.specs.Prelude.{◌≡◌, ◌==◌, ◌∷◌, ℕ, [], false, Err, IfOk, IsErr, MatchResult};
+ghost use Rattle.std.specs.Prelude.{OnErr, if◌then◌else◌, min};
 ghost use Rattle.kx_batch.specs.Batch.{batch_limit};
+ghost use Rattle.kx_broker.specs.Memory.{InputMayLack, MayLack};
 ghost use Rattle.kx_broker.specs.Serving.{IsServed, MayDo, Serves, StandsFor, opened_partition};
 ghost use Rattle.kx_log.specs.Store.{StoreState};
 ghost use Rattle.kx_message.specs.declared.code.ErrorCode.TheVariants.{UnknownTopicOrPartition};
+ghost use Rattle.kx_message.specs.declared.message.Message.TheVariants as msg;
 ghost use Rattle.kx_machine.specs.Meaning.{IsTaken, NodeState, input_of};
 ghost use Rattle.kx_model.specs.PartitionNode as node;
 ghost use Rattle.kx_model.specs.Page.{fetched};
@@ -94,17 +96,18 @@ impl<S: Store> PartitionMachine<S> {
 
     // Answers a fetch; one of another partition is refused.
     fn fetch(&self, it: &Fetch) -> Result<Messages, AllocError>
-        ensures { IfOk result (λ messages. messages ≡ fetch_reply it.now.caller it.now.partition
+        ensures ok { IfOk result (λ messages. messages ≡ fetch_reply it.now.caller it.now.partition
             (if it.now.partition == self.now.number
             then fetched self.now.log.batches it.now.from (min it.now.max batch_limit)
             it.now.committed else Err UnknownTopicOrPartition) ∷ []) }
+        ensures memory { IsErr result → MayLack self.now (msg.Fetch it.now) }
     {
         let reply = if it.partition == self.number {
             fetch(self.alloc, &self.partition, it)?
         } else {
             refused_fetch(self.alloc, it, ErrorCode::UnknownTopicOrPartition)
         };
-        Messages::one(self.alloc, reply)
+        Ok(Messages::one(reply))
     }
 
     // Takes a message, and hands out what it does for it.
@@ -114,6 +117,7 @@ impl<S: Store> PartitionMachine<S> {
             (λ store. data_takes number p store message.now)) }
         ensures err { (number : ℕ) (p : node.Partition) → IsServed number p self.old
             → OnErr result (self.new ≡ self.old) }
+        ensures memory { IsErr result → MayLack self.old message.now }
     {
         match message {
             Message::Produce(it) => self.produce(it),
@@ -145,11 +149,13 @@ impl<S: Store> PartitionMachine<S> {
     ///
     /// # Errors
     ///
-    /// Only for want of memory; then it is as before.
+    /// Out of memory, only where the message appends to the log, parks a batch as one more, is
+    /// the answer on parked batches, or gets a page that isn't empty; then it is as before.
     pub fn deliver(&mut self, message: &Message) -> Result<Taken, AllocError>
-        ensures { (state : NodeState) → StandsFor state self.old → MatchResult result
+        ensures taken { (state : NodeState) → StandsFor state self.old → MatchResult result
             (IsTaken state (Comes message.now) (MayDo self.old) (λ s. StandsFor s self.new))
             (λ refused. StandsFor state self.new) }
+        ensures memory { IsErr result → MayLack self.old message.now }
     {
         let before = self.failures();
         let messages = self.serve(message)?;
@@ -165,11 +171,13 @@ impl<S: Store> PartitionMachine<S> {
     ///
     /// # Errors
     ///
-    /// Only for want of memory; then it stands for what it stood for.
+    /// Out of memory, only at a message as [`deliver`](PartitionMachine::deliver) has it, where
+    /// a batch of no producer is appended, or at a restart; then it stands for what it stood for.
     pub fn take(&mut self, input: &Input) -> Result<Taken, AllocError>
-        ensures { (state : NodeState) → StandsFor state self.old → MatchResult result
+        ensures taken { (state : NodeState) → StandsFor state self.old → MatchResult result
             (IsTaken state (input_of input.now) (MayDo self.old) (λ s. StandsFor s self.new))
             (λ refused. StandsFor state self.new) }
+        ensures memory { IsErr result → InputMayLack self.old (input_of input.now) }
     {
         let before = self.failures();
         match input {
@@ -203,6 +211,8 @@ impl<S: Store> Machine for PartitionMachine<S> {
 
     ghost allows = { MayDo };
 
+    ghost failures_of = { λ server. server.log.store.failures };
+
     fn take(&mut self, input: &Input) -> Result<Taken, AllocError> {
         PartitionMachine::take(self, input)
     }
@@ -213,6 +223,10 @@ impl<S: Store> Machine for PartitionMachine<S> {
 
     fn failures(&self) -> u64 {
         PartitionMachine::failures(self)
+    }
+
+    fn is_closed(&self) -> bool {
+        self.partition.is_closed()
     }
 
     fn log_end(&self) -> i64 {

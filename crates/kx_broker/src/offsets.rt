@@ -1,5 +1,6 @@
 //! The server of the offsets partition.
-ghost use Rattle.std.specs.Prelude.{◌≡◌, [], pos, IfOk, MatchResult, OnErr};
+ghost use Rattle.std.specs.Prelude.{◌≡◌, [], pos, IfOk, IsErr, MatchResult, OnErr};
+ghost use Rattle.kx_broker.specs.Memory.{GroupsInputMayLack, GroupsMayLack};
 ghost use Rattle.kx_broker.specs.Offsets.{HasOtherLog, IsKept, KeepsOffsets, OpensOffsets};
 ghost use Rattle.kx_broker.specs.Offsets.{StandsForGroups};
 ghost use Rattle.kx_broker.specs.Serving.{MayDo, Serves, opened_partition};
@@ -113,13 +114,14 @@ impl<S: Store> OffsetsMachine<S> {
             (λ store. offsets_takes p store message.now)) }
         ensures err { (p : node.Partition) → KeepsOffsets p self.old
             → OnErr result (self.new ≡ self.old) }
+        ensures memory { IsErr result → GroupsMayLack self.old message.now }
     {
         match message {
             Message::TxnOffsetCommit(it) => self.commit(it),
             Message::Join(it) => self.join(it),
             Message::Leave(it) => self.leave(it),
-            Message::OffsetFetch(it) => self.offset_fetch(it),
-            Message::Produce(it) => self.refuse(it),
+            Message::OffsetFetch(it) => Ok(self.offset_fetch(it)),
+            Message::Produce(it) => Ok(self.refuse(it)),
             Message::AddReply(it) => self.add_reply(it),
             Message::WriteMarker(it) => self.marker(it),
             Message::Fetch(it) => self.fetch(it),
@@ -148,12 +150,14 @@ impl<S: Store> OffsetsMachine<S> {
     ///
     /// # Errors
     ///
-    /// Only for want of memory; then it is as before.
+    /// Out of memory, only where the message appends to the log, parks a commit as one more, is
+    /// the answer on parked commits, or gets a page that isn't empty; then it is as before.
     pub fn deliver(&mut self, message: &Message) -> Result<Taken, AllocError>
-        ensures { (state : NodeState) → StandsForGroups state self.old → MatchResult result
+        ensures taken { (state : NodeState) → StandsForGroups state self.old → MatchResult result
             (IsTaken state (Comes message.now) (MayDo self.old)
             (λ s. StandsForGroups s self.new))
             (λ refused. StandsForGroups state self.new) }
+        ensures memory { IsErr result → GroupsMayLack self.old message.now }
     {
         let before = self.failures();
         let messages = self.serve(message)?;
@@ -169,12 +173,14 @@ impl<S: Store> OffsetsMachine<S> {
     ///
     /// # Errors
     ///
-    /// Only for want of memory; then it stands for what it stood for.
+    /// Out of memory, only at a message as [`deliver`](OffsetsMachine::deliver) has it, where a
+    /// member is dropped, or at a restart; then it stands for what it stood for.
     pub fn take(&mut self, input: &Input) -> Result<Taken, AllocError>
-        ensures { (state : NodeState) → StandsForGroups state self.old → MatchResult result
+        ensures taken { (state : NodeState) → StandsForGroups state self.old → MatchResult result
             (IsTaken state (input_of input.now) (MayDo self.old)
             (λ s. StandsForGroups s self.new))
             (λ refused. StandsForGroups state self.new) }
+        ensures memory { IsErr result → GroupsInputMayLack self.old (input_of input.now) }
     {
         let before = self.failures();
         match input {
@@ -210,6 +216,8 @@ impl<S: Store> Machine for OffsetsMachine<S> {
 
     ghost allows = { MayDo };
 
+    ghost failures_of = { λ server. server.log.store.failures };
+
     fn take(&mut self, input: &Input) -> Result<Taken, AllocError> {
         OffsetsMachine::take(self, input)
     }
@@ -220,6 +228,10 @@ impl<S: Store> Machine for OffsetsMachine<S> {
 
     fn failures(&self) -> u64 {
         OffsetsMachine::failures(self)
+    }
+
+    fn is_closed(&self) -> bool {
+        self.groups.is_closed()
     }
 
     fn log_end(&self) -> i64 {

@@ -1,8 +1,14 @@
 //! Batches of no producer that are put.
-ghost use Rattle.std.specs.Prelude.{◌≡◌, ◌∷◌, ℕ, IfOk, OnErr};
-ghost use Rattle.kx_broker.specs.Serving.{BuildsPlain, IsServed, Puts};
+ghost use Rattle.std.specs.Prelude.{◌≡◌, ◌∷◌, ℕ, All, IfOk, IsErr, OnErr, is_some, true};
+ghost use Rattle.kx_batch.specs.Batch.{SpellsBatch};
+ghost use Rattle.kx_batch.specs.Build.{within_limit};
+ghost use Rattle.kx_broker.specs.Serving.{IsServed, Puts, plain_batch};
+ghost use Rattle.kx_model.specs.Client.{value_records};
 ghost use Rattle.kx_model.specs.PartitionNode.{Partition, puts};
+ghost use Rattle.kx_model.specs.Produce.{Next};
 ghost use Rattle.kx_model.specs.Step.{plain_text};
+ghost use Rattle.kx_partition.specs.Answer.{verdict_at};
+ghost use Rattle.kx_varint.specs.Text.{IsBytes};
 
 use crate::machine::PartitionMachine;
 use crate::produce::bytes_fit;
@@ -13,9 +19,22 @@ use kx_message::ErrorCode;
 use kx_partition::Produced;
 use std::alloc::{AllocError, Global};
 
-// The text of the plain batch of some values, or None where it would pass the limit.
-fn plain_batch(alloc: Global, values: &Values) -> Result<Option<Vec<u8>>, AllocError>
-    ensures { IfOk result (BuildsPlain (values.now.first ∷ values.now.more) (λ text. text.items)) }
+// Values are bytes, as their types see to.
+fn values_fit(values: &Values)
+    ensures { All IsBytes (values.now.first ∷ values.now.more) }
+{
+    bytes_fit(values.first.as_slice());
+    for value in values.more.as_slice() {
+        bytes_fit(value.as_slice());
+    }
+}
+
+// The text of the plain batch of some values, which is within the limit.
+fn plain_batch(alloc: Global, values: &Values) -> Result<Vec<u8>, AllocError>
+    requires { is_some (within_limit (value_records (values.now.first ∷ values.now.more))) ≡ true }
+    ensures { IfOk result (λ text.
+        (text.items ≡ plain_text (values.now.first ∷ values.now.more))
+        × SpellsBatch (plain_batch (values.now.first ∷ values.now.more)) text.items) }
 {
     let mut builder = BatchBuilder::new(alloc, 0, -1, -1, -1);
     builder.push(None, Some(values.first.as_slice()), &[])?;
@@ -23,10 +42,10 @@ fn plain_batch(alloc: Global, values: &Values) -> Result<Option<Vec<u8>>, AllocE
         builder.push(None, Some(value.as_slice()), &[])?;
     }
     match builder.into_text() {
-        Ok(text) => Ok(Some(text)),
-        Err(BuildFault::TooLarge) => Ok(None),
+        Ok(text) => Ok(text),
         Err(BuildFault::Memory) => Err(AllocError),
         Err(BuildFault::Empty) => unreachable!(),
+        Err(BuildFault::TooLarge) => unreachable!(),
     }
 }
 
@@ -35,21 +54,26 @@ impl<S: Store> PartitionMachine<S> {
     ///
     /// # Errors
     ///
-    /// Only for want of memory; then all is as before.
+    /// Out of memory, only where the batch is to be appended; then all is as before.
     pub(crate) fn put(&mut self, values: &Values) -> Result<Produced, AllocError>
         ensures ok { (number : ℕ) (p : Partition) → IsServed number p self.old
             → IfOk result (Puts (IsServed number) p self.old self.new
             (λ store. puts p store (plain_text (values.now.first ∷ values.now.more)))) }
         ensures err { OnErr result (self.new ≡ self.old) }
+        ensures memory { IsErr result → verdict_at self.old.log true
+            (plain_text (values.now.first ∷ values.now.more)) ≡ Next }
     {
-        // Each batch stands in its place.
+        // Each batch stands in its place, and the values are bytes.
         let _end = self.partition.end();
-        match plain_batch(self.alloc, values)? {
-            Some(text) => {
-                bytes_fit(text.as_slice());
-                self.partition.produce(text.as_slice(), true)
-            }
-            None => Ok(Produced::Refused(ErrorCode::MessageTooLarge)),
+        values_fit(values);
+        if !values.fit() {
+            return Ok(Produced::Refused(ErrorCode::MessageTooLarge));
         }
+        if !self.partition.can_take(values.count()) {
+            return Ok(Produced::Refused(ErrorCode::KafkaStorageError));
+        }
+        let text = plain_batch(self.alloc, values)?;
+        bytes_fit(text.as_slice());
+        self.partition.produce(text.as_slice(), true)
     }
 }

@@ -1,24 +1,11 @@
-//! Replies to requests, and room for them that is asked for before anything is changed.
-ghost use Rattle.std.specs.Prelude.{◌≡◌, ◌<◌, ◌≤◌, ◌-◌, ◌∷◌, [], length, map, vec_capacity};
-ghost use Rattle.std.specs.Prelude.{vec_len};
-ghost use Rattle.std.specs.Prelude.{negsuc};
+//! Replies to requests, and to those that were parked.
+ghost use Rattle.std.specs.Prelude.{◌≡◌, ◌≤◌, ◌-◌, [], length, map, negsuc, vec_capacity};
 ghost use Rattle.kx_broker.specs.Serving.{offset_of};
 ghost use Rattle.kx_model.specs.Verification.{passed_on, reply_to};
 
-use kx_machine::Messages;
 use kx_message::{ErrorCode, Message, OffsetsReply, ProduceReply};
 use kx_partition::Produced;
 use kx_verify::{Append, Request};
-
-/// One message, for which there is room.
-pub(crate) fn only(mut room: Vec<Message>, message: Message) -> Messages
-    requires space { vec_len room < vec_capacity room }
-    requires empty { room.items ≡ [] }
-    ensures { result ≡ message ∷ [] }
-{
-    room.push_reserved(message);
-    Messages::from_vec(room)
-}
 
 /// The offset of an answer, -1 where there is none.
 pub(crate) fn offset_of(answer: Produced) -> i64

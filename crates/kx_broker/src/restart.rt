@@ -17,7 +17,7 @@ pub(crate) enum Restarted {
     Unread,
 }
 
-/// What a restart comes to whose log isn't read, or that memory is wanted.
+/// What a restart comes to whose log isn't read, or out of memory.
 pub(crate) fn unread_after(fault: OpenFault) -> Result<Restarted, AllocError>
     ensures { MatchResult result
         (λ restarted. (restarted ≡ Restarted.Unread) × (fault ≢ OpenFault.Memory))
@@ -35,7 +35,7 @@ impl<S: Store> PartitionMachine<S> {
     ///
     /// # Errors
     ///
-    /// Only for want of memory; then it stands for what it stood for.
+    /// Only out of memory; then it stands for what it stood for.
     pub(crate) fn restart(&mut self) -> Result<Restarted, AllocError>
         ensures { (number : ℕ) (p : Partition) → IsServed number p self.old
             → MatchResult result (Restarts (IsServed number) p self.old self.new)

@@ -1,11 +1,14 @@
 //! The coordinator's answers on commits of offsets that are parked.
-ghost use Rattle.std.specs.Prelude.{◌≡◌, ◌≢◌, ◌≤◌, [], IfOk, OnErr, length, map, vec_capacity};
+ghost use Rattle.std.specs.Prelude.{◌≡◌, ◌≢◌, ◌≤◌, ◌<◌, [], IfOk, IsErr, OnErr, length, map};
+ghost use Rattle.std.specs.Prelude.{vec_capacity};
+ghost use Rattle.kx_broker.specs.Memory.{GroupsMayLack};
 ghost use Rattle.kx_broker.specs.Offsets.{KeepsOffsets};
 ghost use Rattle.kx_broker.specs.Serving.{Serves, told_each};
 ghost use Rattle.kx_message.specs.Ranges.{offsets_partition};
 ghost use Rattle.kx_message.specs.declared.code.ErrorCode.TheVariants.{NoError};
 ghost use Rattle.kx_message.specs.declared.message.Message.TheVariants as msg;
 ghost use Rattle.kx_model.specs.PartitionNode.{Partition, offsets_takes, on_add_reply};
+ghost use Rattle.kx_model.specs.Verification.{parked_for};
 
 use crate::offsets::{OffsetsMachine, end_of};
 use crate::reply::{offset_of, pass_on, reply_to};
@@ -37,6 +40,7 @@ impl<S: Store> OffsetsMachine<S> {
             → IfOk result (Serves KeepsOffsets p self.old self.new
             (λ store. on_add_reply offsets_partition p store held.now NoError)) }
         ensures err { OnErr result (self.new ≡ self.old) }
+        ensures memory { IsErr result → 0 < length (parked_for self.old.parked held.now) }
     {
         // Each batch stands in its place.
         let _end = end_of(&self.groups);
@@ -55,6 +59,7 @@ impl<S: Store> OffsetsMachine<S> {
             → IfOk result (Serves KeepsOffsets p self.old self.new
             (λ store. on_add_reply offsets_partition p store held.now code)) }
         ensures err { OnErr result (self.new ≡ self.old) }
+        ensures memory { IsErr result → 0 < length (parked_for self.old.parked held.now) }
     {
         let requests = self.parked.of_held(*held);
         let room = Vec::with_capacity(self.alloc, requests.len())?;
@@ -68,12 +73,13 @@ impl<S: Store> OffsetsMachine<S> {
     ///
     /// # Errors
     ///
-    /// Only for want of memory; then all is as before.
+    /// Out of memory, only where some are parked; then all is as before.
     pub(crate) fn add_reply(&mut self, it: &AddReply) -> Result<Messages, AllocError>
         ensures ok { (p : Partition) → KeepsOffsets p self.old
             → IfOk result (Serves KeepsOffsets p self.old self.new
             (λ store. offsets_takes p store (msg.AddReply it.now))) }
         ensures err { OnErr result (self.new ≡ self.old) }
+        ensures memory { IsErr result → GroupsMayLack self.old (msg.AddReply it.now) }
     {
         if it.partition != PartitionId::OFFSETS {
             return Ok(Messages::none(self.alloc));

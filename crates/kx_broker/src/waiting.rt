@@ -1,12 +1,17 @@
 //! The commits of offsets that the offsets partition has parked.
-ghost use Rattle.std.specs.Prelude.{◌≡◌, [], All, MatchResult};
+ghost use Rattle.std.specs.Prelude.{◌≡◌, ◌≤ℤ◌, [], All, MatchResult, pos};
+ghost use Rattle.kx_broker.specs.Memory.{IsAdded};
 ghost use Rattle.kx_broker.specs.Offsets.{CommitsAt0, ParksCommit};
 ghost use Rattle.kx_group.specs.Calls.{AreAlike};
-ghost use Rattle.kx_model.specs.Verification.{parked_for, without};
+ghost use Rattle.kx_message.specs.declared.message.Message.TheVariants as msg;
+ghost use Rattle.kx_model.specs.Verification.{Parked, parked_for, without};
 ghost use Rattle.kx_verify.specs.Guard.{SameParked, after, answer_to};
+ghost use Rattle.kx_verify.specs.Request.{IsParked};
 
-use kx_message::Held;
-use kx_verify::{Asked, Guard, Request};
+use crate::parking::has_commit;
+use kx_message::{Held, TxnOffsetCommit};
+use kx_offsets::commits_fit;
+use kx_verify::{Asked, Guard, PARKED_LIMIT, Request};
 use std::alloc::{AllocError, Global};
 use std::marker::Model;
 
@@ -41,18 +46,32 @@ impl ParkedCommits {
         }
     }
 
-    /// Parks a commit, as [`Guard::ask`] does.
+    /// Parks a commit, as [`Guard::ask`] does; it is copied only where it is parked as one more.
     ///
     /// # Errors
     ///
-    /// Only for want of memory; then all is as before.
-    pub(crate) fn ask(&mut self, request: Request) -> Result<Asked, AllocError>
-        requires { CommitsAt0 request.request }
-        ensures { MatchResult result (λ asked. (asked ≡ answer_to self.old request)
-            × SameParked self.new (after self.old request))
-            (λ refused. self.new ≡ self.old) }
+    /// Out of memory, only where it is parked as one more; then all is as before.
+    pub(crate) fn ask(&mut self, it: &TxnOffsetCommit) -> Result<Asked, AllocError>
+        requires above { pos 0 ≤ℤ it.now.first_sequence }
+        requires at_0 { (p : Parked) → IsParked (msg.TxnOffsetCommit it.now) p
+            → CommitsAt0 p.request }
+        ensures { (p : Parked) → IsParked (msg.TxnOffsetCommit it.now) p → MatchResult result
+            (λ asked. (asked ≡ answer_to self.old p) × SameParked self.new (after self.old p))
+            (λ refused. (self.new ≡ self.old) × IsAdded self.old p) }
     {
-        self.guard.ask(request)
+        // What it holds fits its fields, so its batch has the id and epoch that it names.
+        commits_fit(it);
+        let parked = self.guard.parked(it.held);
+        if has_commit(parked, it) {
+            return Ok(Asked::Parked);
+        }
+        if parked.len() == PARKED_LIMIT {
+            return Ok(Asked::Full);
+        }
+        match Request::of_offsets(it.clone()?) {
+            Ok(request) => self.guard.ask(request),
+            Err(_) => unreachable!(),
+        }
     }
 
     /// Those of an id and epoch, in order of arrival.

@@ -11,6 +11,7 @@ pub use fault::StepFault;
 pub use lines::{Line, read_line};
 pub use runs::Runs;
 pub use script::{Script, judge_script, tell};
+pub use streams::{Giving, Taking};
 pub use subject::Subject;
 pub use tally::{Tally, try_cases};
 pub use telling::{
@@ -22,6 +23,7 @@ mod fault;
 mod lines;
 mod runs;
 mod script;
+mod streams;
 mod subject;
 mod tally;
 mod telling;

@@ -1,8 +1,9 @@
 //! The log of a partition, on a store that is made to fail. `open NTH KEEP BYTES` opens what bytes
 //! hold, on a store whose NTH append fails and leaves KEEP bytes (0: none fails); `append BATCH`,
 //! `appends COUNT BATCH`, `arm KEEP`, `disarm`, `arm-load`, `disarm-load` and `reopen` go on with
-//! it; `end`, `failures`, `takes COUNT`, `first` and `slice FROM UPPER MAX` tell of it. The other
-//! steps are sweeps, each over logs of its own.
+//! it; `end`, `failures`, `takes COUNT`, `first` and `slice FROM UPPER MAX` tell of it; `stored`
+//! tells how many bytes its store has, and opens it anew. The other steps are sweeps, each over logs
+//! of its own.
 use crate::stores::{FailingStore, failing};
 use crate::sweeps::{bits, cuts, failures, flips, grow};
 use kx_batch::BatchView;
@@ -141,6 +142,18 @@ impl LogCases {
         }
     }
 
+    // How many bytes the log's store has. The log is opened anew on it.
+    fn stored(&mut self) -> Result<String, StepFault> {
+        let log = self.log.take().ok_or(StepFault::Unknown)?;
+        let mut store = log.into_store();
+        let count = match store.load() {
+            Ok(bytes) => bytes.len(),
+            Err(_) => return Err(StepFault::Unknown),
+        };
+        self.log = opened(self.alloc, store).ok();
+        told_value(self.alloc, count)
+    }
+
     // A step that takes a batch, or that tells of the log.
     fn step(&mut self, texts: &Texts, words: &[&str]) -> Result<String, StepFault> {
         let log = self.log.as_mut().ok_or(StepFault::Unknown)?;
@@ -193,6 +206,7 @@ impl Subject for LogCases {
             ["open", nth, keep, bytes] => {
                 self.open(texts.bytes(bytes)?, value(nth)?, value(keep)?)
             }
+            ["stored"] => self.stored(),
             _ => self.sweep(texts, words),
         }
     }

@@ -1,7 +1,6 @@
 //! Steps that dump bytes.
 use crate::parts::{ended_in_front, nothing};
-use crate::streams::Taking;
-use kx_cases::{Runs, StepFault, Subject, Texts, told_name, told_value, value};
+use kx_cases::{Runs, StepFault, Subject, Taking, Texts, told_name, told_value, value};
 use kx_text::dump_batches;
 use std::alloc::Global;
 use std::str;

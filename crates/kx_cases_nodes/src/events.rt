@@ -10,7 +10,8 @@ use kx_machine::{Command, Input, StoreMode};
 use kx_message::{
     Bytes, ErrorCode, GroupId, Node, Offsets, Outcome, PartitionId, PartitionOffset, Timeout, TxnId,
 };
-use kx_script::{Prefixed, write_rows};
+use kx_processor::Prefixed;
+use kx_script::write_rows;
 use kx_txnlog::Row;
 use std::alloc::{AllocError, Global};
 use std::mem;

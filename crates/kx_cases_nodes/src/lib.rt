@@ -18,6 +18,5 @@ mod replies;
 mod scripts;
 mod sending;
 mod shown;
-mod streams;
 mod sweeps;
 mod words;

@@ -1,10 +1,9 @@
 //! Steps that run scripts: as they stand, over streams that fail, with appends that fail, with each
-//! byte in a place, and one of a long line.
+//! byte in a place, one of a long line, and behind many lines.
 use crate::lines::{script_of, tell_on_one_line};
 use crate::parts::ended_in_front;
-use crate::streams::{Giving, Taking};
 use crate::sweeps::sweep;
-use kx_cases::{Runs, StepFault, Subject, Texts, told_name, value};
+use kx_cases::{Giving, Runs, StepFault, Subject, Taking, Texts, told_name, value};
 use kx_script::{ScriptWorld, run_script};
 use std::alloc::{AllocError, Global};
 use std::io::BufRead;
@@ -128,6 +127,16 @@ fn long_put(alloc: Global, words: usize) -> Result<String, StepFault> {
     run(alloc, &mut script.as_bytes())
 }
 
+// A script after n empty lines.
+fn far_down(alloc: Global, lines: usize, script: &str) -> Result<String, StepFault> {
+    let mut text = String::new(alloc);
+    for _ in 0..lines {
+        text.push('\n')?;
+    }
+    text.push_str(script)?;
+    run(alloc, &mut text.as_bytes())
+}
+
 // The number at the front of a text, and what stands behind it.
 fn numbered(text: &str) -> Result<(usize, &str), StepFault> {
     let Some((number, rest)) = text.split_once(' ') else {
@@ -169,6 +178,10 @@ fn taken(alloc: Global, name: &str, text: &str) -> Result<String, StepFault> {
         "run" => run(alloc, &mut text.as_bytes()),
         "torn" => run(alloc, &mut Giving::new(text.as_bytes(), usize::MAX, 1)),
         "long_put" => long_put(alloc, value(text)?),
+        "far_down" => {
+            let (lines, script) = numbered(text)?;
+            far_down(alloc, lines, script)
+        }
         _ => told_many(alloc, name, text),
     }
 }

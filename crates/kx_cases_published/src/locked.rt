@@ -6,14 +6,14 @@ use kx_broker::PartitionMachine;
 use kx_cases::StepFault;
 use kx_log::Store;
 use kx_machine::{Input, Machine};
-use kx_nodes::{Locked, Made};
+use kx_nodes::{Made, Traced};
 use std::alloc::{AllocError, Global};
 use std::sync::{Arc, Mutex, Wait};
 use std::thread::Threads;
 
 /// A machine of whose log pages can be taken.
 pub(crate) trait Paged: Machine {
-    /// Where a page of committed records from 0 ends, which has at most so many bytes.
+    /// Where a page of committed records from 0 ends, which has at most `max` bytes.
     fn page_end(&self, max: u32) -> Option<i64>;
 }
 
@@ -30,7 +30,7 @@ impl<S: Store> Paged for PartitionMachine<S> {
 #[derive(Drop)]
 struct Shared<M: Paged, B: Made, R: Wait + Drop> {
     rt: R,
-    node: Arc<Mutex<Locked<M, B>>>,
+    node: Arc<Mutex<Traced<M, B>>>,
 }
 
 // A page is taken under the lock.
@@ -46,14 +46,14 @@ impl<M: Paged, B: Made, R: Wait + Drop> Source for Shared<M, B, R> {
     }
 }
 
-// Starts so many threads that take pages under the lock.
+// Starts threads that take pages under the lock.
 fn join_in<
     M: Paged + Send + Sync + 'static,
     B: Made + Send + Sync + 'static,
     R: Threads + Wait + Copy + Send + 'static,
 >(
     rt: R,
-    node: &Arc<Mutex<Locked<M, B>>>,
+    node: &Arc<Mutex<Traced<M, B>>>,
     crowd: &mut Crowd<R>,
     readers: usize,
 ) -> Result<(), AllocError> {
@@ -66,23 +66,23 @@ fn join_in<
     Ok(())
 }
 
-// Puts so many batches under the lock.
+// Puts batches under the lock.
 fn grow<M: Machine, B: Made, R: Wait>(
     rt: &R,
     alloc: Global,
-    node: &Mutex<Locked<M, B>>,
+    node: &Mutex<Traced<M, B>>,
     count: u64,
 ) -> Result<(), AllocError> {
     for _ in 0..count {
         let input = Input::Put(values_of(alloc, VALUE)?);
-        if let Err(_) = node.lock(rt).take(input) {
+        if let Err(_) = node.lock(rt).record(input) {
             return Err(AllocError);
         }
     }
     Ok(())
 }
 
-/// Has so many threads take pages under a node's lock, while so many batches are put under it, and
+/// Has threads take pages under a node's lock, while batches are put under it, and
 /// tells how many they took.
 pub(crate) fn compare<
     M: Paged + Send + Sync + 'static,
@@ -91,7 +91,7 @@ pub(crate) fn compare<
 >(
     rt: R,
     alloc: Global,
-    node: Locked<M, B>,
+    node: Traced<M, B>,
     readers: usize,
     count: u64,
 ) -> Result<String, StepFault> {

@@ -1,4 +1,4 @@
-//! What a script hands the node, and what is told of its answer.
+//! What a script puts to the node, and what is told of its answer.
 use kx_cases::StepFault;
 use kx_client::{ValueList, Values};
 use kx_machine::Note;
@@ -29,7 +29,7 @@ pub(crate) fn values_of(alloc: Global, words: &str) -> Result<Values, AllocError
     })
 }
 
-// The messages that a step handed out, a line each, with where they go.
+// The messages that a step sends, a line each, with where they go.
 fn tell_messages(told: &mut String, receipt: &Receipt) -> Result<(), StepFault> {
     let messages = receipt.taken.messages.as_slice();
     if messages.is_empty() {

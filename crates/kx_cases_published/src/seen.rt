@@ -47,7 +47,7 @@ pub(crate) struct Look {
 
 /// Where a thread takes its pages from.
 pub(crate) trait Source: Drop {
-    /// Looks at the log as it is now, if there is one, with a page of at most so many bytes.
+    /// Looks at the log as it is now, if there is one, with a page of at most `max` bytes.
     fn look(&mut self, max: u32) -> Option<Look>;
 }
 
@@ -98,7 +98,7 @@ impl Seen {
     }
 
     // What is wrong with a look that comes next. A page of a whole log ends where the log does, and
-    // none ends behind it.
+    // none ends after it.
     fn judge(&self, look: Look, pace: Pace) -> Option<Wrong> {
         if look.number < self.number {
             return Some(Wrong::Number);

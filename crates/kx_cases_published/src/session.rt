@@ -1,7 +1,7 @@
 //! A node whose log is published, and what the lines of a script do with it:
 //!
 //! - `put WORD..` puts a batch of these values: `offset N`; `bring BYTES` delivers the messages of
-//!   frames, and tells what each step hands out as `NODE MESSAGE`, `-` where nothing; `bytes NAME =
+//!   frames, and tells what each step sends as `NODE MESSAGE`, `-` where nothing; `bytes NAME =
 //!   BYTES` gives bytes a name;
 //! - `publish` publishes the log: `published K`; `finish` ends the node: `finished N`, with the
 //!   count of its steps;
@@ -21,17 +21,20 @@ use crate::pages::{View, tell_entered, tell_gone, tell_published};
 use crate::puts::{VALUE, tell_receipt, values_of};
 use crate::seen::{Pace, Seen, tell_pages, tell_race};
 use kx_cases::{StepFault, Texts, value};
-use kx_machine::{Input, Machine};
-use kx_nodes::{Made, Receipt};
+use kx_machine::Input;
+use kx_nodes::{Made, Node, Receipt, Traced};
 use kx_published::book::Naming;
 use kx_published::ends::PageReader;
 use kx_published::told::Told;
-use kx_publishing::PublishedNode;
+use kx_publishing::{Logging, PublishedMachine, PublishedNode};
 use kx_text::mode_of;
 use kx_wire::Frames;
 use std::alloc::{AllocError, Global};
 use std::sync::Wait;
 use std::thread::Threads;
+
+// A node whose log is published, with its trace.
+pub(crate) type Published<M, B, J, R> = Node<PublishedMachine<Traced<M, B>, J, R>>;
 
 // A reader under its name.
 #[derive(Drop)]
@@ -42,13 +45,13 @@ struct Named<J: Naming> {
 
 /// A node whose log is published, its readers, and what is told.
 #[derive(Drop)]
-pub(crate) struct Session<M: Machine, B: Made, J: Naming, R: Wait + Drop> {
+pub(crate) struct Session<M: Logging, B: Made, J: Naming, R: Wait + Drop> {
     rt: R,
     alloc: Global,
     texts: Texts,
     // dropped before the node, whose drop waits until they have left
     readers: Vec<Named<J>>,
-    node: Option<PublishedNode<M, B, J, R>>,
+    node: Option<Published<M, B, J, R>>,
     last: Option<Told<J>>,
     told: String,
 }
@@ -79,13 +82,13 @@ fn learn<J: Naming>(reader: &mut PageReader<J>, told: &Told<J>) -> Result<(), St
 }
 
 impl<
-    M: Machine,
+    M: Logging,
     B: Made,
     J: Naming + Send + 'static,
     R: Threads + Wait + Copy + Send + 'static,
 > Session<M, B, J, R> {
     /// A node with no readers, of which nothing is told.
-    pub(crate) fn new(rt: R, alloc: Global, node: PublishedNode<M, B, J, R>) -> Self {
+    pub(crate) fn new(rt: R, alloc: Global, node: Published<M, B, J, R>) -> Self {
         Session {
             rt,
             alloc,
@@ -196,12 +199,12 @@ impl<
         let Some(node) = self.node.take() else {
             return Err(StepFault::Unknown);
         };
-        let (trace, _machine) = node.finish(&self.rt).into_parts();
+        let (trace, _machine) = node.finish().into_locked().into_parts();
         let count = trace.steps().len();
         Ok(writeln!(self.told, "finished {count}")?)
     }
 
-    // Starts so many threads with a reader each.
+    // Starts threads with a reader each.
     fn join_in(&self, crowd: &mut Crowd<R>, readers: usize, pace: Pace) -> Result<(), StepFault> {
         for _ in 0..readers {
             let Some(reader) = self.reader() else {
@@ -214,7 +217,7 @@ impl<
         Ok(())
     }
 
-    // Puts so many batches, and publishes each.
+    // Puts batches, and publishes each.
     fn grow(&mut self, count: u64) -> Result<(), StepFault> {
         for _ in 0..count {
             let values = values_of(self.alloc, VALUE)?;
@@ -224,7 +227,7 @@ impl<
         Ok(())
     }
 
-    // What so many threads see while so many batches are put and published.
+    // What threads see while batches are put and published.
     fn beside(&mut self, readers: usize, count: u64, pace: Pace) -> Result<Vec<Seen>, StepFault> {
         let mut crowd = Crowd::new(self.rt, self.alloc)?;
         let mut done = self.join_in(&mut crowd, readers, pace);

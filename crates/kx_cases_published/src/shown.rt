@@ -15,9 +15,9 @@ use kx_cases::{Script, StepFault, Tally, judge_script, value};
 use kx_log::MemStore;
 use kx_machine::Making;
 use kx_message::PartitionId;
-use kx_nodes::Locked;
+use kx_nodes::{Node, Traced};
 use kx_published::book::{Naming, Opened};
-use kx_publishing::PublishedNode;
+use kx_publishing::{PublishedMachine, Publishes};
 use std::alloc::{AllocError, Global};
 use std::io;
 use std::marker::Brand;
@@ -54,18 +54,15 @@ fn told_by<J: Naming + Send + 'static, R: Threads + Wait + Copy + Send + 'static
         return Err(StepFault::Unknown);
     }
     let machine = empty_server(alloc, number)?;
-    let node = PublishedNode::<_, _, J, R>::publishing(
-        rt,
-        alloc,
-        Making::Partition(number),
-        machine,
-        opened,
-        readers as usize,
+    let traced = Traced::new(alloc, Making::Partition(number), machine);
+    let (readers, when) = (readers as usize, Publishes::OnCall);
+    let machine = PublishedMachine::<_, J, R>::publishing(
+        rt, alloc, traced, opened, readers, when,
     )?;
-    Session::new(rt, alloc, node).run(script.as_str())
+    Session::new(rt, alloc, Node::new(machine)).run(script.as_str())
 }
 
-// The same, of partition 0. The name of the partition's book is picked here.
+// What a script tells of partition 0. The name of the partition's book is picked here.
 fn told_of<R: Threads + Wait + Copy + Send + 'static>(
     rt: R,
     alloc: Global,
@@ -76,7 +73,7 @@ fn told_of<R: Threads + Wait + Copy + Send + 'static>(
     told_by::<Brand, R>(rt, alloc, Opened::new(number), readers, script)
 }
 
-// What so many threads tell that take pages under a node's lock, while so many batches are put.
+// What threads tell that take pages under a node's lock, while batches are put.
 fn told_locked<R: Threads + Wait + Copy + Send + 'static>(
     rt: R,
     alloc: Global,
@@ -85,16 +82,16 @@ fn told_locked<R: Threads + Wait + Copy + Send + 'static>(
 ) -> Result<String, StepFault> {
     let number = PartitionId::try_from(0).map_err(|_| StepFault::Unknown)?;
     let machine = empty_server(alloc, number)?;
-    let node = Locked::new(alloc, Making::Partition(number), machine);
+    let node = Traced::new(alloc, Making::Partition(number), machine);
     compare(rt, alloc, node, readers, count)
 }
 
 // What a script is about.
 #[derive(Clone, Copy)]
 enum Stage {
-    // a node with places for so many readers
+    // a node with places for readers
     Node(u32),
-    // so many threads that take pages under a lock, while so many batches are put
+    // threads that take pages under a lock, while batches are put
     Locked(usize, u64),
 }
 

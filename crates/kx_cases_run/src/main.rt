@@ -4,7 +4,8 @@
 //! - NAME.kx: a script, which has to write NAME.out;
 //! - NAME.served: a script that threads carry out, NAME.shown: one over a log that is published,
 //!   and NAME.session: a session with a server, each of which has to tell NAME.out;
-//! - NAME.demo: what a demonstration is asked for, which has to print NAME.out.
+//! - NAME.demo: what a demonstration is asked for, which has to print NAME.out;
+//! - NAME.program: runs of the program with words and streams, which have to tell NAME.out.
 //!
 //! Prints of each case and each file whether its answers came, and how many failed.
 #![tactic(auto)]
@@ -17,8 +18,9 @@ use kx_cases_formats::try_formats;
 use kx_cases_groups::try_groups;
 use kx_cases_logs::try_logs;
 use kx_cases_nodes::{try_nodes, try_pair};
+use kx_cases_program::{try_demo, try_program};
 use kx_cases_published::try_shown;
-use kx_cases_server::{try_demo, try_session};
+use kx_cases_server::try_session;
 use kx_cases_streams::try_streams;
 use kx_cases_threads::try_served;
 use std::env::Env;
@@ -94,6 +96,7 @@ where
             Some((name, "shown")) => try_shown(rt, name)?,
             Some((name, "session")) => try_session(rt, name)?,
             Some((name, "demo")) => try_demo(rt, name)?,
+            Some((name, "program")) => try_program(rt, name)?,
             Some(_) | None => tell(rt, path.as_str(), false)?,
         };
         tally = tally.and(tried);

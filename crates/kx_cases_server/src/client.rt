@@ -22,6 +22,14 @@ pub(crate) struct Client {
     stream: TcpStream,
 }
 
+// The most frames that are read until a connection is closed.
+const MOST_FRAMES: usize = 10_000;
+
+// Where the kind of a frame stands, and that of a page.
+const KIND_PLACE: usize = 4;
+
+const FETCH_REPLY: u8 = 12;
+
 // A number of 32 bits, big-endian.
 fn number_in(bytes: [u8; 4]) -> usize {
     u32::from_be_bytes(bytes) as usize
@@ -90,6 +98,21 @@ impl Client {
     /// Sends a request, and says whether a frame comes back.
     pub(crate) fn is_answered(&self, alloc: Global, request: &[u8]) -> Result<bool, StepFault> {
         Ok(self.send(request) && self.receive(alloc)?.is_some())
+    }
+
+    /// Reads frames until the other end closes the connection, and gives how many of them are pages.
+    /// Answers None where the connection doesn't close in time.
+    pub(crate) fn pages(&self, alloc: Global) -> Result<Option<usize>, StepFault> {
+        let mut pages = 0usize;
+        for _ in 0..MOST_FRAMES {
+            let Some(frame) = self.receive(alloc)? else {
+                return Ok(if self.is_closed() { Some(pages) } else { None });
+            };
+            if frame.as_slice().get(KIND_PLACE) == Some(&FETCH_REPLY) {
+                pages = pages.saturating_add(1);
+            }
+        }
+        Ok(None)
     }
 
     /// Sends a request until this reply comes, and says whether it did. Other replies are passed

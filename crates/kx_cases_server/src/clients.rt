@@ -4,6 +4,16 @@ use kx_cases::{StepFault, told_bytes};
 use std::alloc::Global;
 use std::net::{Net, TcpStream};
 
+// A request as the client of this number sends it, which stands after the frame's length and kind.
+fn of_client(alloc: Global, request: &[u8], number: u32) -> Result<Vec<u8>, StepFault> {
+    let front = request.get(..5).ok_or(StepFault::Unknown)?;
+    let back = request.get(9..).ok_or(StepFault::Unknown)?;
+    let mut whole = Vec::from_slice(alloc, front)?;
+    whole.extend_from_slice(number.to_be_bytes().as_slice())?;
+    whole.extend_from_slice(back)?;
+    Ok(whole)
+}
+
 /// The connections of a session, each under a name.
 #[derive(Drop)]
 pub(crate) struct Clients {
@@ -53,6 +63,54 @@ impl Clients {
             self.clients.push(client)?;
         }
         Ok(answered)
+    }
+
+    /// Sends a request this often over each of two connections in turn, and gives how many are
+    /// answered.
+    pub(crate) fn take_turns(
+        &self,
+        first: &str,
+        second: &str,
+        count: usize,
+        request: &[u8],
+    ) -> Result<usize, StepFault> {
+        let mut answered = 0usize;
+        for _ in 0..count {
+            for name in [first, second] {
+                if self.named(name)?.is_answered(self.alloc, request)? {
+                    answered = answered.saturating_add(1);
+                }
+            }
+        }
+        Ok(answered)
+    }
+
+    /// Sends a request for each of this many clients, from number 0 on, until one isn't answered,
+    /// and gives how many are.
+    pub(crate) fn speak_for(
+        &self,
+        name: &str,
+        count: u32,
+        request: &[u8],
+    ) -> Result<usize, StepFault> {
+        let client = self.named(name)?;
+        let mut answered = 0usize;
+        for number in 0..count {
+            let request = of_client(self.alloc, request, number)?;
+            if !client.is_answered(self.alloc, request.as_slice())? {
+                break;
+            }
+            answered = answered.saturating_add(1);
+        }
+        Ok(answered)
+    }
+
+    /// Tells how many pages come over a connection until the server closes it.
+    pub(crate) fn tell_pages(&self, name: &str, told: &mut String) -> Result<(), StepFault> {
+        match self.named(name)?.pages(self.alloc)? {
+            Some(count) => Ok(writeln!(told, "{name} {count} pages")?),
+            None => Ok(writeln!(told, "{name} open")?),
+        }
     }
 
     /// The first connection of a name.

@@ -17,15 +17,17 @@ pub(crate) struct Wanted {
     pub(crate) partitions: Partitions,
     pub(crate) connections: Connections,
     pub(crate) dir: Option<String>,
+    pub(crate) expires: bool,
 }
 
 impl Wanted {
-    /// As words have it.
+    /// What these words ask for.
     pub(crate) fn new(
         alloc: Global,
         partitions: &str,
         connections: &str,
         dir: Option<&str>,
+        expires: bool,
     ) -> Result<Wanted, StepFault> {
         let dir = match dir {
             Some(dir) => Some(String::from_str(alloc, dir)?),
@@ -35,16 +37,18 @@ impl Wanted {
             partitions: Partitions::new(value(partitions)?).ok_or(StepFault::Unknown)?,
             connections: Connections::new(value(connections)?).ok_or(StepFault::Unknown)?,
             dir,
+            expires,
         })
     }
 
-    /// The same, on any port that is free.
+    /// These as options, on any port that is free.
     pub(crate) fn options(&self) -> ServeOptions<'_> {
         ServeOptions {
             partitions: self.partitions,
             connections: self.connections,
             port: 0,
             dir: self.dir.as_deref(),
+            expires: self.expires,
             tells_progress: false,
         }
     }

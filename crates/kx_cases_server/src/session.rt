@@ -2,29 +2,40 @@
 //!
 //! - `bytes NAME = BYTES` gives bytes a name, as in files of cases;
 //! - `serve P N` starts a server of P data partitions for N connections, with its logs in memory,
-//!   and `serve P N in FOLDER` with its logs in a folder: `listening`, once it takes connections;
+//!   and tells `listening`, once it takes connections; `serve P N in FOLDER` has its logs in a
+//!   folder, `serve P N nowhere` in that of the empty name, and `serve P N expiring` ends
+//!   transactions that last too long;
 //! - `open A` connects, under the name A; `crowd A N BYTES` connects N times, each under the name A
 //!   and with this request, and tells how many of them are answered;
 //! - `send A BYTES` writes bytes, and `bytewise A BYTES` writes them in pieces of one byte;
 //! - `receive A` tells the next frame; `closed A` tells whether the server closes the connection;
+//!   `pages A` tells how many pages come until it does;
 //! - `until A REQUEST REPLY` sends a request again and again, and tells whether that reply came;
+//! - `turns A B N REQUEST` sends a request N times over each of two connections in turn, and
+//!   `speak A N REQUEST` for N clients, from number 0 on; both tell how many were answered;
 //! - `finish A` sends nothing more; `drop A` closes the connections of this name;
 //! - `end` closes all connections, waits for the server, and tells its fault, as number and words,
-//!   and what it printed behind the port;
+//!   and what it printed after the port;
 //! - `rival FOLDER` has a second server try to serve that folder, and tells its fault;
-//! - `clear FOLDER` removes a folder and what is in it; `append FILE BYTES` puts bytes behind those
-//!   of a file.
+//! - `clear FOLDER` removes a folder and what is in it; `append FILE BYTES` puts bytes after those
+//!   of a file, and `shorten FILE N` takes N off its end; `move FILE FILE` gives a file another
+//!   name, and `there FILE` tells whether it is there;
+//! - `wait N` waits for N milliseconds;
+//! - `patience N` has something tried that works after N tries, and tells how often it was tried and
+//!   how often it was told that it waits.
 use crate::clients::Clients;
-use crate::folder::{append, clear};
+use crate::folder::{append, clear, rename, shorten, tell_there};
 use crate::running::{Running, Wanted, tell_end};
+use crate::waiting::tell_patience;
 use kx_cases::{StepFault, Texts, value};
 use kx_server::serve;
 use std::alloc::{AllocError, Global};
 use std::fs::{File, Files};
 use std::net::{Net, TcpListener, TcpStream};
 use std::sync::Wait;
+use std::thread;
 use std::thread::Threads;
-use std::time::Clock;
+use std::time::{Clock, Duration};
 
 /// A session: the server, if one runs, its port, its clients, and what is told.
 #[derive(Drop)]
@@ -75,8 +86,9 @@ where
         partitions: &str,
         connections: &str,
         dir: Option<&str>,
+        expires: bool,
     ) -> Result<(), StepFault> {
-        let wanted = Wanted::new(self.alloc, partitions, connections, dir)?;
+        let wanted = Wanted::new(self.alloc, partitions, connections, dir, expires)?;
         let running = Running::start(self.rt, self.alloc, wanted)?;
         if let Some(port) = running.port(&self.rt, self.alloc)? {
             self.port = port;
@@ -88,7 +100,7 @@ where
 
     // Has a second server try a folder, on this thread: it never gets as far as a connection.
     fn rival(&mut self, dir: &str) -> Result<(), StepFault> {
-        let wanted = Wanted::new(self.alloc, "1", "1", Some(dir))?;
+        let wanted = Wanted::new(self.alloc, "1", "1", Some(dir), false)?;
         let mut out = Vec::new(self.alloc);
         let ended = serve(self.rt, &wanted.options(), &mut out);
         Ok(tell_end(&mut self.told, ended)?)
@@ -144,21 +156,78 @@ where
         append(&self.rt, file, bytes.as_slice())
     }
 
-    // Takes a step with a server or its folder.
-    fn take_server(&mut self, words: &[&str]) -> Result<(), StepFault> {
+    // Sends a request over two connections in turn.
+    fn turns(
+        &mut self,
+        first: &str,
+        second: &str,
+        count: usize,
+        request: &str,
+    ) -> Result<(), StepFault> {
+        let request = self.texts.bytes(request)?;
+        let answered = self
+            .clients
+            .take_turns(first, second, count, request.as_slice())?;
+        Ok(writeln!(self.told, "{answered} answered")?)
+    }
+
+    // Sends a request for many clients.
+    fn speak(&mut self, name: &str, count: u32, request: &str) -> Result<(), StepFault> {
+        let request = self.texts.bytes(request)?;
+        let answered = self.clients.speak_for(name, count, request.as_slice())?;
+        Ok(writeln!(self.told, "{answered} answered")?)
+    }
+
+    // Takes a step with files.
+    fn take_files(&mut self, words: &[&str]) -> Result<(), StepFault> {
         match words {
-            ["serve", partitions, connections] => self.start(partitions, connections, None),
-            ["serve", partitions, connections, "in", dir] => {
-                self.start(partitions, connections, Some(*dir))
-            }
-            ["end"] => self.end(),
-            ["rival", folder] => self.rival(folder),
             ["clear", folder] => {
                 clear(&self.rt, folder);
                 Ok(())
             }
             ["append", file, bytes] => self.append(file, bytes),
+            ["shorten", file, count] => shorten(&self.rt, file, value(count)?),
+            ["move", from, to] => rename(&self.rt, from, to),
+            ["there", file] => tell_there(&self.rt, file, &mut self.told),
             _ => Err(StepFault::Unknown),
+        }
+    }
+
+    // Takes a step with a server, or waits.
+    fn take_server(&mut self, words: &[&str]) -> Result<(), StepFault> {
+        match words {
+            ["serve", partitions, connections] => self.start(partitions, connections, None, false),
+            ["serve", partitions, connections, "expiring"] => {
+                self.start(partitions, connections, None, true)
+            }
+            ["serve", partitions, connections, "nowhere"] => {
+                self.start(partitions, connections, Some(""), false)
+            }
+            ["serve", partitions, connections, "in", dir] => {
+                self.start(partitions, connections, Some(*dir), false)
+            }
+            ["end"] => self.end(),
+            ["rival", folder] => self.rival(folder),
+            ["wait", millis] => {
+                thread::sleep(&self.rt, Duration::from_millis(value(millis)?));
+                Ok(())
+            }
+            ["patience", count] => tell_patience(&self.rt, value(count)?, &mut self.told),
+            _ => self.take_files(words),
+        }
+    }
+
+    // Takes a step with more than one request.
+    fn take_many(&mut self, words: &[&str]) -> Result<(), StepFault> {
+        match words {
+            ["crowd", name, count, bytes] => self.crowd(name, value(count)?, bytes),
+            ["turns", first, second, count, bytes] => {
+                self.turns(first, second, value(count)?, bytes)
+            }
+            ["speak", name, count, bytes] => self.speak(name, value(count)?, bytes),
+            ["until", name, request, reply] => self.until(name, request, reply),
+            ["pages", name] => self.clients.tell_pages(name, &mut self.told),
+            _ => self.take_server(words),
         }
     }
 
@@ -167,12 +236,10 @@ where
         match words {
             ["bytes", name, "=", bytes] => self.texts.name(name, bytes),
             ["open", name] => self.clients.open(&self.rt, self.port, name),
-            ["crowd", name, count, bytes] => self.crowd(name, value(count)?, bytes),
             ["send", name, bytes] => self.send(name, bytes),
             ["bytewise", name, bytes] => self.send_bytewise(name, bytes),
             ["receive", name] => self.clients.tell_next(name, &mut self.told),
             ["closed", name] => self.clients.tell_closed(name, &mut self.told),
-            ["until", name, request, reply] => self.until(name, request, reply),
             ["finish", name] => {
                 self.clients.named(name)?.finish();
                 Ok(())
@@ -181,7 +248,7 @@ where
                 self.clients.close(name);
                 Ok(())
             }
-            _ => self.take_server(words),
+            _ => self.take_many(words),
         }
     }
 

@@ -1,7 +1,7 @@
 //! Streams that the server of partition 0 serves. `serve BYTES` goes to the case's own server, and
 //! tells how the stream ended and what was written. The other steps make a server for each stream:
 //! `pieces BYTES` gives the stream in pieces of 1 byte, of 2, and so on, and compares with the
-//! stream in one piece; `reads N MOST BYTES` gives N bytes at once and fails at the first read, at
+//! stream in one piece; `slow N BYTES` gives N bytes at once, and tells as `serve` does; `reads N MOST BYTES` gives N bytes at once and fails at the first read, at
 //! the second, up to that behind MOST; `writes N MOST BYTES` takes N bytes at once and fails so;
 //! both tell how many bytes were written.
 use crate::ends::{Giving, Taking};
@@ -177,6 +177,11 @@ impl Subject for StreamCases {
             ["pieces", bytes] => {
                 let bytes = texts.bytes(bytes)?;
                 pieces(alloc, bytes.as_slice())
+            }
+            ["slow", once, bytes] => {
+                let bytes = texts.bytes(bytes)?;
+                let gives = value(once)?;
+                of_new(alloc, bytes.as_slice(), Ends { gives, ..WHOLE })
             }
             [fails, once, most, bytes] => {
                 let bytes = texts.bytes(bytes)?;

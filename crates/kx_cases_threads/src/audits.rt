@@ -4,11 +4,12 @@ ghost use Rattle.std.specs.Prelude.{◌<◌, length, IfSome};
 use crate::nodes::ServedTrace;
 use kx_audit::{Run, audit};
 use kx_cases::StepFault;
-use kx_cluster::{AnyMachine, AnyMaking};
+use kx_cluster::AnyMaking;
+use kx_machines::{AnyMachine, BrokerMachine, LocalStore};
 use kx_message::{ClientId, Node, PartitionId};
 use kx_nodes::Receipt;
+use kx_processor::Prefixed;
 use kx_reader::Committed;
-use kx_script::Prefixed;
 use std::alloc::{AllocError, Global};
 
 /// The node that a word names: `co`, `po`, `p` or `c` and a number.
@@ -95,7 +96,7 @@ pub(crate) fn judge(
 }
 
 // The machine behind the trace of a node.
-fn machine_of(run: &Found, node: Node) -> Option<&AnyMachine<kx_core::LocalStore, Prefixed>> {
+fn machine_of(run: &Found, node: Node) -> Option<&AnyMachine<LocalStore, Prefixed>> {
     for number in 0..run.len() {
         if run.trace(number)?.node() == node {
             return run.machine(number);
@@ -110,7 +111,8 @@ pub(crate) fn committed(
     run: &Found,
     partition: PartitionId,
 ) -> Result<usize, StepFault> {
-    let Some(AnyMachine::Partition(server)) = machine_of(run, Node::Partition(partition)) else {
+    let machine = machine_of(run, Node::Partition(partition));
+    let Some(AnyMachine::Broker(BrokerMachine::Partition(server))) = machine else {
         return Err(StepFault::Unknown);
     };
     let page = server

@@ -4,8 +4,9 @@ use kx_cluster::{AnyMaking, LocalNode, local_node};
 use kx_core::PartitionCount;
 use kx_machine::{Input, Machine, Making};
 use kx_message::{Node as NodeName, PartitionId, Timeout};
-use kx_nodes::{Made, Node, ProcessorMaking, Trace};
-use kx_script::{Happening, Order, Prefixed, command_of, values_of};
+use kx_nodes::{Made, Node, ProcessorMaking, Trace, Traced};
+use kx_processor::Prefixed;
+use kx_script::{Happening, Order, command_of, values_of};
 use std::alloc::{AllocError, Global};
 use std::sync::Arc;
 
@@ -133,7 +134,7 @@ pub(crate) fn input_of(alloc: Global, what: Happening<'_>) -> Result<(NodeName, 
 }
 
 // The trace of a node that nobody else has any more.
-fn trace_of<M: Machine, B: Made>(node: Arc<Node<M, B>>) -> Option<Trace<B>> {
+fn trace_of<M: Machine, B: Made>(node: Arc<Node<Traced<M, B>>>) -> Option<Trace<B>> {
     let (trace, _machine) = Arc::into_inner(node)?.finish().into_parts();
     Some(trace)
 }
@@ -141,7 +142,7 @@ fn trace_of<M: Machine, B: Made>(node: Arc<Node<M, B>>) -> Option<Trace<B>> {
 /// The traces of nodes that nobody else has any more.
 pub(crate) fn traces_of<M: Machine, B: Made>(
     alloc: Global,
-    nodes: Vec<Arc<Node<M, B>>>,
+    nodes: Vec<Arc<Node<Traced<M, B>>>>,
 ) -> Result<Vec<Trace<B>>, StepFault> {
     let mut traces = Vec::new(alloc);
     for node in nodes {

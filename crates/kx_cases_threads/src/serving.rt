@@ -2,9 +2,9 @@
 use crate::gate::Hold;
 use crate::nodes::input_of;
 use kx_cases::{StepFault, Texts};
-use kx_machine::{Input, Machine};
+use kx_machine::Input;
 use kx_message::Node as NodeName;
-use kx_nodes::{Made, Node, Receipt, Workers};
+use kx_nodes::{Locked, Node, Receipt, Workers};
 use kx_script::{Order, order_in};
 use kx_wire::Frames;
 use std::alloc::{AllocError, Global};
@@ -21,10 +21,7 @@ pub(crate) struct Shift {
 }
 
 // The place of the node of this name.
-fn place_of<M: Machine, B: Made>(
-    nodes: &[Arc<Node<M, B>>],
-    name: NodeName,
-) -> Result<usize, StepFault> {
+fn place_of<L: Locked>(nodes: &[Arc<Node<L>>], name: NodeName) -> Result<usize, StepFault> {
     nodes
         .iter()
         .position(|node| node.name() == name)
@@ -32,13 +29,9 @@ fn place_of<M: Machine, B: Made>(
 }
 
 // Hands a node an input.
-fn hand<
-    M: Machine + Send + Sync + 'static,
-    B: Made + Send + Sync + 'static,
-    R: Threads + Wait + Copy + Send + 'static,
->(
-    workers: &Workers<M, B, Hold, R>,
-    nodes: &[Arc<Node<M, B>>],
+fn hand<L: Locked + Send + Sync + 'static, R: Threads + Wait + Copy + Send + 'static>(
+    workers: &Workers<L, Hold, R>,
+    nodes: &[Arc<Node<L>>],
     name: NodeName,
     input: Input,
 ) -> Result<(), StepFault> {
@@ -53,14 +46,10 @@ fn hand<
 }
 
 // Hands the messages of frames to their receivers.
-fn bring<
-    M: Machine + Send + Sync + 'static,
-    B: Made + Send + Sync + 'static,
-    R: Threads + Wait + Copy + Send + 'static,
->(
+fn bring<L: Locked + Send + Sync + 'static, R: Threads + Wait + Copy + Send + 'static>(
     alloc: Global,
-    workers: &Workers<M, B, Hold, R>,
-    nodes: &[Arc<Node<M, B>>],
+    workers: &Workers<L, Hold, R>,
+    nodes: &[Arc<Node<L>>],
     bytes: &[u8],
 ) -> Result<(), StepFault> {
     let mut frames = Frames::new(alloc);
@@ -73,14 +62,10 @@ fn bring<
 }
 
 // Carries out a line.
-fn carry_out<
-    M: Machine + Send + Sync + 'static,
-    B: Made + Send + Sync + 'static,
-    R: Threads + Wait + Copy + Send + 'static,
->(
+fn carry_out<L: Locked + Send + Sync + 'static, R: Threads + Wait + Copy + Send + 'static>(
     alloc: Global,
-    workers: &Workers<M, B, Hold, R>,
-    nodes: &[Arc<Node<M, B>>],
+    workers: &Workers<L, Hold, R>,
+    nodes: &[Arc<Node<L>>],
     line: &str,
 ) -> Result<(), StepFault> {
     if line == "settle" {
@@ -99,14 +84,10 @@ fn carry_out<
 }
 
 // Carries out all lines.
-fn carry_all<
-    M: Machine + Send + Sync + 'static,
-    B: Made + Send + Sync + 'static,
-    R: Threads + Wait + Copy + Send + 'static,
->(
+fn carry_all<L: Locked + Send + Sync + 'static, R: Threads + Wait + Copy + Send + 'static>(
     alloc: Global,
-    workers: &Workers<M, B, Hold, R>,
-    nodes: &[Arc<Node<M, B>>],
+    workers: &Workers<L, Hold, R>,
+    nodes: &[Arc<Node<L>>],
     lines: &str,
 ) -> Result<(), StepFault> {
     for line in lines.lines() {
@@ -118,14 +99,10 @@ fn carry_all<
 }
 
 /// Serves these nodes while lines are carried out, and gives the receipts of all steps.
-pub(crate) fn serve<
-    M: Machine + Send + Sync + 'static,
-    B: Made + Send + Sync + 'static,
-    R: Threads + Wait + Copy + Send + 'static,
->(
+pub(crate) fn serve<L: Locked + Send + Sync + 'static, R: Threads + Wait + Copy + Send + 'static>(
     rt: R,
     alloc: Global,
-    nodes: &[Arc<Node<M, B>>],
+    nodes: &[Arc<Node<L>>],
     shift: Shift,
     lines: &str,
 ) -> Result<Vec<Receipt>, StepFault> {

@@ -1,5 +1,6 @@
 -- What a client answers where it refuses a command.
-use Rattle.std.specs.Prelude.{◌≡◌, ℕ, ℤ, pos, negsuc, List, [], ◌∷◌, if◌then◌else◌}
+use Rattle.std.specs.Prelude.{◌≡◌, ◌<◌, ℕ, ℤ, pos, negsuc, List, [], ◌∷◌, length}
+use Rattle.std.specs.Prelude.{if◌then◌else◌}
 use Rattle.kx_client.specs.declared.fault.ClientFault.{ClientFault}
 use Rattle.kx_client.specs.declared.fault.ClientFault.TheVariants as fault
 use Rattle.kx_model.specs.Client as model
@@ -18,12 +19,13 @@ number_of fault.MustAbort = 7
 number_of fault.TooLarge = 8
 number_of fault.Memory = 9
 
--- the rules have nothing against the command
-abbrev pub IsAllowed : Commanded → Type 0
-IsAllowed (Declines fault) = ⊥
-IsAllowed (Does client sent) = Unit {0}
+-- the rules have nothing against the command, and it hands out something
+abbrev pub HandsOut : Commanded → Type 0
+HandsOut (Declines fault) = ⊥
+HandsOut (Does client sent) = 0 < length sent
 
--- the fault is the one that the rules have; want of memory comes only where they have none
+-- the fault is the one that the rules have; memory is refused only where they have none, and only
+-- for what is to be handed out
 abbrev pub IsRefused : ClientFault → Commanded → Type 0
 IsRefused fault.NotReady answer = answer ≡ Declines model.NotReady
 IsRefused fault.InFlight answer = answer ≡ Declines model.InFlight
@@ -33,7 +35,7 @@ IsRefused fault.NotTransactional answer = answer ≡ Declines model.NotTransacti
 IsRefused fault.UsedUp answer = answer ≡ Declines model.UsedUp
 IsRefused fault.MustAbort answer = answer ≡ Declines model.MustAbort
 IsRefused fault.TooLarge answer = answer ≡ Declines model.TooLarge
-IsRefused fault.Memory answer = IsAllowed answer
+IsRefused fault.Memory answer = HandsOut answer
 
 -- what a commit of offsets comes to, of which there is at least one
 abbrev pub commanded_offsets : Client → List PartitionOffset → Commanded

@@ -307,7 +307,8 @@ impl ProducerClient {
     /// [`MustAbort`](ClientFault::MustAbort) where offsets were refused by the group;
     /// [`InFlight`](ClientFault::InFlight) where anything is unanswered;
     /// [`UsedUp`](ClientFault::UsedUp) where no number is left for the request;
-    /// [`Memory`](ClientFault::Memory). Nothing is changed then.
+    /// [`Memory`](ClientFault::Memory), never where the transaction ends here. Nothing is changed
+    /// then.
     #[tactic(auto, unfolding(kx_model::specs::Client::command))]
     pub fn commit(&mut self) -> Result<Option<Message>, ClientFault>
         ensures { MatchResult result
@@ -390,7 +391,7 @@ impl ProducerClient {
     /// # Errors
     ///
     /// [`Failed`](ClientFault::Failed) where the client has failed, and then
-    /// [`Memory`](ClientFault::Memory).
+    /// [`Memory`](ClientFault::Memory), never where nothing is unanswered.
     #[tactic(auto, unfolding(kx_model::specs::Client::command))]
     pub fn resend(&self) -> Result<Vec<Message>, ClientFault>
         ensures { MatchResult result

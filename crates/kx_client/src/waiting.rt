@@ -1,7 +1,7 @@
 //! The requests of a client that wait for their replies.
 ghost use Rattle.std.specs.Prelude.{◌≡◌, ◌+◌, ◌<◌, ◌≤◌, ◌^◌, ◌++◌, [], ◌∷◌, ℕ, true, false, not};
 ghost use Rattle.std.specs.Prelude.{length, filter, take, drop, nat_lt, nat_le, count_by};
-ghost use Rattle.std.specs.Prelude.{OnOk, IfOk, MatchOption};
+ghost use Rattle.std.specs.Prelude.{OnErr, OnOk, IfOk, MatchOption};
 ghost use Rattle.std.specs.List.{list_any};
 ghost use Rattle.kx_message.specs.declared.message.Message.TheVariants as msg;
 ghost use Rattle.kx_client.specs.Internal.{IsAwaitedAt, IsUnawaited};
@@ -242,9 +242,17 @@ impl Waiting {
     }
 
     /// A copy of each, in order.
+    ///
+    /// # Errors
+    ///
+    /// Only where memory is refused, which is asked for only where a request waits.
     pub(crate) fn copies(&self, alloc: Global) -> Result<Vec<Message>, AllocError>
-        ensures { IfOk result (λ copies. copies.items ≡ self.now.messages) }
+        ensures ok { IfOk result (λ copies. copies.items ≡ self.now.messages) }
+        ensures err { OnErr result (0 < length self.now.messages) }
     {
+        if self.requests.is_empty() {
+            return Ok(Vec::new(alloc));
+        }
         let mut copies = Vec::with_capacity(alloc, self.requests.len())?;
         for request in &self.requests {
             copies.push(request.clone()?)?;

@@ -3,10 +3,8 @@
 //! and their traces are audited together.
 #![tactic(auto)]
 
-mod machine;
 mod making;
 mod node;
 
-pub use machine::AnyMachine;
 pub use making::AnyMaking;
 pub use node::{LocalNode, local_node};

@@ -1,19 +1,19 @@
 //! How nodes of every kind are made.
 ghost use Rattle.std.specs.Prelude.{◌≡◌, IfOk};
-ghost use Rattle.kx_cluster.specs.Any.{any_stands};
 ghost use Rattle.kx_machine.specs.Meaning.{made_as};
+ghost use Rattle.kx_machines.specs.Any.{any_stands};
+ghost use Rattle.kx_machines.specs.Brokers.{broker_stands};
 ghost use Rattle.kx_nodes.specs.Made.{made_processor};
 
-use crate::machine::AnyMachine;
 use kx_audit::{Remade, Tells};
-use kx_core::{
-    AnyClient, ClientMachine, LocalStore, local_coordinator, local_offsets, local_partition,
-};
+use kx_client_node::{AnyClient, ClientMachine, ProcessorMachine};
 use kx_machine::{Failing, Making, StoreMode};
+use kx_machines::{
+    AnyMachine, BrokerMachine, LocalStore, local_coordinator, local_offsets, local_partition,
+};
 use kx_message::{Node, PartitionId};
 use kx_nodes::{Made, ProcessorMaking};
 use kx_processor::Process;
-use kx_processor_node::ProcessorMachine;
 use std::alloc::{AllocError, Global};
 
 /// How a node of any kind is made.
@@ -52,16 +52,13 @@ impl<F: Process> Tells for AnyMaking<F> {
 }
 
 // The server of a partition, of whichever kind.
-fn server<F: Process>(
-    alloc: Global,
-    number: PartitionId,
-) -> Result<AnyMachine<LocalStore, F>, AllocError>
-    ensures { IfOk result (any_stands F.image_of (made_as (Making.Partition number))) }
+fn server(alloc: Global, number: PartitionId) -> Result<BrokerMachine<LocalStore>, AllocError>
+    ensures { IfOk result (broker_stands (made_as (Making.Partition number))) }
 {
     if number.is_data() {
-        Ok(AnyMachine::Partition(local_partition(alloc, number)?))
+        Ok(BrokerMachine::Partition(local_partition(alloc, number)?))
     } else {
-        Ok(AnyMachine::Offsets(local_offsets(alloc)?))
+        Ok(BrokerMachine::Offsets(local_offsets(alloc)?))
     }
 }
 
@@ -70,8 +67,11 @@ fn plain<F: Process>(alloc: Global, making: Making) -> Result<AnyMachine<LocalSt
     ensures { IfOk result (any_stands F.image_of (made_as making)) }
 {
     match making {
-        Making::Coordinator => Ok(AnyMachine::Coordinator(local_coordinator(alloc)?)),
-        Making::Partition(number) => server(alloc, number),
+        Making::Coordinator => {
+            let machine = BrokerMachine::Coordinator(local_coordinator(alloc)?);
+            Ok(AnyMachine::Broker(machine))
+        }
+        Making::Partition(number) => Ok(AnyMachine::Broker(server(alloc, number)?)),
         Making::Client {
             number,
             txn,
@@ -114,9 +114,7 @@ impl<F: Process + Copy> Remade for AnyMaking<F> {
 
     fn prepare(machine: &mut AnyMachine<LocalStore, F>, mode: StoreMode) {
         match machine {
-            AnyMachine::Coordinator(machine) => machine.prepare(mode),
-            AnyMachine::Partition(machine) => machine.prepare(mode),
-            AnyMachine::Offsets(machine) => machine.prepare(mode),
+            AnyMachine::Broker(machine) => machine.prepare(mode),
             AnyMachine::Client(_) => {}
         }
     }

@@ -82,13 +82,6 @@ impl<S: Store> CoordinatorMachine<S> {
         &self.coordinator
     }
 
-    /// How often its store's device failed.
-    pub fn failures(&self) -> u64
-        ensures { result ≡ self.now.log.store.failures }
-    {
-        self.coordinator.failures()
-    }
-
     // Whether its log is closed. Where it isn't, the store holds its entries, and nothing more.
     fn is_closed(&self) -> bool
         ensures value { result ≡ self.now.log.closed }
@@ -270,6 +263,8 @@ impl<S: Store> Machine for CoordinatorMachine<S> {
 
     ghost allows = { MayDo };
 
+    ghost failures_of = { λ coordinator. coordinator.log.store.failures };
+
     fn take(&mut self, input: &Input) -> Result<Taken, AllocError> {
         match input {
             Input::Deliver(message) => self.message(message),
@@ -285,7 +280,11 @@ impl<S: Store> Machine for CoordinatorMachine<S> {
     }
 
     fn failures(&self) -> u64 {
-        CoordinatorMachine::failures(self)
+        self.coordinator.failures()
+    }
+
+    fn is_closed(&self) -> bool {
+        CoordinatorMachine::is_closed(self)
     }
 
     fn log_end(&self) -> i64 {

@@ -46,17 +46,6 @@ one_more servers server number are many stands = record {
   ];
 }
 
-below_offsets : (number : ℕ) (b : Bool) → (number == offsets_partition) ≡ b
-    → number < data_partitions → b ≡ false
-below_offsets number true e lt =
-    let same : number ≡ offsets_partition = (Decides-eqb number offsets_partition).0 e in
-    absurd (omega (arith, same, lt))
-below_offsets number false e lt = refl
-
-pub is_no_offsets : (number : ℕ) → number < data_partitions
-    → (number == offsets_partition) ≡ false
-is_no_offsets number lt = below_offsets number (number == offsets_partition) refl lt
-
 ------ the world
 
 replicated : {A : Type 0} (n i : ℕ) (x y : A) → slice_get (replicate n x) i ≡ Some y → y ≡ x

@@ -3,13 +3,14 @@
 use Rattle.std.proofs.Common.{◌≡◌, ◌++◌, ℕ, Bool, true, false, cond, List, [], ◌∷◌, refl, sym, ap}
 use Rattle.std.proofs.Common.{◌∙◌, subst, Option, Some, None, append-nil}
 use Rattle.std.specs.Prelude.{slice_get}
-use Rattle.kx_core.specs.Clients.{client_of, clients_in, processors_in}
+use Rattle.kx_core.specs.Clients.{clients_in, processors_in}
+use Rattle.kx_client_node.specs.Clients.{client_of}
 use Rattle.kx_core.specs.Internal.{is_message}
 use Rattle.kx_core.specs.World as running
 use Rattle.kx_core.specs.World.{IsHandedIn, Nodes, Occurs, StandForAll, after_turn, fails_in}
 use Rattle.kx_core.specs.World.{handed_in, is_closed, place_of, store_fails}
-use Rattle.kx_core.specs.declared.any_client.AnyClient.{AnyClient}
-use Rattle.kx_core.specs.declared.any_client.AnyClient.TheVariants as any
+use Rattle.kx_client_node.specs.declared.any_client.AnyClient.{AnyClient}
+use Rattle.kx_client_node.specs.declared.any_client.AnyClient.TheVariants as any
 use Rattle.kx_core.specs.declared.event.Event as happening
 use Rattle.kx_core.specs.declared.event.Event.TheVariants as event
 use Rattle.kx_core.proofs.Standing.{a_store, not_both}

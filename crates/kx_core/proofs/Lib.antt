@@ -1,5 +1,4 @@
 pub mod Beginning
-pub mod Declining
 pub mod Happening
 pub mod Rising
 pub mod Running

@@ -7,8 +7,9 @@ use Rattle.std.proofs.lemmas.Bool.{cases_lt}
 use Rattle.std.proofs.lemmas.Bool.Decides.{Decides-eqb, nat_tests}
 use Rattle.std.proofs.lemmas.Option.{slice_get_past}
 use Rattle.kx_batch.specs.Batch.{batch_limit}
-use Rattle.kx_core.specs.Clients.{any_store, client_in, clients_in, with_one}
-use Rattle.kx_core.specs.declared.any_client.AnyClient.{AnyClient}
+use Rattle.kx_core.specs.Clients.{client_in, clients_in, with_one}
+use Rattle.kx_client_node.specs.Clients.{any_store}
+use Rattle.kx_client_node.specs.declared.any_client.AnyClient.{AnyClient}
 use Rattle.kx_core.specs.World.{IsHanded, Nodes, StandFor, closed_in, fails_at, fails_by, is_closed}
 use Rattle.kx_machine.specs.Meaning as meaning
 use Rattle.kx_machine.specs.Meaning.{AtClient, AtCoordinator, AtPartition, IsTaken, NodeState}

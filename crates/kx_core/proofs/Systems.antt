@@ -1,10 +1,11 @@
 -- Nodes that take what they are handed stand for a system of the definitions after it.
 use Rattle.std.proofs.Common.{◌≡◌, ◌++◌, ℕ, false, refl, sym, ap, ◌∙◌, subst, Option}
 use Rattle.std.proofs.Common.{Some, None, List, []}
-use Rattle.kx_core.specs.Clients.{AllClients, TakesAt, TakesBy, all_of, any_store, client_in}
+use Rattle.kx_core.specs.Clients.{AllClients, TakesAt, TakesBy, all_of, client_in}
+use Rattle.kx_client_node.specs.Clients.{any_store}
 use Rattle.kx_core.specs.Clients.{node_at, node_with, processor_in, processors_in, with_node}
 use Rattle.kx_core.specs.Clients.{with_one}
-use Rattle.kx_core.specs.declared.any_client.AnyClient.{AnyClient}
+use Rattle.kx_client_node.specs.declared.any_client.AnyClient.{AnyClient}
 use Rattle.kx_core.specs.World.{IsHanded, IsHandedIn, Nodes, StandForAll, after_turn, fails_in}
 use Rattle.kx_core.specs.World.{StandFor}
 use Rattle.kx_core.proofs.Standing.{a_store, by_client, by_no_client, told}

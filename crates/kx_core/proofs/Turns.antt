@@ -4,11 +4,14 @@ use Rattle.std.proofs.Common.{◌∷◌, Option, Some, None, refl, sym, ap, ◌�
 use Rattle.std.proofs.Common.{get_or, zero, suc}
 use Rattle.std.specs.Prelude.{slice_get, slice_set}
 use Rattle.std.proofs.lemmas.Option.{get_or_from_slice_get}
-use Rattle.kx_core.specs.Clients.{TakesAt, TakesBy, all_of, any_store, client_in}
-use Rattle.kx_core.specs.Clients.{client_of, clients_in, node_at, node_with, processing_in}
-use Rattle.kx_core.specs.Clients.{processor_in, processors_in, state_of, with_node, with_one}
-use Rattle.kx_core.specs.declared.any_client.AnyClient.{AnyClient}
-use Rattle.kx_core.specs.declared.any_client.AnyClient.TheVariants as any
+use Rattle.kx_core.specs.Clients.{TakesAt, TakesBy, all_of, client_in}
+use Rattle.kx_client_node.specs.Clients.{any_store}
+use Rattle.kx_core.specs.Clients.{clients_in, node_at, node_with}
+use Rattle.kx_client_node.specs.Clients.{client_of, processing_in}
+use Rattle.kx_core.specs.Clients.{processor_in, processors_in, with_node, with_one}
+use Rattle.kx_client_node.specs.Clients.{state_of}
+use Rattle.kx_client_node.specs.declared.any_client.AnyClient.{AnyClient}
+use Rattle.kx_client_node.specs.declared.any_client.AnyClient.TheVariants as any
 use Rattle.kx_system.proofs.Numbers.{step_number, turn_number}
 use Rattle.kx_core.proofs.Rising.{Above, Rising, above_at, apart, equal, found, number_of, replaced}
 use Rattle.kx_machine.specs.Meaning.{AtClient, AtProcessor, IsTaken, NodeState}

@@ -1,47 +1,16 @@
--- What a client as a machine answers, and the clients of a system.
-use Rattle.std.specs.Prelude.{◌≡◌, ◌⊎◌, ◌<◌, ◌==◌, ℕ, List, [], ◌∷◌, map, find, Option, None}
+-- The clients of a system.
+use Rattle.std.specs.Prelude.{◌≡◌, ◌<◌, ◌==◌, ℕ, List, [], ◌∷◌, map, find, Option, None}
 use Rattle.std.specs.Prelude.{Some, if◌then◌else◌}
 use Rattle.std.specs.List.{flat_map}
-use Rattle.kx_client.specs.declared.fault.ClientFault.{ClientFault}
-use Rattle.kx_client.specs.declared.fault.ClientFault.TheVariants.{Memory}
-use Rattle.kx_core.specs.declared.any_client.AnyClient.{AnyClient}
-use Rattle.kx_core.specs.declared.any_client.AnyClient.TheVariants as any
+use Rattle.kx_client_node.specs.Clients.{any_store, client_of, processing_in}
+use Rattle.kx_client_node.specs.declared.any_client.AnyClient.{AnyClient}
 use Rattle.kx_machine.specs.Meaning.{NodeState, AtClient, AtCoordinator, AtPartition, AtProcessor}
-use Rattle.kx_machine.specs.Meaning.{IsTaken, fault_of}
+use Rattle.kx_machine.specs.Meaning.{IsTaken}
 use Rattle.kx_machine.specs.declared.taken.Taken.{Taken}
-use Rattle.kx_model.specs.Client.{Client, Commanded, Declines, Fault}
-use Rattle.kx_model.specs.Disk.{Store}
+use Rattle.kx_model.specs.Client.{Client}
 use Rattle.kx_model.specs.Step.{Input}
-use Rattle.kx_processor.specs.Running.{processing_of, processor_of}
 use Rattle.kx_system.specs.Processor.{Images, Processing}
 use Rattle.kx_system.specs.System.{with_processing}
-
------- one client
-
--- the fault is the one that the rules have; want of memory may come in its place
-abbrev pub IsDeclined : ClientFault → Commanded → Type 0
-IsDeclined fault answer = (fault ≡ Memory)
-    ⊎ ((refusal : Fault) × (answer ≡ Declines refusal) × (fault ≡ fault_of refusal))
-
--- a client has no store
-abbrev pub any_store : Store → Type 0
-any_store store = Unit {0}
-
-abbrev pub client_of : {F : Type 0} → AnyClient F → Client
-client_of (any.Plain client) = client
-client_of (any.Processor running) = running.client
-
--- what it is beside its client, where it is a processor
-abbrev pub processing_in : {F : Type 0} → (F → Images) → AnyClient F → List Processing
-processing_in image_of (any.Plain client) = []
-processing_in image_of (any.Processor running) = processing_of image_of running ∷ []
-
--- the node that it is
-abbrev pub state_of : {F : Type 0} → (F → Images) → AnyClient F → NodeState
-state_of image_of (any.Plain client) = AtClient client
-state_of image_of (any.Processor running) = AtProcessor (processor_of image_of running)
-
------- all of them
 
 abbrev pub clients_in : {F : Type 0} → List (AnyClient F) → List Client
 clients_in all = map client_of all

@@ -5,7 +5,7 @@ use Rattle.std.specs.Prelude.{take}
 use Rattle.std.specs.declared.alloc.AllocError.{AllocError}
 use Rattle.kx_core.specs.Clients.{clients_in, processors_in}
 use Rattle.kx_core.specs.Sent.{joined}
-use Rattle.kx_core.specs.declared.any_client.AnyClient.{AnyClient}
+use Rattle.kx_client_node.specs.declared.any_client.AnyClient.{AnyClient}
 use Rattle.kx_core.specs.declared.event.Event as happening
 use Rattle.kx_core.specs.declared.event.Event.TheVariants as event
 use Rattle.kx_core.specs.declared.event.Happened.{Happened}

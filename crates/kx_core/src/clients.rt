@@ -1,13 +1,14 @@
 //! The clients of a world.
 ghost use Rattle.std.specs.Prelude.{◌≡◌, ◌++◌, [], ◌∷◌, None, Some, slice_get};
 ghost use Rattle.std.specs.Prelude.{MatchOption, MatchResult, nat_lt, true};
-ghost use Rattle.kx_core.specs.Clients.{TakesAt, all_of, client_in, client_of, clients_in};
+ghost use Rattle.kx_core.specs.Clients.{TakesAt, all_of, client_in, clients_in};
+ghost use Rattle.kx_client_node.specs.Clients.{client_of};
 ghost use Rattle.kx_core.specs.World.{given};
-ghost use Rattle.kx_core.specs.declared.any_client.AnyClient.{AnyClient};
+ghost use Rattle.kx_client_node.specs.declared.any_client.AnyClient.{AnyClient};
 ghost use Rattle.kx_model.specs.World.{is_new};
 
-use crate::any_client::AnyClient;
 use crate::hand::{self, Given};
+use kx_client_node::AnyClient;
 use kx_machine::Taken;
 use kx_message::ClientId;
 use kx_processor::Process;
@@ -22,8 +23,9 @@ pub(crate) struct Clients<F: Process> {
 
 impl<F: Process> Model for Clients<F> {
     ghost use Rattle.std.specs.Prelude.{List, map};
-    ghost use Rattle.kx_core.specs.Clients.{AreRising, client_of};
-    ghost use Rattle.kx_core.specs.declared.any_client.AnyClient.{AnyClient};
+    ghost use Rattle.kx_core.specs.Clients.{AreRising};
+    ghost use Rattle.kx_client_node.specs.Clients.{client_of};
+    ghost use Rattle.kx_client_node.specs.declared.any_client.AnyClient.{AnyClient};
 
     ghost Value = { List (AnyClient F) };
 

@@ -4,8 +4,6 @@
 //! world keeps the promises of exactly-once semantics (KIP-98, KIP-447, KIP-890).
 #![tactic(auto)]
 
-mod any_client;
-mod client;
 mod clients;
 mod count;
 mod event;
@@ -13,17 +11,13 @@ mod fault;
 mod fits;
 mod hand;
 mod local;
-mod memory;
 mod nodes;
 mod sent;
 mod world;
 
-pub use any_client::AnyClient;
-pub use client::ClientMachine;
 pub use count::PartitionCount;
 pub use event::{Event, Happened};
 pub use fault::RunFault;
 pub use local::{Config, LocalWorld};
-pub use memory::{LocalStore, local_coordinator, local_offsets, local_partition};
 pub use sent::Sent;
 pub use world::World;

@@ -28,10 +28,10 @@ ghost use Rattle.kx_system.specs.System.{System, start_system};
 ghost use Rattle.kx_txnlog.specs.Entry.{row_of};
 
 use crate::count::PartitionCount;
-use crate::memory::{LocalStore, local_coordinator, local_offsets, local_partition};
 use crate::world::World;
 use kx_broker::{OffsetsMachine, PartitionMachine};
 use kx_coord_node::CoordinatorMachine;
+use kx_machines::{LocalStore, local_coordinator, local_offsets, local_partition};
 use kx_message::{ClientId, ErrorCode, GroupId, PartitionId};
 use kx_partition::{FetchFault, FetchPage};
 use kx_pipeline::systems_keep_promises;

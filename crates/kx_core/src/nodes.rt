@@ -10,16 +10,14 @@ ghost use Rattle.kx_message.specs.declared.message.Node.TheVariants as node;
 ghost use Rattle.kx_model.specs.World.{Make, World, clock_after};
 ghost use Rattle.kx_system.specs.System.{Happens, MakeProcessor, System, system_step};
 
-use crate::any_client::AnyClient;
-use crate::client::ClientMachine;
 use crate::clients::Clients;
 use crate::event::Event;
 use crate::hand::{Given, hand};
 use crate::sent::Sent;
+use kx_client_node::{AnyClient, ClientMachine, ProcessorMachine};
 use kx_machine::{Failing, Input, Messages, Note, StoreMode, Taken};
 use kx_message::{ClientId, GroupId, Node, PartitionId, Timeout, TxnId};
 use kx_processor::{Inputs, Process};
-use kx_processor_node::ProcessorMachine;
 use std::alloc::{AllocError, Global};
 use std::marker::Model;
 

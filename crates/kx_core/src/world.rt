@@ -1,6 +1,6 @@
 //! The world itself.
 ghost use Rattle.std.specs.Prelude.{◌≡◌, [], MatchOption, MatchResult, None, Some, length};
-ghost use Rattle.kx_core.specs.Clients.{client_of};
+ghost use Rattle.kx_client_node.specs.Clients.{client_of};
 ghost use Rattle.kx_pipeline.specs.Promises.{KeepsAll};
 ghost use Rattle.kx_core.specs.Sent.{joined};
 ghost use Rattle.kx_core.specs.World.{IsRun, RunsUp, ServesAt, StandForAll, Steps, StepsTo};
@@ -9,13 +9,13 @@ ghost use Rattle.kx_message.specs.Ranges.{offsets_partition};
 ghost use Rattle.kx_model.specs.World.{client_at, data_partition_at, is_new};
 ghost use Rattle.kx_system.specs.System.{System, start_system};
 
-use crate::any_client::AnyClient;
 use crate::clients::Clients;
 use crate::event::{Event, Happened};
 use crate::fault::RunFault;
 use crate::fits::fits;
 use crate::nodes::Nodes;
 use crate::sent::Sent;
+use kx_client_node::AnyClient;
 use kx_machine::{Failing, Note};
 use kx_message::{ClientId, PartitionId};
 use kx_pipeline::systems_keep_promises;

@@ -6,8 +6,9 @@ use Rattle.std.specs.List.{list_any}
 use Rattle.std.specs.Str.{bytes_eq}
 use Rattle.kx_audit.specs.Run.{Ran}
 use Rattle.kx_broker.specs.Serving.{Serving}
-use Rattle.kx_cluster.specs.declared.machine.AnyMachine.{AnyMachine}
-use Rattle.kx_cluster.specs.declared.machine.AnyMachine.TheVariants as any
+use Rattle.kx_machines.specs.declared.any.AnyMachine.{AnyMachine}
+use Rattle.kx_machines.specs.declared.any.AnyMachine.TheVariants as any
+use Rattle.kx_machines.specs.declared.broker.BrokerMachine.TheVariants as broker
 use Rattle.kx_demo.specs.declared.counting.Counts.{Counts}
 use Rattle.kx_machine.specs.Meaning.{NodeState}
 use Rattle.kx_message.specs.declared.message.Node.TheVariants as node
@@ -54,7 +55,7 @@ pub record IsServer {B S F : Type 0} (made : B → NodeState) (run : Ran B (AnyM
   pub trace : Traced B
   pub there : slice_get run.traces (1 + number) ≡ Some trace
   pub named : name_of (made trace.made) ≡ node.Partition number
-  pub machine : slice_get run.machines (1 + number) ≡ Some (any.Partition server)
+  pub machine : slice_get run.machines (1 + number) ≡ Some (any.Broker (broker.Partition server))
 
 -- the values of the committed records of a data partition; of one that isn't there, none
 pub data AreCommitted {B S F : Type 0} (made : B → NodeState) (run : Ran B (AnyMachine S F))

@@ -6,5 +6,6 @@ use Rattle.kx_demo.specs.declared.fault.DemoFault.TheVariants as fault
 abbrev pub fault_number : DemoFault → ℕ
 fault_number fault.Net = 1
 fault_number fault.Write = 2
+fault_number fault.Trace = 2
 fault_number fault.Memory = 4
 fault_number fault.GaveUp = 5

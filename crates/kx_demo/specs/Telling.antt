@@ -6,8 +6,9 @@ use Rattle.kx_audit.specs.Making.{Trail}
 use Rattle.kx_audit.specs.Refused.{IsRefused, fault_number}
 use Rattle.kx_audit.specs.Run.{IsYes, Ran}
 use Rattle.kx_audit.specs.declared.fault.AuditFault.{AuditFault}
-use Rattle.kx_cluster.specs.Any.{any_making, any_stands, any_state}
-use Rattle.kx_cluster.specs.declared.machine.AnyMachine.{AnyMachine}
+use Rattle.kx_cluster.specs.Any.{any_making, any_state}
+use Rattle.kx_machines.specs.Any.{any_stands}
+use Rattle.kx_machines.specs.declared.any.AnyMachine.{AnyMachine}
 use Rattle.kx_cluster.specs.declared.making.AnyMaking.{AnyMaking}
 use Rattle.kx_demo.specs.Counting.{AreCounts}
 use Rattle.kx_demo.specs.declared.counting.Counts.{Counts}
@@ -15,8 +16,8 @@ use Rattle.kx_demo.specs.declared.fault.DemoFault.{DemoFault}
 use Rattle.kx_demo.specs.declared.fault.DemoFault.TheVariants as fault
 use Rattle.kx_log.specs.Store.{StoreState}
 use Rattle.kx_nodes.specs.declared.receipt.Receipt.{Receipt}
-use Rattle.kx_script.specs.Prefixed.{images_of}
-use Rattle.kx_script.specs.declared.prefixed.Prefixed.{Prefixed}
+use Rattle.kx_processor.specs.Prefixed.{images_of}
+use Rattle.kx_processor.specs.declared.prefixed.Prefixed.{Prefixed}
 use Rattle.kx_system.specs.System.{System}
 
 -- a word, and a number behind it

@@ -6,13 +6,12 @@ ghost use Rattle.kx_demo.specs.Counting.{AreCommitted, AreCounts, IsServer, doub
 ghost use Rattle.kx_demo.specs.Counting.{value_of};
 ghost use Rattle.kx_message.specs.Ranges.{data_partitions};
 ghost use Rattle.kx_model.specs.Reading.{committed_of};
-ghost use Rattle.kx_script.specs.Prefixed.{images_of};
+ghost use Rattle.kx_processor.specs.Prefixed.{images_of};
 
 use kx_audit::Run;
 use kx_batch::RecordView;
 use kx_broker::PartitionMachine;
-use kx_cluster::AnyMachine;
-use kx_core::LocalStore;
+use kx_machines::{AnyMachine, BrokerMachine, LocalStore};
 use kx_message::Node;
 use kx_partition::FetchPage;
 use kx_play::{PlayMaking, partition};
@@ -47,7 +46,7 @@ fn server_of(run: &Found, number: u8) -> Option<&PartitionMachine<LocalStore>>
         return None;
     }
     match run.machine(place)? {
-        AnyMachine::Partition(server) => Some(server),
+        AnyMachine::Broker(BrokerMachine::Partition(server)) => Some(server),
         _ => None,
     }
 }

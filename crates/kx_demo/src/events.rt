@@ -3,8 +3,8 @@ use crate::arrivals::Arrivals;
 use crate::counting::Found;
 use crate::fault::DemoFault;
 use kx_audit::Turn;
-use kx_cluster::AnyMachine;
 use kx_machine::{Command, Input, Machine, Note, Taken};
+use kx_machines::{AnyMachine, BrokerMachine};
 use kx_message::{Message, Node};
 use kx_text::dump_batches;
 use std::alloc::Global;
@@ -140,7 +140,7 @@ fn write_log<W: Write>(run: &Found, number: usize, out: &mut W) -> Result<(), De
     let (Some(trace), Some(machine)) = (run.trace(number), run.machine(number)) else {
         return Ok(());
     };
-    if !matches!(machine, AnyMachine::Partition(_)) {
+    if !matches!(machine, AnyMachine::Broker(BrokerMachine::Partition(_))) {
         return Ok(());
     }
     let node = trace.node();

@@ -14,6 +14,9 @@ pub enum DemoFault {
     /// The output can't be written.
     #[error("the output cannot be written")]
     Write,
+    /// What happened can't be written down.
+    #[error("the trace cannot be written")]
+    Trace,
     /// Memory ran out, or a thread can't be started.
     #[error("out of memory")]
     Memory,
@@ -24,14 +27,14 @@ pub enum DemoFault {
 }
 
 impl DemoFault {
-    /// The number of the fault, by which another program knows it: `Net` 1, `Write` 2, `Memory` 4,
-    /// `GaveUp` 5.
+    /// The number of the fault, by which another program knows it: `Net` 1, `Write` and `Trace` 2,
+    /// `Memory` 4, `GaveUp` 5.
     pub fn number(self) -> u8
         ensures { result ≡ fault_number self }
     {
         match self {
             DemoFault::Net => 1,
-            DemoFault::Write => 2,
+            DemoFault::Write | DemoFault::Trace => 2,
             DemoFault::Memory => 4,
             DemoFault::GaveUp => 5,
         }

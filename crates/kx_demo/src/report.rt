@@ -58,7 +58,7 @@ fn show<P: Write>(alloc: Global, run: &Found, events: &mut P) -> Result<(), Demo
     match write_run(alloc, run, events) {
         Ok(()) => Ok(()),
         Err(DemoFault::Memory) => Err(DemoFault::Memory),
-        Err(_) => Err(DemoFault::Write),
+        Err(_) => Err(DemoFault::Trace),
     }
 }
 

@@ -3,11 +3,13 @@
 use Rattle.std.proofs.Common.{◌≡◌, ◌+◌, ℕ, ℤ, pos, negsuc, Bool, true, false, cond, Some}
 use Rattle.std.proofs.Common.{List, [], ◌∷◌, ◌++◌, length, map, refl, sym, ap, ◌∙◌, subst, arith}
 use Rattle.std.proofs.Common.{◌&&◌, ⊎_elim}
-use Rattle.std.specs.Prelude.{not, None, Option, ◌||◌, int_le}
+use Rattle.std.specs.Prelude.{not, None, Option, ◌||◌, int_le, int_lt}
+use Rattle.std.proofs.lemmas.Bool.Decides.{nat_tests}
 use Rattle.std.proofs.lemmas.Bool.{and_parts, or_cases}
 use Rattle.std.specs.List.{enumerate_from}
 use Rattle.std.specs.Ordering.{int_eq}
-use Rattle.kx_batch.specs.Batch.{Batch, batch_of, is_control}
+use Rattle.std.proofs.lemmas.Bool.{le-leb, le-ltb}
+use Rattle.kx_batch.specs.Batch.{Batch, batch_limit, batch_of, is_control}
 use Rattle.kx_batch.specs.Record.{Record}
 use Rattle.kx_commits.specs.Kept.{SameKept, noted_all}
 use Rattle.kx_commits.specs.Table.{Table, kept_of}
@@ -17,20 +19,25 @@ use Rattle.kx_members.specs.Follows.{standing as standing_by_log}
 use Rattle.kx_members.specs.Standing.{Standing}
 use Rattle.kx_members.specs.Table.{standing_in}
 use Rattle.kx_message.specs.declared.code.ErrorCode.{ErrorCode}
-use Rattle.kx_message.specs.declared.code.ErrorCode.TheVariants.{IllegalGeneration, UnknownMemberId}
+use Rattle.kx_message.specs.declared.code.ErrorCode.TheVariants.{IllegalGeneration, InvalidRecord}
+use Rattle.kx_message.specs.declared.code.ErrorCode.TheVariants.{UnknownMemberId}
 use Rattle.kx_message.specs.declared.message.Held.{Held}
 use Rattle.kx_message.specs.declared.payload.PartitionOffset.{PartitionOffset}
 use Rattle.kx_model.specs.Groups.{generation, is_member, judge_offsets, offset_records}
 use Rattle.kx_model.specs.Groups.{offsets_batch}
-use Rattle.kx_model.specs.Log.{Data, Entry, Stored, end, entries}
+use Rattle.kx_model.specs.Log.{Data, Entry, Sequenced, Stored, end, entries, entry_in}
 use Rattle.kx_model.specs.Produce.{Next, Refused, Verdict, is_plain, is_sequenced, judge}
-use Rattle.kx_model.specs.Produce.{judge_entry, judge_text, stored_at}
+use Rattle.kx_model.specs.Produce.{judge_batch, judge_entry, judge_read, judge_text, stored_at}
 use Rattle.kx_model.proofs.Logs.{entries-push, next_has_room}
 use Rattle.kx_offsets.specs.Facts.{CommitFits, commit_batch}
 use Rattle.kx_offsets.proofs.Commits.{commit_built, commit_entry}
 use Rattle.kx_log.specs.LogState.{LogState}
 use Rattle.kx_message.specs.declared.requests.TxnOffsetCommit.{TxnOffsetCommit}
-use Rattle.kx_partition.specs.Answer.{IsAnswered, answer_of, unless_closed, verdict_at}
+use Rattle.kx_partition.specs.Answer.{IsAnswered, IsForeseen, IsOfTransaction, answer_of}
+use Rattle.kx_partition.specs.Answer.{unless_closed}
+use Rattle.kx_partition.specs.declared.answer.Produced.{Produced}
+use Rattle.kx_partition.specs.Answer.{verdict_at}
+use Rattle.kx_partition.proofs.Judging.{neither_judged}
 use Rattle.kx_partition.specs.declared.answer.Produced.TheVariants as produced
 use Rattle.kx_group.specs.Calls.{IsCommitted, text_of, verdict_on}
 use Rattle.kx_group.specs.Follows.{Follows}
@@ -237,3 +244,105 @@ looked_at old notes commit verified kept refuses =
     commit.generation verified (text_of commit) (kept.follows.members.stands commit.group)
     ∙ ap (λ o. or_judged o (judge_text (entries old.batches) verified (text_of commit))) refuses in
     sym (ap (unless_closed old.closed) is)
+
+------ a commit that is judged before its batch is built
+
+sequenced : (group : List ℕ) (held : Held) (n : ℕ) (offsets : List PartitionOffset)
+    → is_sequenced (commit_batch group held (pos n) offsets) ≡ true
+sequenced group held n offsets =
+    rw (
+      le-leb 0 held.id (omega arith),
+      le-leb 0 held.epoch (omega arith),
+      le-leb 0 n (omega arith),
+    ) refl
+
+and_none : (b : Bool) → ((b && false) && true) ≡ false
+and_none true = refl
+and_none false = refl
+
+or_true : (b : Bool) → (b || true) ≡ true
+or_true true = refl
+or_true false = refl
+
+-- the batch is all of the text, and is judged as such
+judged_whole : (log : List Entry) (verified : Bool) (group : List ℕ) (held : Held) (first : ℤ)
+    (offsets : List PartitionOffset) → CommitFits group held first offsets
+    → judge_text log verified (offsets_batch group held first offsets)
+    ≡ judge_batch log verified (commit_batch group held first offsets)
+unfolding judge_text
+judged_whole log verified group held first offsets fits =
+    let b = commit_built group held first offsets fits in
+    rw (le-ltb batch_limit (length (offsets_batch group held first offsets)) b.spells.limit)
+    (ap (judge_read log verified) b.whole ∙ ap (judge_batch log verified) b.read)
+
+-- by what the tables look at
+pub judged_commit : (log : List Entry) (verified : Bool) (group : List ℕ) (held : Held) (n : ℕ)
+    (offsets : List PartitionOffset) → CommitFits group held (pos n) offsets
+    → judge_text log verified (offsets_batch group held (pos n) offsets)
+    ≡ judge log verified (commit_of group held n offsets)
+judged_commit log verified group held n offsets fits =
+    let batch = commit_batch group held (pos n) offsets in
+    judged_whole log verified group held (pos n) offsets fits
+    ∙ ap (λ b. cond (is_plain batch || b) (judge_entry log verified (entry_in batch))
+    (Refused InvalidRecord)) (sequenced group held n offsets)
+    ∙ ap (λ b. cond b (judge_entry log verified (entry_in batch)) (Refused InvalidRecord))
+    (or_true (is_plain batch))
+    ∙ ap (judge_entry log verified) (sym (ap entry_in (commit_built group held (pos n) offsets
+    fits).read) ∙ commit_entry group held n offsets fits)
+
+-- below the first sequence 0 it is no batch that is appended
+pub judged_below : (log : List Entry) (verified : Bool) (group : List ℕ) (held : Held) (n : ℕ)
+    (offsets : List PartitionOffset) → CommitFits group held (negsuc n) offsets
+    → judge_text log verified (offsets_batch group held (negsuc n) offsets)
+    ≡ Refused InvalidRecord
+judged_below log verified group held n offsets fits =
+    judged_whole log verified group held (negsuc n) offsets fits
+    ∙ neither_judged log verified (commit_batch group held (negsuc n) offsets)
+    (and_none (int_le (pos 0) (pos held.id) && int_le (pos 0) (pos held.epoch)))
+
+pub of_transaction : (group : List ℕ) (held : Held) (n count : ℕ) (first : ℤ)
+    (offsets : List PartitionOffset) → first ≡ pos n → count ≡ length offsets
+    → IsOfTransaction held first count (commit_of group held n offsets)
+of_transaction group held n count first offsets begins are = record {
+  id_is = refl;
+  epoch_is = refl;
+  first_is = begins;
+  count_is = records_from 0 offsets _ ∙ sym are;
+  transactional_is = refl;
+}
+
+-- what a batch is answered that isn't built
+module _ (old : LogState) (verified : Bool) (group : List ℕ) (held : Held) where
+  pub foreseen_below : (first : ℤ) (offsets : List PartitionOffset)
+      → CommitFits group held first offsets → int_lt first (pos 0) ≡ true
+      → answer_of (verdict_at old verified (offsets_batch group held first offsets))
+      ≡ Some (produced.Refused InvalidRecord)
+  foreseen_below (pos n) offsets fits below = absurd (grind (arith, nat_tests, below))
+  foreseen_below (negsuc n) offsets fits below =
+      ap (λ v. answer_of (unless_closed old.closed v))
+      (judged_below (entries old.batches) verified group held n offsets fits)
+
+  pub foreseen_by : (first from : ℤ) (offsets : List PartitionOffset) (count : ℕ)
+      (answer : Option Produced) → CommitFits group held first offsets
+      → int_lt first (pos 0) ≡ false → from ≡ first → count ≡ length offsets
+      → ((batch : Sequenced) → IsOfTransaction held from count batch
+      → IsForeseen (unless_closed old.closed (judge (entries old.batches) verified batch)) answer)
+      → IsForeseen (verdict_at old verified (offsets_batch group held first offsets)) answer
+  foreseen_by (pos n) from offsets count answer fits above same are judged =
+      subst (λ v. IsForeseen (unless_closed old.closed v) answer)
+      (sym (judged_commit (entries old.batches) verified group held n offsets fits))
+      (judged (commit_of group held n offsets)
+      (of_transaction group held n count from offsets same are))
+  foreseen_by (negsuc n) from offsets count answer fits above same are judged = absurd cc
+
+module _ (old : LogState) (notes : Notes) (commit : TxnOffsetCommit) (verified : Bool)
+    (kept : IsKept old.batches notes)
+    (looked : refusal_by (standing_in notes.members commit.group) commit.member commit.generation
+    ≡ None) where
+  -- what the batch is answered is what the commit is
+  pub answered_commit : (answer : Produced)
+      → answer_of (verdict_at old verified (text_of commit)) ≡ Some answer
+      → IsCommitted commit verified old old answer
+  answered_commit answer told =
+      IsAnswered answer
+      (ap answer_of (sym (looked_at old notes commit verified kept looked)) ∙ told) refl

@@ -1,6 +1,5 @@
 pub mod Texts
 pub mod Resuming
-pub mod Alike
 pub mod Unverified
 pub mod Growing
 pub mod Following

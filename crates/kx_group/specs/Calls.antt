@@ -1,16 +1,16 @@
 -- What groups answer, and what they append to the offsets partition's log (KIP-447; Kafka's
 -- protocol guide, "JoinGroup", "LeaveGroup", "TxnOffsetCommit").
-use Rattle.std.specs.Prelude.{◌≡◌, ℕ, ℤ, pos, Bool, true, List, [], ◌∷◌, All}
+use Rattle.std.specs.Prelude.{◌≡◌, ℕ, ℤ, pos, Bool, true, List, [], ◌∷◌, ◌++◌, All}
 use Rattle.kx_batch.specs.Batch.{batch_of}
 use Rattle.kx_log.specs.LogState.{LogState}
 use Rattle.kx_message.specs.declared.code.ErrorCode.{ErrorCode}
-use Rattle.kx_message.specs.declared.code.ErrorCode.TheVariants.{NoError}
+use Rattle.kx_message.specs.declared.code.ErrorCode.TheVariants.{NoError, UnknownTopicOrPartition}
 use Rattle.kx_message.specs.declared.message.Held.{Held}
 use Rattle.kx_message.specs.declared.requests.TxnOffsetCommit.{TxnOffsetCommit}
 use Rattle.kx_model.specs.Groups.{Membership, Already, Refuses, Changes, generation}
 use Rattle.kx_model.specs.Groups.{is_member, judge_offsets, membership_text, offsets_batch}
 use Rattle.kx_model.specs.Log.{Entry, entries}
-use Rattle.kx_model.specs.Produce.{Verdict, Next}
+use Rattle.kx_model.specs.Produce.{Verdict, Next, Refused}
 use Rattle.kx_model.specs.Verification.{Parked, Target, ToPartition, ToGroup, judge_request}
 use Rattle.kx_partition.specs.Answer.{FollowsVerdict, IsProduced, code_of, unless_closed}
 use Rattle.kx_partition.specs.Answer.{verdict_at}
@@ -78,11 +78,36 @@ abbrev pub verdict_again : LogState → Parked → Verdict
 verdict_again log parked =
     unless_closed log.closed (judge_request (entries log.batches) true parked.request)
 
--- each in turn, with every check made again
-pub data IsResumed : List Parked → LogState → LogState → List Produced → Type 0 where
-  NoneLeft : (log : LogState) → IsResumed [] log log []
+-- the offsets partition takes no batch of another partition
+abbrev pub verdict_for : LogState → Parked → Target → Verdict
+verdict_for log parked (ToPartition partition) = Refused UnknownTopicOrPartition
+verdict_for log parked (ToGroup group member generation) = verdict_again log parked
+
+abbrev pub verdict_here : LogState → Parked → Verdict
+verdict_here log parked = verdict_for log parked parked.request.target
+
+-- each in turn, with every check made again, by this verdict on it
+pub data IsResumedBy (verdict : LogState → Parked → Verdict)
+    : List Parked → LogState → LogState → List Produced → Type 0 where
+  NoneLeft : (log : LogState) → IsResumedBy verdict [] log log []
   OneMore : (parked : Parked) (rest : List Parked) (old between new : LogState)
       (answer : Produced) (answers : List Produced)
-      → FollowsVerdict (verdict_again old parked) parked.request.text old between answer
-      → IsResumed rest between new answers
-      → IsResumed (parked ∷ rest) old new (answer ∷ answers)
+      → FollowsVerdict (verdict old parked) parked.request.text old between answer
+      → IsResumedBy verdict rest between new answers
+      → IsResumedBy verdict (parked ∷ rest) old new (answer ∷ answers)
+
+-- at a partition
+abbrev pub IsResumed : List Parked → LogState → LogState → List Produced → Type 0
+IsResumed = IsResumedBy verdict_again
+
+-- at the offsets partition
+abbrev pub IsResumedHere : List Parked → LogState → LogState → List Produced → Type 0
+IsResumedHere = IsResumedBy verdict_here
+
+-- those before one of them
+pub record IsResumedTo (requests : List Parked) (old new : LogState) : Type 0 where
+  pub front : List Parked
+  pub others : List Parked
+  pub parts : requests ≡ front ++ others
+  pub answers : List Produced
+  pub resumed : IsResumedHere front old new answers

@@ -10,7 +10,6 @@ mod groups;
 mod law;
 mod notes;
 
-pub use commit::are_alike;
 pub use content::GroupsContent;
 pub use groups::Groups;
 pub use law::{

@@ -1,3 +1,4 @@
+pub mod Internal
 pub mod Logs
 pub mod Meaning
 pub mod Stores

@@ -34,10 +34,10 @@ pub enum StoreMode {
 /// A node of the system: it takes one input at a time, changes what it keeps, and hands messages
 /// out (KIP-98, "Data Flow").
 pub trait Machine: Drop {
-    ghost use Rattle.std.specs.Prelude.{◌≡◌, pos, MatchResult};
+    ghost use Rattle.std.specs.Prelude.{◌≡◌, ℕ, pos, MatchResult};
     ghost use Rattle.kx_log.specs.Slices.{sliced};
     ghost use Rattle.kx_machine.specs.Logs.{batches_of};
-    ghost use Rattle.kx_machine.specs.Meaning.{IsTaken, NodeState, input_of};
+    ghost use Rattle.kx_machine.specs.Meaning.{IsTaken, NodeState, input_of, is_closed};
     ghost use Rattle.kx_model.specs.Disk.{Store};
     ghost use Rattle.kx_model.specs.Log.{end, entries};
     ghost use Rattle.kx_model.specs.Produce.{greatest_offset};
@@ -48,6 +48,9 @@ pub trait Machine: Drop {
 
     // what its store may do in the next step
     ghost allows: { Self → Store → Type 0 };
+
+    // how often the device of its store failed
+    ghost failures_of: { Self → ℕ };
 
     /// Takes an input, and does what a node of the definitions does with it. What isn't for the
     /// node changes nothing, and hands out nothing.
@@ -70,8 +73,15 @@ pub trait Machine: Drop {
             (IsTaken state (Comes message.now) (allows self.old) (λ s. stands s self.new))
             (λ refused. stands state self.new) };
 
-    /// How often its store's device failed.
-    fn failures(&self) -> u64;
+    /// How often the device of its store failed. A node that keeps no log, as a client, has had no
+    /// failure.
+    fn failures(&self) -> u64
+        ensures { result ≡ failures_of self.now };
+
+    /// Whether its log is closed: an append failed, or a restart did, and it appends nothing until
+    /// a restart succeeds. A node that keeps no log, as a client, never is.
+    fn is_closed(&self) -> bool
+        ensures { (state : NodeState) → stands state self.now → result ≡ is_closed state };
 
     /// The offset behind the last record batch of its log, 0 to 2^63 - 1. A node that keeps no log
     /// of record batches, as the coordinator and a client, is at 0.

@@ -3,3 +3,4 @@ pub mod Alike
 pub mod Faults
 pub mod Made
 pub mod Replay
+pub mod Taking

@@ -8,7 +8,7 @@ pub trait Gate: Drop {
     /// Called between taking an input from its inbox and the step.
     fn pass(&self, ticket: u64);
 
-    /// Called after the step, with its answer. What the step hands out to other nodes than those
-    /// that the workers serve goes nowhere else.
+    /// Called after the step, with its answer. What the step sends to other nodes than those that
+    /// the workers serve goes nowhere else.
     fn answered(&self, ticket: u64, answer: &Result<Receipt, NodeFault>);
 }

@@ -1,54 +1,78 @@
 //! A node that threads share.
 ghost use Rattle.std.specs.Prelude.{◌≡◌, IfOk};
+ghost use Rattle.kx_machine.specs.Meaning.{input_of};
+ghost use Rattle.kx_nodes.specs.Taking.{IsAnswer};
 
 use crate::fault::NodeFault;
-use crate::finished::Finished;
 use crate::locked::Locked;
-use crate::made::Made;
 use crate::receipt::Receipt;
-use kx_machine::{Input, Machine};
-use kx_message::Node as NodeName;
-use std::alloc::Global;
-use std::sync::{Mutex, Wait};
+use kx_machine::Input;
+use kx_message::Node as NodeId;
+use std::marker::Model;
+use std::sync::{Mutex, MutexGuard, Wait};
 
-/// A machine that threads share, with the trace of what it took. Each step is made under the node's
-/// own lock, as [`Locked::take`] makes it.
+/// What threads share of a node: what stands under its one lock, and its name. Each step is made
+/// under the lock, as [`Locked::take`] makes it.
 #[derive(Drop)]
-pub struct Node<M: Machine, B: Made> {
-    name: NodeName,
-    lock: Mutex<Locked<M, B>>,
+pub struct Node<L: Locked> {
+    name: NodeId,
+    is_traced: bool,
+    lock: Mutex<L>,
 }
 
-impl<M: Machine, B: Made> Node<M, B> {
-    /// A node that was made so, and has taken nothing yet. Its trace takes memory from `alloc`.
-    pub fn new(alloc: Global, made: B, machine: M) -> Self
-        requires { M.stands (B.state made) machine }
+/// A node is seen as its name, which stays.
+impl<L: Locked> Model for Node<L> {
+    ghost use Rattle.kx_message.specs.declared.message.Node.{Node};
+
+    ghost Value = { Node };
+
+    ghost view = { λ n. n.name };
+}
+
+impl<L: Locked> Node<L> {
+    /// A node that threads may share from now on.
+    pub fn new(locked: L) -> Self
+        ensures { result ≡ L.named locked }
     {
         Node {
-            name: made.name(),
-            lock: Mutex::new(Locked::new(alloc, made, machine)),
+            name: locked.name(),
+            is_traced: locked.is_traced(),
+            lock: Mutex::new(locked),
         }
     }
 
     /// Its name: where messages to it go.
-    pub fn name(&self) -> NodeName {
+    pub fn name(&self) -> NodeId
+        ensures { result ≡ self.now }
+    {
         self.name
+    }
+
+    /// Whether it keeps a trace of its steps, with which their receipts can be compared.
+    pub fn is_traced(&self) -> bool {
+        self.is_traced
     }
 
     /// One step. Waits until no other thread makes one here.
     ///
     /// # Errors
     ///
-    /// As [`Locked::take`].
+    /// As [`Locked::take`]. Then there was no step.
     pub fn take<R: Wait>(&self, rt: &R, input: Input) -> Result<Receipt, NodeFault>
-        ensures { IfOk result (λ receipt. receipt.input ≡ input) }
+        ensures input { IfOk result (λ receipt. receipt.input ≡ input) }
+        ensures answer { IfOk result (λ receipt. IsAnswer (input_of input) receipt.taken) }
     {
         self.lock.lock(rt).take(input)
     }
 
-    /// Ends the steps, and gives the trace and the machine.
-    pub fn finish(self) -> Finished<M, B> {
-        let Node { name: _, lock } = self;
-        lock.into_inner().finish()
+    /// Waits until no thread makes a step here, and borrows what stands under the lock.
+    pub fn lock<R: Wait>(&self, rt: &R) -> MutexGuard<'_, L> {
+        self.lock.lock(rt)
+    }
+
+    /// Ends the steps, and returns what stood under the lock.
+    pub fn finish(self) -> L {
+        let Node { lock, .. } = self;
+        lock.into_inner()
     }
 }

@@ -7,7 +7,7 @@ use kx_message::Node;
 pub struct Receipt {
     /// The node that took the input.
     pub node: Node,
-    /// The step's place in the node's trace, from 0.
+    /// The step's place in the node's trace, from 0; 0 where the node keeps no trace.
     pub place: usize,
     /// The caller's own input.
     pub input: Input,

@@ -1,12 +1,16 @@
 //! What workers share: the nodes, the inboxes, and how many steps are still to come.
+ghost use Rattle.std.specs.Prelude.{◌≡◌, IfOk, IfSome};
+ghost use Rattle.kx_machine.specs.Meaning.{input_of};
+ghost use Rattle.kx_nodes.specs.Taking.{IsAnswer};
+
 use crate::fault::{HandFault, NodeFault};
 use crate::gate::Gate;
-use crate::made::Made;
+use crate::locked::Locked;
 use crate::node::Node;
 use crate::receipt::Receipt;
 use crossbeam_channel::{Receiver, Sender};
-use kx_machine::{Input, Machine};
-use kx_message::Node as NodeName;
+use kx_machine::Input;
+use kx_message::Node as NodeId;
 use std::alloc::Global;
 use std::mem;
 use std::sync::{Arc, Condvar, Mutex, Wait};
@@ -28,21 +32,21 @@ struct Counts {
 
 /// What workers share.
 #[derive(Drop)]
-pub(crate) struct Shared<M: Machine, B: Made, G: Gate> {
-    nodes: Vec<Arc<Node<M, B>>>,
+pub(crate) struct Shared<L: Locked, G: Gate> {
+    nodes: Vec<Arc<Node<L>>>,
     gate: G,
     inboxes: Mutex<Vec<Sender<Task>>>,
     counts: Mutex<Counts>,
     moved: Condvar,
 }
 
-impl<M: Machine, B: Made, G: Gate> Shared<M, B, G> {
+impl<L: Locked, G: Gate> Shared<L, G> {
     /// Nodes, and an inbox for each worker.
     pub(crate) fn new(
-        nodes: Vec<Arc<Node<M, B>>>,
+        nodes: Vec<Arc<Node<L>>>,
         gate: G,
         inboxes: Vec<Sender<Task>>,
-    ) -> Shared<M, B, G> {
+    ) -> Shared<L, G> {
         Shared {
             nodes,
             gate,
@@ -103,13 +107,17 @@ impl<M: Machine, B: Made, G: Gate> Shared<M, B, G> {
         }
     }
 
+    /// The gate.
+    pub(crate) fn gate(&self) -> &G {
+        &self.gate
+    }
+
     // The place of the node of this name, where it is one of these.
-    fn place_of(&self, name: NodeName) -> Option<usize> {
+    fn place_of(&self, name: NodeId) -> Option<usize> {
         self.nodes.iter().position(|node| node.name() == name)
     }
 
-    // Sends on what a step handed out to nodes of these. A message for which there is no memory is
-    // lost.
+    // Sends on what a step sent to nodes of these. A message for which there is no memory is lost.
     fn pass_on<R: Wait>(&self, rt: &R, receipt: &Receipt) {
         for message in receipt.taken.messages.as_slice() {
             if let Some(node) = self.place_of(message.receiver()) {
@@ -120,7 +128,26 @@ impl<M: Machine, B: Made, G: Gate> Shared<M, B, G> {
         }
     }
 
-    // One step, for whose receipt there is room.
+    // What follows a step: the gate sees its answer, and what it sends to nodes of these goes to
+    // their inboxes. Then it is over.
+    fn follow<R: Wait>(&self, rt: &R, ticket: u64, answer: &Result<Receipt, NodeFault>) {
+        self.gate.answered(ticket, answer);
+        if let Ok(receipt) = answer {
+            self.pass_on(rt, receipt);
+        }
+        self.close_one(rt);
+    }
+
+    // Whether the steps of the node at this place leave receipts: where it keeps a trace.
+    fn leaves_receipts(&self, place: usize) -> bool {
+        match self.nodes.get(place) {
+            Some(node) => node.is_traced(),
+            None => false,
+        }
+    }
+
+    // One step, for whose receipt there is room. The receipt is kept where it can be compared with
+    // the node's trace.
     fn step<R: Wait>(&self, rt: &R, task: Task, receipts: &mut Vec<Receipt>) {
         let Task {
             ticket,
@@ -132,16 +159,54 @@ impl<M: Machine, B: Made, G: Gate> Shared<M, B, G> {
             Some(node) if receipts.reserve(1).is_ok() => node.take(rt, input),
             _ => Err(NodeFault::Memory),
         };
-        self.gate.answered(ticket, &answer);
+        self.follow(rt, ticket, &answer);
         if let Ok(receipt) = answer {
-            self.pass_on(rt, &receipt);
-            let _ = receipts.push(receipt);
+            if self.leaves_receipts(node) {
+                let _ = receipts.push(receipt);
+            }
         }
-        self.close_one(rt);
+    }
+
+    // One step of a node, in the caller's own thread.
+    fn take_here<R: Wait>(&self, rt: &R, node: &Node<L>, input: Input) -> Result<Receipt, NodeFault>
+        ensures input { IfOk result (λ receipt. receipt.input ≡ input) }
+        ensures answer { IfOk result (λ receipt. IsAnswer (input_of input) receipt.taken) }
+    {
+        let Some(ticket) = self.open_one(rt) else {
+            return Err(NodeFault::Memory);
+        };
+        self.gate.pass(ticket);
+        let answer = node.take(rt, input);
+        self.follow(rt, ticket, &answer);
+        answer
+    }
+
+    /// Does what follows a step that the caller made, with a ticket of its own. Where none is left,
+    /// what the step sends is lost.
+    pub(crate) fn send_on<R: Wait>(&self, rt: &R, receipt: Receipt) {
+        if let Some(ticket) = self.open_one(rt) {
+            self.follow(rt, ticket, &Ok(receipt));
+        }
+    }
+
+    /// One step of the node of this name in the caller's own thread. None where it is none of these.
+    pub(crate) fn take<R: Wait>(
+        &self,
+        rt: &R,
+        name: NodeId,
+        input: Input,
+    ) -> Option<Result<Receipt, NodeFault>>
+        ensures input { IfSome result (λ answer. IfOk answer
+            (λ receipt. receipt.input ≡ input)) }
+        ensures answer { IfSome result (λ answer. IfOk answer
+            (λ receipt. IsAnswer (input_of input) receipt.taken)) }
+    {
+        let node = self.nodes.get(self.place_of(name)?)?;
+        Some(self.take_here(rt, node, input))
     }
 
     /// What a worker does: makes the steps of its inbox, until the inbox is empty and no sender of
-    /// it is left. Gives their receipts.
+    /// it is left. Returns the receipts of traced nodes' steps.
     pub(crate) fn work<R: Wait>(
         &self,
         rt: &R,
@@ -155,15 +220,20 @@ impl<M: Machine, B: Made, G: Gate> Shared<M, B, G> {
         receipts
     }
 
-    /// Waits until no step is under way and none is to come.
-    pub(crate) fn settle<R: Wait>(&self, rt: &R) {
+    /// Waits while more steps than these are under way or to come.
+    pub(crate) fn wait_for_few<R: Wait>(&self, rt: &R, few: u64) {
         let counts = self
             .moved
-            .wait_while(rt, self.counts.lock(rt), |counts| counts.open > 0);
+            .wait_while(rt, self.counts.lock(rt), |counts| counts.open > few);
         drop(counts);
     }
 
-    /// The same, and then lets the inboxes go.
+    /// Waits until no step is under way and none is to come.
+    pub(crate) fn settle<R: Wait>(&self, rt: &R) {
+        self.wait_for_few(rt, 0);
+    }
+
+    /// Waits until no step is under way and none is to come, and then drops the inboxes.
     pub(crate) fn close<R: Wait>(&self, rt: &R, alloc: Global) {
         self.settle(rt);
         let inboxes = mem::replace(&mut *self.inboxes.lock(rt), Vec::new(alloc));

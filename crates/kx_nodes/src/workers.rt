@@ -3,12 +3,13 @@ ghost use Rattle.std.specs.Prelude.{◌≡◌, ◌<◌, ◌≤◌, IfOk, vec_len
 
 use crate::fault::HandFault;
 use crate::gate::Gate;
-use crate::made::Made;
+use crate::handle::Handle;
+use crate::locked::Locked;
 use crate::node::Node;
 use crate::receipt::Receipt;
 use crate::shared::{Shared, Task};
 use crossbeam_channel::Receiver;
-use kx_machine::{Input, Machine};
+use kx_machine::Input;
 use std::alloc::{AllocError, Global};
 use std::marker::Model;
 use std::sync::{Arc, Wait};
@@ -16,20 +17,21 @@ use std::thread;
 use std::thread::{JoinHandle, Threads};
 
 /// Running threads that serve nodes. Each thread has an inbox with room for any number of inputs,
-/// and each node is served by one thread. What a step hands out to one of these nodes goes to the
-/// inbox of that node's thread, with a ticket of its own; where there is no memory or no ticket for
-/// it, it is lost. The threads are ended by [`end`](Workers::end).
-pub struct Workers<M: Machine, B: Made, G: Gate, R: Threads + Wait> {
+/// and each node is served by one thread. What a step sends to one of these nodes goes to the inbox
+/// of that node's thread, with a ticket of its own; where there is no memory or no ticket for it, it
+/// is lost. Only steps of nodes that keep a trace leave receipts. The threads are ended by
+/// [`end`](Workers::end).
+pub struct Workers<L: Locked, G: Gate, R: Threads + Wait> {
     rt: R,
     alloc: Global,
     // how many nodes are served
     served: usize,
-    shared: Arc<Shared<M, B, G>>,
+    shared: Arc<Shared<L, G>>,
     handles: Vec<JoinHandle<Vec<Receipt>>>,
 }
 
 /// Workers are seen as the number of nodes that they serve.
-impl<M: Machine, B: Made, G: Gate, R: Threads + Wait> Model for Workers<M, B, G, R> {
+impl<L: Locked, G: Gate, R: Threads + Wait> Model for Workers<L, G, R> {
     ghost use Rattle.std.specs.Prelude.{ℕ};
 
     ghost Value = { ℕ };
@@ -38,23 +40,22 @@ impl<M: Machine, B: Made, G: Gate, R: Threads + Wait> Model for Workers<M, B, G,
 }
 
 impl<
-    M: Machine + Send + Sync + 'static,
-    B: Made + Send + Sync + 'static,
+    L: Locked + Send + 'static,
     G: Gate + Send + Sync + 'static,
     R: Threads + Wait + Copy + Send + 'static,
-> Workers<M, B, G, R> {
-    /// Starts so many threads that serve these nodes behind a gate.
+> Workers<L, G, R> {
+    /// Starts `count` threads that serve these nodes behind a gate.
     ///
     /// # Errors
     ///
-    /// Only for want of memory or of threads; then those that were started have ended.
+    /// Only where memory or threads run out; then those that were started have ended.
     pub fn start(
         rt: R,
         alloc: Global,
-        nodes: Vec<Arc<Node<M, B>>>,
+        nodes: Vec<Arc<Node<L>>>,
         count: usize,
         gate: G,
-    ) -> Result<Workers<M, B, G, R>, AllocError>
+    ) -> Result<Workers<L, G, R>, AllocError>
         requires { 1 ≤ count }
         ensures { IfOk result (λ workers. workers ≡ vec_len nodes) }
     {
@@ -123,12 +124,21 @@ impl<
     ///
     /// # Errors
     ///
-    /// `Memory` for want of memory, `UsedUp` where 2^64 - 1 tickets were given. Then there is no
+    /// `Memory` where memory runs out, `UsedUp` where 2^64 - 1 tickets were given. Then there is no
     /// step.
     pub fn hand(&self, node: usize, input: Input) -> Result<u64, HandFault>
         requires { node < self.now }
     {
         self.shared.send(&self.rt, node, input)
+    }
+
+    /// What other threads share of the workers.
+    ///
+    /// # Errors
+    ///
+    /// Only where 2^63 - 1 of them exist.
+    pub fn handle(&self) -> Result<Handle<L, G>, AllocError> {
+        Ok(Handle::of(Arc::try_clone(&self.shared)?))
     }
 
     /// Waits until the inboxes are empty and no step is under way. What other threads hand in
@@ -138,11 +148,11 @@ impl<
     }
 
     /// Waits until the inboxes are empty and no step is under way, and ends the threads, which then
-    /// have none of the nodes. Gives the receipts of all steps that were made, in any order.
+    /// have none of the nodes. Returns the receipts of all steps of traced nodes, in any order.
     ///
     /// # Errors
     ///
-    /// Only for want of memory; then the threads have ended as well, and receipts are lost.
+    /// Only where memory runs out; then the threads have ended as well, and receipts are lost.
     pub fn end(self) -> Result<Vec<Receipt>, AllocError> {
         let Workers {
             rt,

@@ -5,9 +5,8 @@ ghost use Rattle.kx_message.specs.Ranges.{data_partitions, offsets_partition};
 use kx_cluster::{AnyMaking, LocalNode, local_node};
 use kx_machine::{Machine, Making};
 use kx_message::{ClientId, GroupId, PartitionId, Timeout, TxnId};
-use kx_nodes::{Made, Node, ProcessorMaking, Trace};
-use kx_processor::Inputs;
-use kx_script::Prefixed;
+use kx_nodes::{Made, Node, ProcessorMaking, Trace, Traced};
+use kx_processor::{Inputs, Prefixed};
 use std::alloc::{AllocError, Global};
 use std::sync::Arc;
 
@@ -90,7 +89,7 @@ pub(crate) fn processor(
 }
 
 /// The trace of a node that has ended.
-pub(crate) fn trace_of<M: Machine, B: Made>(node: Node<M, B>) -> Trace<B> {
+pub(crate) fn trace_of<M: Machine, B: Made>(node: Node<Traced<M, B>>) -> Trace<B> {
     let (trace, _machine) = node.finish().into_parts();
     trace
 }

@@ -2,13 +2,12 @@
 //! workers, and what a step hands out to a client goes out over the client's own.
 use crate::nodes::{PlayMaking, PlayNode};
 use crossbeam_channel::{Receiver, Sender};
-use kx_cluster::AnyMachine;
-use kx_core::LocalStore;
 use kx_machine::Input;
+use kx_machines::{AnyMachine, LocalStore};
 use kx_message::{ClientId, Message, Node as NodeName};
-use kx_nodes::{Gate, NodeFault, Receipt, Workers};
+use kx_nodes::{Gate, NodeFault, Receipt, Traced, Workers};
+use kx_processor::Prefixed;
 use kx_relay::FrameStream;
-use kx_script::Prefixed;
 use kx_stream::send;
 use std::alloc::{AllocError, Global};
 use std::net::{Shutdown, TcpStream};
@@ -73,7 +72,11 @@ impl<R: Wait + Drop> Gate for Answers<R> {
 }
 
 /// The threads that serve the nodes.
-pub(crate) type Served<R> = Workers<AnyMachine<LocalStore, Prefixed>, PlayMaking, Answers<R>, R>;
+pub(crate) type Served<R> = Workers<
+    Traced<AnyMachine<LocalStore, Prefixed>, PlayMaking>,
+    Answers<R>,
+    R,
+>;
 
 /// Hands in the requests that come over a connection, until it is closed.
 pub(crate) fn hear<R: Wait>(rt: &R, mut frames: FrameStream, to_nodes: &Sender<Handed>) {

@@ -1,11 +1,15 @@
 -- What a processor answers where it refuses a command.
-use Rattle.std.specs.Prelude.{◌≡◌, []}
+use Rattle.std.specs.Prelude.{◌≡◌, ℤ, false, [], Ok, is_none}
 use Rattle.kx_client.specs.declared.fault.ClientFault.{ClientFault}
 use Rattle.kx_client.specs.declared.fault.ClientFault.TheVariants as fault
+use Rattle.kx_message.specs.declared.message.Message.{Message}
 use Rattle.kx_model.specs.Client as model
 use Rattle.kx_model.specs.Client.{Command, Fault}
 use Rattle.kx_model.specs.Step.{Commands, Declined}
-use Rattle.kx_system.specs.Processor.{Processor, processor_step}
+use Rattle.kx_model.specs.Page.{Fetched}
+use Rattle.kx_partition.specs.Reply.{page_in}
+use Rattle.kx_system.specs.Processor.{Processor, has_failed, is_overflown, is_waiting}
+use Rattle.kx_system.specs.Processor.{processor_step}
 
 -- the rules refuse it so, and the processor is then where they say
 abbrev pub Declines : Processor → Command → Fault → Processor → Type 0
@@ -28,3 +32,16 @@ IsRefused before what fault.UsedUp after = Declines before what model.UsedUp aft
 IsRefused before what fault.MustAbort after = Declines before what model.MustAbort after
 IsRefused before what fault.TooLarge after = Declines before what model.TooLarge after
 IsRefused before what fault.Memory after = after ≡ before
+
+-- the message carries a page
+pub record HasPage (reply : Message) : Type 0 where
+  pub from : ℤ
+  pub page : Fetched
+  pub is : page_in from reply ≡ Ok page
+
+-- nothing is unanswered and no refusal comes first, so that the next request is made
+pub record AsksNext (p : Processor) : Type 0 where
+  pub not_failed : has_failed p ≡ false
+  pub not_waiting : is_waiting p.client ≡ false
+  pub has_id : is_none p.client.held ≡ false
+  pub fitted : is_overflown p.processing.stage ≡ false

@@ -2,3 +2,4 @@ pub mod Batches
 pub mod Calls
 pub mod Internal
 pub mod Running
+pub mod Prefixed

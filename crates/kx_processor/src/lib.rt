@@ -10,11 +10,13 @@ mod inputs;
 mod owned;
 mod page;
 mod poll;
+mod prefixed;
 mod process;
 mod processor;
 mod stage;
 
 pub use fault::InputsFault;
 pub use inputs::Inputs;
+pub use prefixed::Prefixed;
 pub use process::Process;
 pub use processor::Processor;

@@ -1,12 +1,12 @@
 //! What a processor asks for next.
-ghost use Rattle.std.specs.Prelude.{◌≡◌, ◌∷◌, [], MatchResult};
+ghost use Rattle.std.specs.Prelude.{◌≡◌, ◌∷◌, [], Err, MatchResult};
 ghost use Rattle.std.specs.List.{cons_option};
 ghost use Rattle.kx_client.specs.Calls as client;
 ghost use Rattle.kx_message.specs.declared.outcome.Outcome.TheVariants as Outcome;
 ghost use Rattle.kx_model.specs.Client as model;
 ghost use Rattle.kx_model.specs.Client.{Does, End, Send, SendOffsets};
 ghost use Rattle.kx_model.specs.Step.{Commands, serves};
-ghost use Rattle.kx_processor.specs.Calls.{IsRefused};
+ghost use Rattle.kx_processor.specs.Calls.{AsksNext, IsRefused};
 ghost use Rattle.kx_processor.specs.Internal.{IsRefusedOrUnlisted, to_write, told_inside};
 ghost use Rattle.kx_processor.specs.Running.{next_of, processor_of};
 ghost use Rattle.kx_system.specs.Processor.{processor_step, stage_sent};
@@ -182,14 +182,17 @@ impl<P: Process> Processor<P> {
     /// was aborted, after which it has stopped for good;
     /// [`NotTransactional`](ClientFault::NotTransactional) where a transaction is to be begun
     /// without a transactional id; [`UsedUp`](ClientFault::UsedUp) where no number or sequence is
-    /// left for the request. [`Memory`](ClientFault::Memory) may come in place of the last two.
-    /// Nothing is changed then, but by `TooLarge`.
+    /// left for the request. [`Memory`](ClientFault::Memory) may come in place of the last two, and
+    /// of no other. Nothing is changed then, but by `TooLarge`.
     pub fn poll(&mut self) -> Result<Vec<Message>, ClientFault>
-        ensures { MatchResult result
+        ensures polled { MatchResult result
             (λ sent. processor_step (processor_of P.image_of self.old) (Commands model.Poll)
             ≡ serves (processor_of P.image_of self.new) sent.items)
             (λ fault. IsRefused (processor_of P.image_of self.old) model.Poll fault
             (processor_of P.image_of self.new)) }
+        // Memory is asked for only for the next request.
+        ensures memory { result ≡ Err ClientFault.Memory
+            → AsksNext (processor_of P.image_of self.old) }
     {
         if self.has_failed() {
             return Err(ClientFault::Failed);

@@ -1,8 +1,9 @@
 //! The processor: what it is told, and what it makes of replies.
-ghost use Rattle.std.specs.Prelude.{◌≡◌, ◌∷◌, [], IfOk, MatchResult, is_some};
+ghost use Rattle.std.specs.Prelude.{◌≡◌, ◌∷◌, [], true, IfOk, OnErr, MatchResult, is_some};
 ghost use Rattle.kx_model.specs.Client as model;
 ghost use Rattle.kx_model.specs.Step.{Commands, serves};
-ghost use Rattle.kx_processor.specs.Calls.{IsRefused};
+ghost use Rattle.kx_model.specs.Replies.{is_awaited};
+ghost use Rattle.kx_processor.specs.Calls.{HasPage, IsRefused};
 ghost use Rattle.kx_processor.specs.Internal.{IsPaged};
 ghost use Rattle.kx_processor.specs.Running.{processing_of, processor_of};
 ghost use Rattle.kx_system.specs.Processor as pass;
@@ -72,6 +73,13 @@ impl<P: Process> Processor<P> {
         }
     }
 
+    /// Its client, borrowed: what it holds, and whether it is in a transaction or waits for replies.
+    pub fn client(&self) -> &ProducerClient
+        ensures { result.now ≡ self.now.client }
+    {
+        &self.client
+    }
+
     /// Its client's number, any u32.
     pub fn number(&self) -> ClientId
         ensures { result ≡ self.now.client.number }
@@ -133,8 +141,9 @@ impl<P: Process> Processor<P> {
 
     // Where the page that a reply has leads, if it has one and a page is awaited.
     fn paged(&self, reply: &Message) -> Result<Option<Stage>, AllocError>
-        ensures { IfOk result (λ paged.
+        ensures ok { IfOk result (λ paged.
             IsPaged (processing_of P.image_of self.now) reply.now paged) }
+        ensures err { OnErr result (HasPage reply.now) }
     {
         let Stage::Fetching {
             input,
@@ -163,13 +172,15 @@ impl<P: Process> Processor<P> {
     ///
     /// # Errors
     ///
-    /// Only for want of memory, which is asked for only for a page; nothing is changed then, so
-    /// that the reply may come again.
+    /// Only where memory is refused, which is asked for only for an awaited reply that carries a
+    /// page. Nothing is changed then, so that the reply may come again.
     pub fn take(&mut self, reply: &Message) -> Result<(), AllocError>
-        ensures { MatchResult result
+        ensures taken { MatchResult result
             (λ _. processor_of P.image_of self.new
             ≡ takes (processor_of P.image_of self.old) reply.now)
             (λ _. self.new ≡ self.old) }
+        ensures memory { OnErr result ((is_awaited self.old.client reply.now ≡ true)
+            × HasPage reply.now) }
     {
         if !self.client.awaits(reply) {
             return Ok(());

@@ -1,2 +1,3 @@
 pub mod Publishing
+pub mod Showing
 pub mod WrittenSteps

@@ -1,31 +1,36 @@
--- A node whose log is published.
-use Rattle.std.specs.Prelude.{◌≡◌, ℕ, List, [], ◌∷◌, ◌++◌, Option, Some, None, option_map}
+-- A node whose log may be published.
+use Rattle.std.specs.Prelude.{◌≡◌, ◌⊎◌, ℕ, Bool, true, false, List, [], ◌∷◌, ◌++◌, MatchResult}
+use Rattle.std.specs.Prelude.{Option, Some, None, Result, option_map}
 use mathlib.Core.List.{IsPrefix}
 use Rattle.kx_machine.specs.Logs.{batches_of}
-use Rattle.kx_machine.specs.Meaning.{NodeState, AtCoordinator, AtPartition, AtClient, AtProcessor}
+use Rattle.kx_machine.specs.Meaning.{IsTaken, NodeState, AtCoordinator, AtPartition, AtClient}
+use Rattle.kx_machine.specs.Meaning.{AtProcessor}
+use Rattle.kx_machine.specs.declared.input.Input as given
 use Rattle.kx_message.specs.declared.message.Message.{Message}
+use Rattle.kx_model.specs.Disk.{Store}
 use Rattle.kx_model.specs.Log.{Stored}
-use Rattle.kx_model.specs.Step.{Input, Comes}
-use Rattle.kx_nodes.specs.Again.{again}
-use Rattle.kx_nodes.specs.Replay.{Recorded, Replays, Traced}
+use Rattle.kx_model.specs.Step.{Input, Comes, Restarts}
+use Rattle.kx_nodes.specs.Taking.{IsAnswer}
+use Rattle.kx_nodes.specs.declared.fault.NodeFault.{NodeFault}
+use Rattle.kx_nodes.specs.declared.receipt.Receipt.{Receipt}
 use Rattle.kx_published.specs.Written.{HasWritten}
 use Rattle.kx_published.specs.declared.known.Known.{Known}
 use Rattle.kx_published.specs.declared.publisher.Done.{Done}
+use Rattle.kx_publishing.specs.declared.published_machine.Publishes.{Publishes}
+use Rattle.kx_publishing.specs.declared.published_machine.Tended.{Tended}
+use Rattle.kx_publishing.specs.declared.published_machine.Tended.TheVariants as tended
 
--- the log to which a trace leads
-abbrev pub log_of : {B : Type 0} → (B → NodeState) → Traced B → List Stored
-log_of made_as t = batches_of (again (made_as t.made) t.steps)
-
--- a machine with its trace, and what was published of its log
-pub record UnderLock (B M : Type 0) : Type 0 where
-  pub recorded : Recorded B M
+-- what stands under the lock, what was published of its log, and when it is published
+pub record UnderLock (L : Type 0) : Type 0 where
+  pub locked : L
   pub published : Option Done
+  pub publishes : Publishes
 
 -- the partition whose log it is
 abbrev pub partition_of : Option Done → Option ℕ
 partition_of published = option_map (λ (done : Done). done.known.partition) published
 
--- the message that comes with an input
+-- the message that arrives with an input
 abbrev pub comes_with : Input → Option Message
 comes_with (Comes m) = Some m
 comes_with other = None
@@ -37,17 +42,24 @@ WroteItself (AtPartition number p) = HasWritten p
 WroteItself (AtClient c) = Unit {0}
 WroteItself (AtProcessor p) = Unit {0}
 
--- what was passed on begins the log
-abbrev pub IsBehind : {B : Type 0} → (B → NodeState) → Traced B → Option Done → Type 0
-IsBehind made_as t None = Unit {0}
-IsBehind made_as t (Some done) =
-    ((node : NodeState) → Replays (made_as t.made) t.steps node → WroteItself node)
-    × IsPrefix done.sent (log_of made_as t)
+-- the node wrote its log itself, and what was passed on begins it
+abbrev pub BeginsLog : NodeState → Option Done → Type 0
+BeginsLog node None = Unit {0}
+BeginsLog node (Some done) = WroteItself node × IsPrefix done.sent (batches_of node)
+
+-- it stands for a node, whose log begins with what was passed on
+pub record Runs {M : Type 0} (Stands : NodeState → M → Type 0) (machine : M)
+    (published : Option Done) : Type 0 where
+  pub node : NodeState
+  pub stands : Stands node machine
+  pub begins : BeginsLog node published
+
+------ publishes
 
 -- the empty log was published, as this partition's first, and readers take it
-pub record IsFirst {B M : Type 0} (partition : ℕ) (held : UnderLock B M) : Type 0 where
+pub record IsFirst (partition : ℕ) (published : Option Done) : Type 0 where
   pub done : Done
-  pub published_is : held.published ≡ Some done
+  pub published_is : published ≡ Some done
   pub partition_is : done.known.partition ≡ partition
   pub logs : done.known.logs ≡ record { log = [] } ∷ []
   pub shown : done.shown ≡ []
@@ -62,3 +74,48 @@ pub record HasShown (log : List Stored) (before after : Option Done) (told : Kno
   pub partition : new.known.partition ≡ old.known.partition
   pub logs : new.known.logs ≡ old.known.logs ++ record { log = log } ∷ []
   pub shown : new.shown ≡ log
+
+-- readers take this log
+abbrev pub IsSeen : List Stored → Option Done → Type 0
+IsSeen log None = ⊥
+IsSeen log (Some done) = done.shown ≡ log
+
+-- readers took the log already, and nothing was published
+abbrev pub IsQuiet : List Stored → Option Done → Option Done → Type 0
+IsQuiet log before after = IsSeen log before × (after ≡ before)
+
+-- readers take the log: they did before, or it is the next one published; or they take what they
+-- took
+abbrev pub Shows : Bool → List Stored → Option Done → Option Done → Type 0
+Shows true log before after = IsQuiet log before after ⊎ ((told : Known) × HasShown log before after told)
+Shows false log before after =
+    option_map (λ (d : Done). d.shown) after ≡ option_map (λ (d : Done). d.shown) before
+
+------ steps
+
+-- the step records what it does without readers; after it they take the log that it left, or what
+-- they took; and a refusal publishes nothing
+pub record StepIsPublished {L : Type 0} (log : L → List Stored)
+    (Records : L → given.Input → Result Receipt NodeFault → L → Type 0) (before : UnderLock L)
+    (input : given.Input) (result : Result Receipt NodeFault) (after : UnderLock L)
+    : Type 0 where
+  pub recorded : Records before.locked input result after.locked
+  pub shows : MatchResult result
+      (λ receipt. (shown : Bool) × Shows shown (log after.locked) before.published after.published)
+      (λ refused. after.published ≡ before.published)
+
+-- whether readers take the log as it stands now
+abbrev pub shows_of : Tended → Bool
+shows_of (tended.Restarted served) = served.is_shown
+shows_of (tended.Rested shown) = shown
+
+-- the node was restarted, and answers so
+abbrev pub IsRestart : (Store → Type 0) → NodeState → ℕ → (NodeState → Type 0) → Tended → Type 0
+IsRestart Allows node now Stands (tended.Restarted served) =
+    IsTaken node (Restarts now) Allows Stands served.receipt.taken
+IsRestart Allows node now Stands (tended.Rested shown) = ⊥
+
+-- if there was a step, it was a restart
+abbrev pub MayRestart : ℕ → Tended → Type 0
+MayRestart now (tended.Restarted served) = IsAnswer (Restarts now) served.receipt.taken
+MayRestart now (tended.Rested shown) = Unit {0}

@@ -14,11 +14,12 @@ pub enum PublishFault {
     Memory = 1,
     /// The node publishes nothing, or all its readers' places are taken.
     #[error("no published log to read")]
-    NoReader = 2,
+    NoReader = 3,
 }
 
 impl PublishFault {
-    /// The number of the fault, by which another program knows it: `Memory` 1, `NoReader` 2.
+    /// The number of the fault, by which another program knows it: `Memory` 1, `NoReader` 3. They
+    /// are numbered with those of [`NodeFault`](kx_nodes::NodeFault), whose `TraceFull` is 2.
     pub fn number(self) -> u8
         ensures { result ≡ publish_number self }
     {

@@ -1,52 +1,65 @@
-//! What lies under a node's one lock: its machine with its trace, and the writer's end of its
-//! published log.
-ghost use Rattle.std.specs.Prelude.{◌≡◌, ◌↔◌, ◌≤◌, ◌<◌, ◌^◌, [], length, Err, IfErr, IfOk};
-ghost use Rattle.std.specs.Prelude.{IfSome, MatchResult, None, Some, option_map};
-ghost use Rattle.kx_machine.specs.Meaning.{AtPartition, IsTaken, NodeState, input_of};
-ghost use Rattle.kx_model.specs.PartitionNode.{empty_partition};
-ghost use Rattle.kx_nodes.specs.Replay.{IsReceipt, RunsAs, most_steps, step_of, with_step};
-ghost use Rattle.kx_nodes.specs.declared.fault.NodeFault.TheVariants as fault;
+//! What stands under a node's lock where its log is published: the machine, and the writer's end of
+//! the published log.
+ghost use Rattle.std.specs.Prelude.{◌≡◌, ◌↔◌, ◌<◌, ◌^◌, Bool, Err, IfErr, IfOk, MatchResult, None};
+ghost use Rattle.std.specs.Prelude.{Ok, Some, false, option_map, true};
+ghost use Rattle.kx_machine.specs.Meaning.{IsTaken, NodeState, input_of, is_closed};
+ghost use Rattle.kx_nodes.specs.Taking.{IsAnswer};
 ghost use Rattle.kx_published.specs.Written.{MarkerComesRight};
-ghost use Rattle.kx_publishing.specs.Publishing.{HasShown, IsFirst, comes_with, log_of};
-ghost use Rattle.kx_publishing.specs.Publishing.{partition_of};
+ghost use Rattle.kx_publishing.specs.Publishing.{HasShown, IsFirst, IsRestart, IsSeen, MayRestart};
+ghost use Rattle.kx_publishing.specs.Publishing.{Shows, WroteItself, comes_with, partition_of};
+ghost use Rattle.kx_publishing.specs.Publishing.{shows_of};
 ghost use Rattle.kx_publishing.specs.declared.fault.PublishFault.TheVariants as refused;
+ghost use Rattle.kx_publishing.specs.declared.published_machine.Publishes.TheVariants as publishes;
+ghost use Rattle.kx_publishing.specs.declared.published_machine.Tended.TheVariants as tended_as;
 
 use crate::fault::PublishFault;
-use kx_log::LogSlices;
-use kx_machine::{Input, Machine, steps_only_add};
-use kx_message::{Message, PartitionId};
-use kx_nodes::{Finished, Locked, Made, NodeFault, Receipt};
+use crate::growing::Growing;
+use crate::readable::Readable;
+use kx_machine::{Input, steps_only_add};
+use kx_message::{Message, Node as NodeId, PartitionId};
+use kx_nodes::{Locked, NodeFault, Receipt};
 use kx_published::book::{Naming, Opened};
 use kx_published::ends::PageReader;
-use kx_published::log::GrownLog;
 use kx_published::publisher::Publisher;
 use kx_published::told::Told;
 use std::alloc::{AllocError, Global};
 use std::marker::Model;
 use std::sync::Wait;
 
-// The log of record batches to which the trace of a node leads.
+/// When a log is published.
+#[derive(Clone, Copy, Debug, PartialEq, Eq)]
+pub enum Publishes {
+    /// After each step that left another log than readers see.
+    EachStep,
+    /// Only when it is asked for.
+    OnCall,
+}
+
+/// What a step answers.
 #[derive(Drop)]
-struct Growing<'a, M: Machine, B: Made> {
-    locked: &'a Locked<M, B>,
+pub struct Served {
+    /// The receipt of the step.
+    pub receipt: Receipt,
+    /// Whether this step found readers that enter from now on to see the log that it left. They see
+    /// what they saw where no log is published, where none is published at steps, where memory ran
+    /// out, and after 2^61 publishes.
+    pub is_shown: bool,
 }
 
-impl<'a, M: Machine, B: Made> GrownLog for Growing<'a, M, B> {
-    ghost use Rattle.kx_publishing.specs.Publishing.{log_of};
-
-    ghost log = { λ l. log_of B.state l.locked.now.trace };
-
-    fn end(&self) -> i64 {
-        self.locked.machine().log_end()
-    }
-
-    fn batches_from(&self, from: i64, max: u32) -> LogSlices<'_> {
-        self.locked.machine().batches_from(from, max)
-    }
+/// What the clock did for a machine.
+#[derive(Drop)]
+pub enum Tended {
+    /// Its log was closed, and it took a restart, which answered this.
+    Restarted(Served),
+    /// It took no step.
+    Rested {
+        /// As [`Served::is_shown`].
+        is_shown: bool,
+    },
 }
 
-/// A marker that is handed in has numbers that a control batch holds, as its types see to. This
-/// does nothing when it runs.
+/// A marker that arrives has numbers that a control batch holds, as its types see to. This does
+/// nothing when it runs.
 pub fn marker_comes_right(input: &Input)
     ensures { MarkerComesRight (comes_with (input_of input.now)) }
 {
@@ -56,79 +69,80 @@ pub fn marker_comes_right(input: &Input)
     }
 }
 
-/// A machine with its trace, and the writer's end of its log, if that is published. What was
-/// passed on to the copies of the log begins the log to which the trace leads.
+/// What stands under a node's lock, and the writer's end of its published log, if it has one. The
+/// node wrote its log itself where that is published; and what was passed on to the copies of the
+/// log begins it.
 #[derive(Drop)]
-pub struct PublishedMachine<M: Machine, B: Made, J: Naming, R: Wait + Drop> {
-    locked: Locked<M, B>,
+pub struct PublishedMachine<L: Readable, J: Naming, R: Wait + Drop> {
+    locked: L,
     partition: Option<PartitionId>,
     publisher: Option<Publisher<J, R>>,
+    publishes: Publishes,
 }
 
-impl<M: Machine, B: Made, J: Naming, R: Wait + Drop> Model for PublishedMachine<M, B, J, R> {
+impl<L: Readable, J: Naming, R: Wait + Drop> Model for PublishedMachine<L, J, R> {
     ghost use Rattle.kx_publishing.specs.Publishing.{UnderLock};
 
-    ghost Value = { UnderLock B M };
+    ghost Value = { UnderLock L };
 
     ghost use Rattle.std.specs.Prelude.{◌≡◌};
-    ghost use Rattle.kx_publishing.specs.Publishing.{IsBehind, partition_of};
+    ghost use Rattle.kx_publishing.specs.Publishing.{Runs, partition_of};
 
-    ghost view = { λ d. record { recorded = d.locked; published = d.publisher } };
+    ghost view = { λ d. record {
+      locked = d.locked;
+      published = d.publisher;
+      publishes = d.publishes;
+    } };
 
-    ghost invariant = { λ d. IsBehind B.state d.locked.trace d.publisher
+    ghost invariant = { λ d. Runs L.stands d.locked d.publisher
         × (d.partition ≡ partition_of d.publisher) };
 }
 
-impl<M: Machine, B: Made, J: Naming, R: Wait + Drop> PublishedMachine<M, B, J, R> {
-    /// A machine that was made so, and has taken nothing yet. Its log isn't published. Its trace
-    /// takes memory from `alloc`.
-    pub fn new(alloc: Global, made: B, machine: M) -> Self
-        requires { M.stands (B.state made) machine }
-        ensures recorded { result.recorded ≡ record {
-          trace = record { made = made; steps = [] };
-          machine = machine;
-        } }
+impl<L: Readable, J: Naming, R: Wait + Drop> PublishedMachine<L, J, R> {
+    /// One whose log isn't published.
+    pub fn new(locked: L) -> Self
+        requires { (node : NodeState) × L.stands node locked }
+        ensures locked { result.locked ≡ locked }
         ensures published { result.published ≡ None }
     {
         PublishedMachine {
-            locked: Locked::new(alloc, made, machine),
+            locked,
             partition: None,
             publisher: None,
+            publishes: Publishes::OnCall,
         }
     }
 
-    /// An empty partition's machine, whose log is published: the empty log first, under the book
-    /// that was opened for the partition. At most `readers` readers exist at a time. Trace and
-    /// copies take memory from `alloc`.
+    /// One whose log is published under the book that was opened for its partition: the empty log
+    /// first, and the log as it stands by the next publish. At most `readers` readers exist at a
+    /// time. The copies take memory from `alloc`.
     ///
     /// # Errors
     ///
-    /// Only for want of memory.
+    /// Only where memory runs out.
     pub fn publishing(
         rt: R,
         alloc: Global,
-        made: B,
-        machine: M,
+        locked: L,
         opened: Opened,
         readers: usize,
+        publishes: Publishes,
     ) -> Result<Self, AllocError>
-        requires stands { M.stands (B.state made) machine }
-        requires made { B.state made ≡ AtPartition opened.partition empty_partition }
+        requires wrote { (node : NodeState) × L.stands node locked × WroteItself node }
         requires readers { (0 < readers) × (readers < 2 ^ 32) }
         requires book { opened.seen.book ≡ J.book opened.partition }
-        ensures recorded { IfOk result (λ d. d.recorded ≡ record {
-          trace = record { made = made; steps = [] };
-          machine = machine;
-        }) }
-        ensures published { IfOk result (IsFirst opened.partition) }
+        ensures locked { IfOk result (λ d. d.locked ≡ locked) }
+        ensures published { IfOk result (λ d. IsFirst opened.partition d.published) }
+        ensures publishes { IfOk result (λ d. d.publishes ≡ publishes) }
     {
         let partition = opened.partition;
         let (head, front) = opened.named::<J>();
         let publisher = Publisher::new(rt, alloc, head, front, readers)?;
         Ok(PublishedMachine {
-            locked: Locked::new(alloc, made, machine),
+            locked,
             partition: Some(partition),
             publisher: Some(publisher),
+            publishes,
         })
     }
 
@@ -139,47 +153,142 @@ impl<M: Machine, B: Made, J: Naming, R: Wait + Drop> PublishedMachine<M, B, J, R
         self.partition
     }
 
-    /// One step, as [`Locked::take`] makes it. It publishes nothing.
-    ///
-    /// # Errors
-    ///
-    /// As [`Locked::take`]. Then there was no step.
-    pub fn take(&mut self, input: Input) -> Result<Receipt, NodeFault>
-        ensures trace { MatchResult result
-            (λ receipt. self.new.recorded.trace
-            ≡ with_step self.old.recorded.trace (step_of receipt))
-            (λ refused. self.new.recorded.trace ≡ self.old.recorded.trace) }
-        ensures receipt { IfOk result (IsReceipt B.state self.old.recorded.trace input) }
-        ensures step { (node : NodeState) → RunsAs B.state M.stands self.old.recorded node
-            → MatchResult result
-            (λ receipt. IsTaken node (input_of input) (M.allows self.old.recorded.machine)
-            (RunsAs B.state M.stands self.new.recorded) receipt.taken)
-            (λ refused. RunsAs B.state M.stands self.new.recorded node) }
-        ensures full { (result ≡ Err fault.TraceFull)
-            ↔ (most_steps ≤ length self.old.recorded.trace.steps) }
-        ensures published { self.new.published ≡ self.old.published }
+    /// What stands under the lock beside the published log.
+    pub fn locked(&self) -> &L
+        ensures { result.now ≡ self.now.locked }
     {
-        // What these calls ensure keeps the passed on log behind that of the trace.
-        marker_comes_right(&input);
-        steps_only_add();
-        let _machine = self.locked.machine();
-        match self.locked.take(input) {
-            Ok(receipt) => Ok(receipt),
-            Err(fault) => Err(fault),
+        &self.locked
+    }
+
+    // Publishes the log as it stands, where one is published and readers don't see it yet. Says
+    // whether readers that enter from now on see it.
+    fn show(&mut self) -> bool
+        ensures locked { self.new.locked ≡ self.old.locked }
+        ensures publishes { self.new.publishes ≡ self.old.publishes }
+        ensures shows { Shows result (L.log self.old.locked) self.old.published
+            self.new.published }
+        ensures quiet { IsSeen (L.log self.old.locked) self.old.published
+            → self.new.published ≡ self.old.published }
+        ensures partition { partition_of self.new.published ≡ partition_of self.old.published }
+    {
+        let Some(publisher) = self.publisher.take() else {
+            return false;
+        };
+        let growing = Growing {
+            locked: &self.locked,
+        };
+        if publisher.shows(&growing) {
+            self.publisher = Some(publisher);
+            return true;
+        }
+        let (publisher, told) = publisher.publish(&growing);
+        self.publisher = Some(publisher);
+        told.is_ok()
+    }
+
+    // Publishes the log that a step left, where steps publish.
+    fn show_step(&mut self) -> bool
+        ensures locked { self.new.locked ≡ self.old.locked }
+        ensures publishes { self.new.publishes ≡ self.old.publishes }
+        ensures shows { Shows result (L.log self.old.locked) self.old.published
+            self.new.published }
+        ensures quiet { IsSeen (L.log self.old.locked) self.old.published
+            → self.new.published ≡ self.old.published }
+        ensures waits { self.old.publishes ≡ publishes.OnCall
+            → self.new.published ≡ self.old.published }
+        ensures partition { partition_of self.new.published ≡ partition_of self.old.published }
+    {
+        match self.publishes {
+            Publishes::EachStep => self.show(),
+            Publishes::OnCall => false,
         }
     }
 
-    /// Publishes the log to which the trace leads: readers that enter from now on see it. It waits
-    /// for readers that are still in the log before the one that they see now.
+    /// One step, and then a publish of the log that it left, where steps publish and readers don't
+    /// see that log already: a step that appended nothing publishes nothing. The publish waits for
+    /// readers that are still in the log before the one that they see now.
     ///
     /// # Errors
     ///
-    /// `NoReader` where the node publishes nothing; else `Memory`, for want of memory and after
-    /// 2^61 publishes. Readers see what they saw.
+    /// As [`Locked::take`]; then there was no step, and nothing was published.
+    pub fn step(&mut self, input: Input) -> Result<Served, NodeFault>
+        ensures step { (node : NodeState) → L.stands node self.old.locked → MatchResult result
+            (λ served. IsTaken node (input_of input) (L.allows self.old.locked)
+            (λ s. L.stands s self.new.locked) served.receipt.taken)
+            (λ refused. L.stands node self.new.locked) }
+        ensures input { IfOk result (λ served. served.receipt.input ≡ input) }
+        ensures answer { IfOk result
+            (λ served. IsAnswer (input_of input) served.receipt.taken) }
+        ensures recorded { MatchResult result
+            (λ served. L.records self.old.locked input (Ok served.receipt) self.new.locked)
+            (λ refused. L.records self.old.locked input (Err refused) self.new.locked) }
+        ensures shows { MatchResult result
+            (λ served. Shows served.is_shown (L.log self.new.locked) self.old.published
+            self.new.published)
+            (λ refused. self.new.published ≡ self.old.published) }
+        ensures quiet { IsSeen (L.log self.new.locked) self.old.published
+            → self.new.published ≡ self.old.published }
+        ensures waits { self.old.publishes ≡ publishes.OnCall
+            → self.new.published ≡ self.old.published }
+        ensures partition { partition_of self.new.published ≡ partition_of self.old.published }
+        ensures publishes { self.new.publishes ≡ self.old.publishes }
+    {
+        // These two do nothing when they run. By their clauses the log still begins with what was
+        // passed on, and was written batch by batch.
+        marker_comes_right(&input);
+        steps_only_add();
+        let receipt = self.locked.take(input)?;
+        let is_shown = self.show_step();
+        Ok(Served { receipt, is_shown })
+    }
+
+    /// What the clock does for the machine at this time, in milliseconds since 1970. A closed log
+    /// is opened again by a step, as [`step`](PublishedMachine::step) makes one. Where the log isn't
+    /// closed there is no step, and the log is published if readers don't see it yet, as after a
+    /// publish that failed.
+    ///
+    /// # Errors
+    ///
+    /// Only where a closed log is to be opened, as [`step`](PublishedMachine::step); then there was
+    /// no step, and nothing was published.
+    pub fn tend(&mut self, now: u64) -> Result<Tended, NodeFault>
+        ensures closed { (node : NodeState) → L.stands node self.old.locked
+            → is_closed node ≡ true → MatchResult result
+            (λ tended. IsRestart (L.allows self.old.locked) node now
+            (λ s. L.stands s self.new.locked) tended)
+            (λ refused. L.stands node self.new.locked) }
+        ensures open { (node : NodeState) → L.stands node self.old.locked
+            → is_closed node ≡ false → (self.new.locked ≡ self.old.locked)
+            × IfOk result (λ tended. (shown : Bool) × (tended ≡ tended_as.Rested shown)) }
+        ensures answer { IfOk result (MayRestart now) }
+        ensures shows { MatchResult result
+            (λ tended. Shows (shows_of tended) (L.log self.new.locked) self.old.published
+            self.new.published)
+            (λ refused. self.new.published ≡ self.old.published) }
+        ensures quiet { IsSeen (L.log self.new.locked) self.old.published
+            → self.new.published ≡ self.old.published }
+        ensures partition { partition_of self.new.published ≡ partition_of self.old.published }
+    {
+        if self.locked.is_closed() {
+            let served = self.step(Input::Restart(now))?;
+            return Ok(Tended::Restarted(served));
+        }
+        Ok(Tended::Rested {
+            is_shown: self.show(),
+        })
+    }
+
+    /// Publishes the log as it stands: readers that enter from now on see it. It waits for readers
+    /// that are still in the log before the one that they see now.
+    ///
+    /// # Errors
+    ///
+    /// `NoReader` where no log is published; else `Memory`, where memory runs out and after 2^61
+    /// publishes. Readers see what they saw.
     pub fn publish(&mut self) -> Result<Told<J>, PublishFault>
-        ensures recorded { self.new.recorded ≡ self.old.recorded }
-        ensures shows { IfOk result (HasShown (log_of B.state self.old.recorded.trace)
-            self.old.published self.new.published) }
+        ensures locked { self.new.locked ≡ self.old.locked }
+        ensures shows { IfOk result (HasShown (L.log self.old.locked) self.old.published
+            self.new.published) }
         ensures partition { partition_of self.new.published ≡ partition_of self.old.published }
         ensures told { IfOk result
             (λ told. partition_of self.old.published ≡ Some told.partition) }
@@ -190,27 +299,26 @@ impl<M: Machine, B: Made, J: Naming, R: Wait + Drop> PublishedMachine<M, B, J, R
         let Some(publisher) = self.publisher.take() else {
             return Err(PublishFault::NoReader);
         };
-        // It stands for a node to which the trace leads, whose log was written batch by batch.
-        let _machine = self.locked.machine();
         let growing = Growing {
             locked: &self.locked,
         };
-        let (publisher, told) = publisher.publish(&growing);
+        let (publisher, published) = publisher.publish(&growing);
         self.publisher = Some(publisher);
-        match told {
+        match published {
             Ok(told) => Ok(told),
             Err(_) => Err(PublishFault::Memory),
         }
     }
 
-    /// A reader that knows of the publishes so far. It may stay when the steps have ended, and
+    /// A reader that knows of the publishes so far. It may stay when the machine has gone, and
     /// finds the log [`Gone`](kx_published::ends::Gone) then.
     ///
     /// # Errors
     ///
-    /// `NoReader` where the node publishes nothing, and where all readers' places are taken.
+    /// `NoReader` where no log is published, and where all readers' places are taken.
     pub fn reader(&self) -> Result<PageReader<J>, PublishFault>
-        ensures { IfOk result (λ r. option_map (λ d. d.known) self.now.published ≡ Some r) }
+        ensures { IfOk result (λ r. (option_map (λ d. d.known) self.now.published ≡ Some r.known)
+            × (r.is_in ≡ false)) }
     {
         let Some(publisher) = &self.publisher else {
             return Err(PublishFault::NoReader);
@@ -218,16 +326,44 @@ impl<M: Machine, B: Made, J: Naming, R: Wait + Drop> PublishedMachine<M, B, J, R
         publisher.reader().ok_or(PublishFault::NoReader)
     }
 
-    /// Ends the steps. The log is published no more, and readers that enter find it gone.
-    pub fn finish(self) -> Finished<M, B>
-        ensures { result ≡ self.recorded }
+    /// Publishes no more: waits until readers that are in the log have left, and those that enter
+    /// then find it gone. Returns what stood under the lock beside it.
+    pub fn into_locked(self) -> L
+        ensures { result ≡ self.locked }
     {
         let PublishedMachine {
             locked,
-            partition: _,
             publisher,
+            ..
         } = self;
         drop(publisher);
-        locked.finish()
+        locked
+    }
+}
+
+impl<L: Readable, J: Naming, R: Wait + Drop> Locked for PublishedMachine<L, J, R> {
+    ghost use Rattle.kx_publishing.specs.Publishing.{StepIsPublished};
+
+    ghost stands = { λ node d. L.stands node d.locked };
+
+    ghost allows = { λ d. L.allows d.locked };
+
+    ghost named = { λ d. L.named d.locked };
+
+    ghost records = { StepIsPublished L.log L.records };
+
+    fn name(&self) -> NodeId {
+        self.locked.name()
+    }
+
+    fn is_traced(&self) -> bool {
+        self.locked.is_traced()
+    }
+
+    fn take(&mut self, input: Input) -> Result<Receipt, NodeFault> {
+        match self.step(input) {
+            Ok(served) => Ok(served.receipt),
+            Err(fault) => Err(fault),
+        }
     }
 }

@@ -4,9 +4,9 @@ use Rattle.kx_core.specs.World.{Steps, store_fails}
 use Rattle.kx_core.specs.declared.event.Event as happening
 use Rattle.kx_core.specs.declared.event.Happened.{Happened}
 use Rattle.kx_machine.specs.Meaning.{note_of}
-use Rattle.kx_script.specs.Prefixed.{images_of}
+use Rattle.kx_processor.specs.Prefixed.{images_of}
 use Rattle.kx_script.specs.Running.{Occurs}
-use Rattle.kx_script.specs.declared.prefixed.Prefixed.{Prefixed}
+use Rattle.kx_processor.specs.declared.prefixed.Prefixed.{Prefixed}
 use Rattle.kx_system.specs.System.{System, SystemEvent, system_step}
 
 -- what happened is this event

@@ -1,6 +1,5 @@
 pub mod Order
 pub mod Command
-pub mod Prefixed
 pub mod Session
 pub mod Printing
 pub mod Script

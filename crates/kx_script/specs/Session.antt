@@ -14,7 +14,7 @@ use Rattle.kx_model.specs.Disk.{Store, Works}
 use Rattle.kx_model.specs.Step.{Input, Commands, Expires, Reminds, Drops, Puts, Restarts}
 use Rattle.kx_model.specs.World.{World, Make, Deliver, Hand, client_at, is_new}
 use Rattle.kx_script.specs.Order.{command_of, store_of}
-use Rattle.kx_script.specs.Prefixed.{image_of}
+use Rattle.kx_processor.specs.Prefixed.{image_of}
 use Rattle.kx_script.specs.declared.marks.Marks.{Marks}
 use Rattle.kx_script.specs.declared.order.Left.{Left}
 use Rattle.kx_script.specs.declared.order.Happening.{Happening}

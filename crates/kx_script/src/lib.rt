@@ -8,7 +8,6 @@
 mod command;
 mod marks;
 mod order;
-mod prefixed;
 mod printing;
 mod program;
 mod runs;
@@ -20,7 +19,6 @@ mod world;
 pub use command::order_in;
 pub use marks::{Marks, mode_of};
 pub use order::{Batch, Happening, Left, Order, Task};
-pub use prefixed::Prefixed;
 pub use printing::{
     write_code, write_dash, write_declined, write_group, write_message, write_rows,
 };

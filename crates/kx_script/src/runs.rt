@@ -1,8 +1,8 @@
 //! What a script needs of a world.
-use crate::prefixed::Prefixed;
 use kx_core::{Event, Happened, PartitionCount};
 use kx_message::{ClientId, ErrorCode, GroupId, Message, PartitionId};
 use kx_partition::{FetchFault, FetchPage};
+use kx_processor::Prefixed;
 use kx_txnlog::Row;
 use std::alloc::{AllocError, Global};
 
@@ -18,7 +18,7 @@ pub trait Runs: Drop {
     ghost use Rattle.kx_model.specs.Page.{answer_to};
     ghost use Rattle.kx_model.specs.World.{client_at, entries_at, is_new, log_at, notes};
     ghost use Rattle.kx_partition.specs.Fetch.{FetchRefuses};
-    ghost use Rattle.kx_script.specs.Prefixed.{images_of};
+    ghost use Rattle.kx_processor.specs.Prefixed.{images_of};
     ghost use Rattle.kx_script.specs.Session.{has_partition};
     ghost use Rattle.kx_system.specs.System.{System, start_system};
     ghost use Rattle.kx_txnlog.specs.Entry.{row_of};

@@ -12,12 +12,12 @@ use crate::printing::write_dash;
 use crate::runs::Runs;
 use crate::session::{Running, fail, fetch, happen, offset, rows};
 use kx_core::PartitionCount;
-use kx_text::{ScriptFault, next_line, without_newline, written};
+use kx_text::{CountedReads, ScriptFault, next_line, without_newline, written};
 use std::alloc::Global;
 use std::io::{BufRead, Write};
 
-// How many lines a script has at most.
-const LINES: u64 = 1 << 32;
+// How many lines a script has at most: more than a buffer has bytes, so that its reads end first.
+const LINES: u64 = 1 << 63;
 
 // Makes the world, once.
 fn begin<N: Runs, W: Write>(
@@ -110,14 +110,8 @@ fn answer<N: Runs, W: Write>(
     perform(alloc, running, order, writer)
 }
 
-/// Runs a script over a world of its own, of any kind: reads its lines one by one, carries each out
-/// and writes its answer, up to the end or the first bad line, of which it writes `bad line N`. It
-/// writes the answers as they come and doesn't flush the writer.
-///
-/// # Errors
-///
-/// Those of [`ScriptFault`], which says what was written by then.
-pub fn run_script_over<N: Runs, R: BufRead, W: Write>(
+// Runs a script over a world of its own, however many reads it takes.
+fn run_lines<N: Runs, R: BufRead, W: Write>(
     alloc: Global,
     reader: &mut R,
     writer: &mut W,
@@ -141,4 +135,24 @@ pub fn run_script_over<N: Runs, R: BufRead, W: Write>(
         return Err(ScriptFault::Read);
     }
     Ok(())
+}
+
+/// Runs a script over a world of its own, of any kind: reads its lines one by one, carries each out
+/// and writes its answer, up to the end or the first bad line, of which it writes `bad line N`. It
+/// writes the answers as they come and doesn't flush the writer. It makes at most 2^32 reads, and
+/// ends with `Read` where it would need more; taking lines of what a read gave is no read.
+///
+/// # Errors
+///
+/// Those of [`ScriptFault`], which says what was written by then.
+pub fn run_script_over<N: Runs, R: BufRead, W: Write>(
+    alloc: Global,
+    reader: &mut R,
+    writer: &mut W,
+) -> Result<(), ScriptFault>
+    ensures { IfSome (R.remaining reader.old)
+        (λ input. Ends input (W.contents writer.old) (W.contents writer.new) result) }
+{
+    let mut counted = CountedReads::new(reader);
+    run_lines::<N, CountedReads<&mut R>, W>(alloc, &mut counted, writer)
 }

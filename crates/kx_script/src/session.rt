@@ -18,7 +18,6 @@ ghost use Rattle.kx_system.specs.System.{System, Happens};
 
 use crate::marks::{Marks, mode_of};
 use crate::order::{Batch, Happening, Left, Task};
-use crate::prefixed::Prefixed;
 use crate::printing::{
     write_code, write_dash, write_declined, write_group, write_message, write_rows,
 };
@@ -28,7 +27,7 @@ use kx_core::{Event, Happened};
 use kx_machine::{Input, Note};
 use kx_message::{ClientId, GroupId, Node, PartitionId, Timeout, TxnId};
 use kx_partition::FetchFault;
-use kx_processor::Inputs;
+use kx_processor::{Inputs, Prefixed};
 use kx_text::{Mode, ScriptFault, show, write_answer, write_refusal, written};
 use std::alloc::{AllocError, Global};
 use std::io;

@@ -1,9 +1,9 @@
 //! A world of running nodes under a script.
-use crate::prefixed::Prefixed;
 use crate::runs::Runs;
 use kx_core::{Config, Event, Happened, LocalWorld, PartitionCount};
 use kx_message::{ClientId, ErrorCode, GroupId, Message, PartitionId};
 use kx_partition::{FetchFault, FetchPage};
+use kx_processor::Prefixed;
 use kx_txnlog::Row;
 use std::alloc::{AllocError, Global};
 
@@ -12,7 +12,7 @@ pub type ScriptWorld = LocalWorld<Prefixed>;
 
 impl Runs for ScriptWorld {
     ghost use Rattle.kx_core.specs.Local.{IsLocal};
-    ghost use Rattle.kx_script.specs.Prefixed.{images_of};
+    ghost use Rattle.kx_processor.specs.Prefixed.{images_of};
 
     ghost stands = { λ s world. IsLocal images_of world s };
 

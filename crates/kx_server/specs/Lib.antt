@@ -1,6 +1,8 @@
 pub mod Asking
 pub mod Faults
+pub mod Files
 pub mod Lines
 pub mod Opening
 pub mod Options
+pub mod Owed
 pub mod Queues

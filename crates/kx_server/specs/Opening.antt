@@ -7,8 +7,9 @@ use Rattle.kx_log.specs.Log.{IsLog}
 use Rattle.kx_machine.specs.Meaning.{AtPartition}
 use Rattle.kx_message.specs.Ranges.{data_partitions}
 use Rattle.kx_published.specs.declared.book.Opened.{Opened}
-use Rattle.kx_serving.specs.Brokers.{broker_log, broker_stands}
-use Rattle.kx_serving.specs.declared.machine.BrokerMachine.{BrokerMachine}
+use Rattle.kx_machines.specs.Brokers.{broker_stands}
+use Rattle.kx_publishing.specs.Brokers.{broker_log}
+use Rattle.kx_machines.specs.declared.broker.BrokerMachine.{BrokerMachine}
 
 -- the machine is the server of the partition whose log was opened, and has parked nothing
 pub record IsOpened {S : Type 0} (number : ℕ) (machine : BrokerMachine S) : Type 0 where

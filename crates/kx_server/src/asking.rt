@@ -25,7 +25,7 @@ pub fn asker(message: &Message) -> Option<ClientId>
     Some(caller.client)
 }
 
-/// The reply to a request for a data partition that a server of so many doesn't have, and to a
+/// The reply to a request for a data partition that a server of this many doesn't have, and to a
 /// batch for the offsets partition, which takes none from clients: unknown topic or partition. None
 /// for any other message.
 pub fn missing_partition(alloc: Global, message: &Message, partitions: u16) -> Option<Message>

@@ -3,11 +3,11 @@ use crate::asking::{asker, missing_partition};
 use crate::hub::Hub;
 use crate::options::Partitions;
 use crate::peer::Peer;
+use crate::speakers::Speakers;
 use kx_broker::{answer_fetch, page_room};
-use kx_message::{ClientId, Fetch, Message, Node, PartitionId};
+use kx_message::{ClientId, Fetch, Message, Node as NodeId};
 use kx_published::book::Naming;
-use kx_published::ends::PageReader;
-use kx_serving::Logging;
+use kx_publishing::Readable;
 use kx_wire::{FrameFault, Frames};
 use std::alloc::{AllocError, Global};
 use std::sync::{Arc, Wait};
@@ -15,44 +15,39 @@ use std::sync::{Arc, Wait};
 // How many bytes are asked of a connection at once.
 const PIECE: usize = 65_536;
 
-// For how many clients a connection may speak.
-const MOST_CLIENTS: usize = 1024;
-
-/// Why a connection is closed by the server.
+/// A connection is closed by the server.
+#[derive(Drop)]
 pub(crate) struct Closed;
 
-/// For want of memory.
+/// Since memory ran out.
 impl From<AllocError> for Closed {
     fn from(_: AllocError) -> Self {
         Closed
     }
 }
 
-/// For bytes that are no frame.
+/// Since bytes came that are no frame.
 impl From<FrameFault> for Closed {
     fn from(_: FrameFault) -> Self {
         Closed
     }
 }
 
-/// What a connection's thread has.
+/// A connection whose requests a thread takes.
 #[derive(Drop)]
-pub(crate) struct Connection<M: Logging, J: Naming, R: Wait + Drop> {
+pub(crate) struct Connection<L: Readable, J: Naming, R: Wait + Drop> {
     alloc: Global,
-    hub: Arc<Hub<M, J, R>>,
+    hub: Arc<Hub<L, J, R>>,
     peer: Arc<Peer>,
     partitions: Partitions,
-    // for how many clients it spoke first
-    clients: usize,
-    // of the partitions that were fetched
-    readers: Vec<PageReader<J>>,
+    speakers: Speakers,
 }
 
-impl<M: Logging, J: Naming, R: Wait + Drop> Connection<M, J, R> {
+impl<L: Readable, J: Naming, R: Wait + Drop> Connection<L, J, R> {
     /// A connection of which nothing was read.
     pub(crate) fn new(
         alloc: Global,
-        hub: Arc<Hub<M, J, R>>,
+        hub: Arc<Hub<L, J, R>>,
         peer: Arc<Peer>,
         partitions: Partitions,
     ) -> Self {
@@ -61,54 +56,31 @@ impl<M: Logging, J: Naming, R: Wait + Drop> Connection<M, J, R> {
             hub,
             peer,
             partitions,
-            clients: 0,
-            readers: Vec::new(alloc),
+            speakers: Speakers::new(alloc),
         }
     }
 
-    // The reader of a partition's published log, which is made when it is first asked for.
-    fn reader(&mut self, rt: &R, partition: PartitionId) -> Option<&mut PageReader<J>> {
-        let place = match self.place_of(partition) {
-            Some(place) => place,
-            None => {
-                let reader = self.hub.reader(rt, Node::Partition(partition))?;
-                self.readers.push(reader).ok()?;
-                self.readers.len() - 1
-            }
-        };
-        self.readers.get_mut(place)
-    }
-
-    // The place of the reader of a partition.
-    fn place_of(&self, partition: PartitionId) -> Option<usize> {
-        self.readers
-            .iter()
-            .position(|reader| reader.partition() == partition)
-    }
-
     // The page that is asked for, of the published log. None where it can't be had.
-    fn page(&mut self, rt: &R, fetch: &Fetch) -> Option<Message> {
-        let alloc = self.alloc;
-        let reader = self.reader(rt, fetch.partition)?;
+    fn page(&self, rt: &R, fetch: &Fetch) -> Option<Message> {
+        let readers = self.hub.readers(NodeId::Partition(fetch.partition))?;
+        let mut reader = readers.take(rt)?;
         let reply = match reader.enter() {
             Ok(published) => {
                 let page = published.page(fetch.from, page_room(fetch), fetch.committed);
-                answer_fetch(alloc, fetch, page).ok()
+                answer_fetch(self.alloc, fetch, page).ok()
             }
             Err(_) => None,
         };
-        reader.leave();
+        readers.give_back(rt, reader);
         reply
     }
 
     // Notes that the connection speaks for a client.
-    fn hear(&mut self, rt: &R, client: ClientId) -> Result<(), Closed> {
-        if self.hub.speaks(rt, client, &self.peer)? {
-            self.clients = self.clients.saturating_add(1);
-        }
-        if self.clients > MOST_CLIENTS {
+    fn hear(&mut self, client: ClientId) -> Result<(), Closed> {
+        if !self.speakers.hear(client)? {
             return Err(Closed);
         }
+        self.hub.speaks(client, &self.peer)?;
         Ok(())
     }
 
@@ -117,7 +89,7 @@ impl<M: Logging, J: Naming, R: Wait + Drop> Connection<M, J, R> {
         let Some(client) = asker(&message) else {
             return Err(Closed);
         };
-        self.hear(rt, client)?;
+        self.hear(client)?;
         if let Some(reply) = missing_partition(self.alloc, &message, self.partitions.get()) {
             self.peer.answer(rt, reply);
             return Ok(());
@@ -172,12 +144,14 @@ impl<M: Logging, J: Naming, R: Wait + Drop> Connection<M, J, R> {
         Ok(())
     }
 
-    /// Serves the connection until either end closes it. What was answered by then is written.
+    /// Serves the connection until either end closes it. What was answered by then is written, also
+    /// where bytes came that are no frame.
     pub(crate) fn serve(mut self, rt: &R) {
-        match self.take_stream(rt) {
-            Ok(()) => self.peer.close(rt),
-            Err(Closed) => self.peer.hang_up(rt),
+        let ended = self.take_stream(rt);
+        self.peer.finish(rt);
+        self.hub.forget(&self.peer);
+        if ended.is_err() {
+            self.peer.linger();
         }
-        self.hub.forget(rt, &self.peer);
     }
 }

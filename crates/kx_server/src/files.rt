@@ -1,4 +1,8 @@
 //! The files of a server's logs.
+ghost use Rattle.std.specs.Prelude.{◌≡◌, ◌++◌, IfOk, string_bytes, codes};
+
+use kx_message::PartitionId;
+use std::alloc::{AllocError, Global};
 use std::fmt;
 use std::fmt::{Display, Formatter};
 
@@ -13,7 +17,35 @@ pub enum LogFile {
     Offsets,
 }
 
+impl LogFile {
+    ghost use Rattle.kx_server.specs.Files.{file_name, file_of};
+
+    /// The file of a partition's log.
+    pub fn of(partition: PartitionId) -> LogFile
+        ensures { result ≡ file_of partition }
+    {
+        if partition.is_data() {
+            LogFile::Partition(partition.get())
+        } else {
+            LogFile::Offsets
+        }
+    }
+
+    /// Its path in a folder.
+    pub(crate) fn path_in(self, alloc: Global, folder: &str) -> Result<String, AllocError>
+        ensures { IfOk result (λ path. string_bytes path
+            ≡ folder.now ++ codes "/" ++ file_name self) }
+    {
+        format!(in alloc; "{folder}/{self}")
+    }
+}
+
 impl Display for LogFile {
+    ghost use Rattle.std.specs.Prelude.{Some};
+    ghost use Rattle.kx_server.specs.Files.{file_name};
+
+    ghost output = { λ file. Some (file_name file) };
+
     fn fmt<W: fmt::Write>(&self, f: &mut Formatter<W>) -> fmt::Result {
         match self {
             LogFile::Coordinator => f.write_str("co.log"),

@@ -1,189 +1,162 @@
-//! What the threads of a server share: its nodes, what is handed from node to node, and over which
+//! What the threads of a server share: its nodes with the readers of their logs, and over which
 //! connection each client is answered.
 use crate::peer::Peer;
+use crate::readers::Readers;
 use crate::routes::Routes;
-use crossbeam_channel::{Receiver, Sender};
-use kx_machine::{Input, Taken};
-use kx_message::{ClientId, Message, Node};
+use kx_machine::Input;
+use kx_message::{ClientId, Message, Node as NodeId};
+use kx_nodes::{Gate, Handle, Node, NodeFault, Receipt};
 use kx_published::book::Naming;
-use kx_published::ends::PageReader;
-use kx_serving::{Logging, ServedNode};
-use std::alloc::{AllocError, Global};
-use std::mem;
-use std::sync::{Arc, Condvar, Mutex, Wait};
+use kx_publishing::{PublishedMachine, PublishedNode, Readable, Tended};
+use std::alloc::AllocError;
+use std::sync::{Arc, Mutex, Wait};
 
-// While so many messages wait in inboxes, no request is taken from a connection.
-const MANY_WAITING: u64 = 4096;
+// While more messages than these wait for workers, no request is taken from a connection.
+const FEW_WAITING: u64 = 4095;
 
-/// What the threads of a server share.
+/// A node of a server: its log may be published.
+pub(crate) type ServedNode<L, J, R> = Node<PublishedMachine<L, J, R>>;
+
+/// A node of a server, and the readers of its log, where that is published.
 #[derive(Drop)]
-pub(crate) struct Hub<M: Logging, J: Naming, R: Wait + Drop> {
-    nodes: Vec<ServedNode<M, J, R>>,
-    routes: Mutex<Routes>,
-    inboxes: Mutex<Vec<Sender<Message>>>,
-    waiting: Mutex<u64>,
-    moved: Condvar,
+pub(crate) struct Place<L: Readable, J: Naming, R: Wait + Drop> {
+    // dropped before the node, whose drop waits until they have left
+    pub(crate) readers: Option<Readers<J>>,
+    pub(crate) node: Arc<ServedNode<L, J, R>>,
 }
 
-impl<M: Logging, J: Naming, R: Wait + Drop> Hub<M, J, R> {
-    /// Nodes, and an inbox for each worker.
-    pub(crate) fn new(
-        alloc: Global,
-        nodes: Vec<ServedNode<M, J, R>>,
-        inboxes: Vec<Sender<Message>>,
-    ) -> Self {
-        Hub {
-            nodes,
-            routes: Mutex::new(Routes::new(alloc)),
-            inboxes: Mutex::new(inboxes),
-            waiting: Mutex::new(0),
-            moved: Condvar::new(),
+/// Answers each client over the connection that spoke last for it.
+#[derive(Drop)]
+pub(crate) struct Answers<R: Wait + Drop> {
+    rt: R,
+    routes: Mutex<Routes>,
+}
+
+impl<R: Wait + Drop> Answers<R> {
+    /// With no connection yet.
+    pub(crate) fn new(rt: R, routes: Routes) -> Answers<R> {
+        Answers {
+            rt,
+            routes: Mutex::new(routes),
         }
     }
 
-    /// The nodes.
-    pub(crate) fn nodes(&self) -> &[ServedNode<M, J, R>] {
-        self.nodes.as_slice()
-    }
-
-    // The place of the node of this name.
-    fn place_of(&self, name: Node) -> Option<usize> {
-        self.nodes.iter().position(|node| node.name() == name)
-    }
-
-    /// Replies to a client go over this connection from now on. Says whether it is a client for
-    /// which another connection spoke last, or none.
-    pub(crate) fn speaks(
-        &self,
-        rt: &R,
-        client: ClientId,
-        peer: &Arc<Peer>,
-    ) -> Result<bool, AllocError> {
-        let mut routes = self.routes.lock(rt);
-        if routes.is_of(client, peer) {
-            return Ok(false);
+    /// Replies to a client go over this connection from now on.
+    pub(crate) fn speaks(&self, client: ClientId, peer: &Arc<Peer>) -> Result<(), AllocError> {
+        let mut routes = self.routes.lock(&self.rt);
+        if !routes.is_of(client, peer) {
+            routes.set(client, Arc::try_clone(peer)?)?;
         }
-        routes.set(client, Arc::try_clone(peer)?)?;
-        Ok(true)
+        Ok(())
     }
 
     /// No reply goes over this connection any more.
-    pub(crate) fn forget(&self, rt: &R, peer: &Peer) {
-        self.routes.lock(rt).forget(peer.number());
+    pub(crate) fn forget(&self, peer: &Peer) {
+        self.routes.lock(&self.rt).forget(peer.number());
     }
 
-    // Answers a client. A client for which no connection speaks gets no answer.
-    fn answer(&self, rt: &R, client: ClientId, message: Message) {
-        let peer = self.routes.lock(rt).of(client);
+    // Answers a client. A client for which no connection speaks gets no answer, and an answer for
+    // which there is no memory is lost.
+    fn answer(&self, client: ClientId, message: &Message) {
+        let peer = self.routes.lock(&self.rt).of(client);
         if let Some(peer) = peer {
-            peer.answer(rt, message);
-        }
-    }
-
-    // Puts a message into the inbox of its node's worker. Where there is no memory for it, it is
-    // lost.
-    fn post(&self, rt: &R, place: usize, message: Message) {
-        self.is_coming(rt);
-        let is_posted = {
-            let inboxes = self.inboxes.lock(rt);
-            match inboxes.len() {
-                0 => false,
-                count => inboxes[place % count].send(rt, message).is_ok(),
+            if let Ok(copy) = message.clone() {
+                peer.answer(&self.rt, copy);
             }
-        };
-        if !is_posted {
-            self.is_done(rt);
         }
     }
 
-    // One more message waits.
-    fn is_coming(&self, rt: &R) {
-        let mut waiting = self.waiting.lock(rt);
-        *waiting = waiting.saturating_add(1);
+    // Answers the clients to which a step sends.
+    fn answer_all(&self, messages: &[Message]) {
+        for message in messages {
+            if let NodeId::Client(client) = message.receiver() {
+                self.answer(client, message);
+            }
+        }
+    }
+}
+
+impl<R: Wait + Drop> Gate for Answers<R> {
+    fn pass(&self, _ticket: u64) {}
+
+    fn answered(&self, _ticket: u64, answer: &Result<Receipt, NodeFault>) {
+        if let Ok(receipt) = answer {
+            self.answer_all(receipt.taken.messages.as_slice());
+        }
+    }
+}
+
+/// What the threads of a server share.
+#[derive(Drop)]
+pub(crate) struct Hub<L: Readable, J: Naming, R: Wait + Drop> {
+    places: Vec<Place<L, J, R>>,
+    nodes: Handle<PublishedMachine<L, J, R>, Answers<R>>,
+}
+
+impl<L: Readable, J: Naming, R: Wait + Drop> Hub<L, J, R> {
+    /// Nodes with their readers, and what their workers share.
+    pub(crate) fn new(
+        places: Vec<Place<L, J, R>>,
+        nodes: Handle<PublishedMachine<L, J, R>, Answers<R>>,
+    ) -> Self {
+        Hub { places, nodes }
     }
 
-    // A message waits no more.
-    fn is_done(&self, rt: &R) {
-        let mut waiting = self.waiting.lock(rt);
-        *waiting = waiting.saturating_sub(1);
-        self.moved.notify_all();
+    /// Replies to a client go over this connection from now on.
+    pub(crate) fn speaks(&self, client: ClientId, peer: &Arc<Peer>) -> Result<(), AllocError> {
+        self.nodes.gate().speaks(client, peer)
     }
 
-    /// Waits while many messages wait in inboxes.
+    /// No reply goes over this connection any more.
+    pub(crate) fn forget(&self, peer: &Peer) {
+        self.nodes.gate().forget(peer);
+    }
+
+    /// Waits while many messages wait for workers.
     pub(crate) fn wait_for_workers(&self, rt: &R) {
-        let waiting = self.moved.wait_while(
-            rt,
-            self.waiting.lock(rt),
-            |waiting| *waiting >= MANY_WAITING,
-        );
-        drop(waiting);
+        self.nodes.wait_for_few(rt, FEW_WAITING);
     }
 
-    // Sends on what a step handed out.
-    fn send_on(&self, rt: &R, taken: Taken) {
-        for message in taken.messages.into_vec() {
-            match message.receiver() {
-                Node::Client(client) => self.answer(rt, client, message),
-                name => {
-                    if let Some(place) = self.place_of(name) {
-                        self.post(rt, place, message);
-                    }
-                }
-            }
-        }
+    // One step of the node of this name, and how many messages it sends. None where there is no
+    // such node, or no memory for a step; then there was none.
+    fn step(&self, rt: &R, name: NodeId, input: Input) -> Option<usize> {
+        let receipt = self.nodes.take(rt, name, input)?.ok()?;
+        Some(receipt.taken.messages.as_slice().len())
     }
 
-    /// One step of the node at this place, and sends on what it hands out. A step for which there
-    /// is no memory is lost.
-    pub(crate) fn step(&self, rt: &R, place: usize, input: &Input) {
-        if let Some(node) = self.nodes.get(place) {
-            if let Ok(served) = node.take(rt, input) {
-                self.send_on(rt, served.taken);
-            }
-        }
-    }
-
-    /// The coordinator ends the first transaction that has lasted too long at this moment. Says
-    /// whether it handed anything out.
+    /// The coordinator ends the first transaction that has lasted too long at this time, in
+    /// milliseconds since 1970. Says whether it sent anything.
     pub(crate) fn expire(&self, rt: &R, now: u64) -> bool {
-        let Some(coordinator) = self.nodes.first() else {
-            return false;
-        };
-        let Ok(served) = coordinator.take(rt, &Input::Expire(now)) else {
-            return false;
-        };
-        let has_ended = !served.taken.messages.as_slice().is_empty();
-        self.send_on(rt, served.taken);
-        has_ended
+        match self.step(rt, NodeId::Coordinator, Input::Expire(now)) {
+            Some(count) => count > 0,
+            None => false,
+        }
     }
 
-    /// A message comes to the node that it names.
+    /// The coordinator sends again the markers that weren't answered.
+    pub(crate) fn remind(&self, rt: &R) {
+        let _ = self.step(rt, NodeId::Coordinator, Input::Remind);
+    }
+
+    /// Each node whose log is closed is opened again, and each log that readers don't see yet is
+    /// published. Where that fails, it is tried again by the next call.
+    pub(crate) fn tend(&self, rt: &R, now: u64) {
+        for place in &self.places {
+            if let Ok(Tended::Restarted(served)) = place.node.tend(rt, now) {
+                self.nodes.send_on(rt, served.receipt);
+            }
+        }
+    }
+
+    /// A message arrives at the node that it names. Where there is no memory for the step, it is
+    /// lost.
     pub(crate) fn deliver(&self, rt: &R, message: Message) {
-        if let Some(place) = self.place_of(message.receiver()) {
-            self.step(rt, place, &Input::Deliver(message));
-        }
+        let _ = self.step(rt, message.receiver(), Input::Deliver(message));
     }
 
-    /// A reader of the published log of a node.
-    pub(crate) fn reader(&self, rt: &R, name: Node) -> Option<PageReader<J>> {
-        self.nodes.get(self.place_of(name)?)?.reader(rt).ok()
-    }
-
-    /// What a worker does: delivers the messages of its inbox until no sender of it is left.
-    pub(crate) fn work(&self, rt: &R, inbox: &Receiver<Message>) {
-        for message in inbox.iter(rt) {
-            self.deliver(rt, message);
-            self.is_done(rt);
-        }
-    }
-
-    /// Waits until no message waits, and lets the inboxes go, so that the workers end.
-    pub(crate) fn close(&self, rt: &R, alloc: Global) {
-        let waiting = self
-            .moved
-            .wait_while(rt, self.waiting.lock(rt), |waiting| *waiting > 0);
-        drop(waiting);
-        let inboxes = mem::replace(&mut *self.inboxes.lock(rt), Vec::new(alloc));
-        drop(inboxes);
+    /// The readers of the published log of a node. None where it isn't published.
+    pub(crate) fn readers(&self, name: NodeId) -> Option<&Readers<J>> {
+        let place = self.places.iter().find(|place| place.node.name() == name)?;
+        place.readers.as_ref()
     }
 }

@@ -1,6 +1,6 @@
 //! The server: all nodes of a core in one process, served to clients over sockets. A request goes
 //! to the node that it names, a reply to the connection that spoke last for its client. What nodes
-//! hand to nodes goes through inboxes to workers. Pages are read from published logs, as no step.
+//! send to nodes goes through inboxes to workers. Pages are read from published logs, as no step.
 #![tactic(auto)]
 
 mod asking;
@@ -8,18 +8,24 @@ mod connection;
 mod fault;
 mod files;
 mod hub;
+mod locking;
 mod opening;
 mod options;
 mod outbox;
+mod owed;
 mod peer;
 mod queue;
+mod readers;
 mod routes;
 mod server;
+mod speakers;
 mod ticking;
+mod waiting;
 
 pub use asking::{asker, missing_partition};
-pub use fault::ServeFault;
+pub use fault::{NetFault, ServeFault};
 pub use files::LogFile;
 pub use options::{Connections, Partitions, ServeOptions};
 pub use queue::{MOST_WAITING, Queue};
 pub use server::serve;
+pub use waiting::wait_until;

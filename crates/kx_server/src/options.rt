@@ -5,7 +5,7 @@ ghost use Rattle.kx_server.specs.Options.{IsConnections, IsPartitions};
 use std::marker::Model;
 
 // The most data partitions of a server.
-const MOST_PARTITIONS: u16 = 16;
+pub(crate) const MOST_PARTITIONS: u16 = 16;
 
 // The most connections that a server serves.
 const MOST_CONNECTIONS: usize = 1024;
@@ -28,7 +28,7 @@ impl Model for Partitions {
 }
 
 impl Partitions {
-    /// So many, or None where they are none or more than 16.
+    /// This many, or None where that is 0 or more than 16.
     pub fn new(count: u16) -> Option<Partitions>
         ensures { MatchOption result (IsPartitions count → ⊥)
             (λ it. (it ≡ count) × IsPartitions count) }
@@ -66,7 +66,7 @@ impl Model for Connections {
 }
 
 impl Connections {
-    /// So many, or None where they are none or more than 1,024.
+    /// This many, or None where that is 0 or more than 1,024.
     pub fn new(count: usize) -> Option<Connections>
         ensures { MatchOption result (IsConnections count → ⊥)
             (λ it. (it ≡ count) × IsConnections count) }
@@ -95,8 +95,12 @@ pub struct ServeOptions<'a> {
     pub connections: Connections,
     /// The port on 127.0.0.1 on which it listens; 0 takes any that is free.
     pub port: u16,
-    /// The folder in which it keeps its logs, as files; None keeps them in memory.
+    /// The folder in which it keeps its logs, as files, which is made where there is none; None
+    /// keeps them in memory. No folder has the empty name.
     pub dir: Option<&'a str>,
+    /// Whether its clock ends transactions that have lasted longer than they asked for. Else none
+    /// ends by itself.
+    pub expires: bool,
     /// Whether it tells on standard error which log it opens, and how long that is.
     pub tells_progress: bool,
 }

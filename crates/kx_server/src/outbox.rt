@@ -1,4 +1,7 @@
 //! What waits to be written to a connection, which threads share.
+ghost use Rattle.std.specs.Prelude.{◌≡◌, ◌≢◌, ◌↔◌, ◌++◌, ◌∷◌, [], false, true};
+ghost use Rattle.kx_server.specs.declared.outbox.Put.TheVariants as put;
+
 use crate::queue::Queue;
 use kx_message::Message;
 use std::alloc::Global;
@@ -14,7 +17,38 @@ struct Waiting {
     is_open: bool,
 }
 
-/// The messages that wait to be written to a connection. Whoever hands one in never waits for the
+/// What became of a message that was put in.
+#[derive(Clone, Copy, Debug, PartialEq, Eq)]
+pub(crate) enum Put {
+    /// It waits to be written.
+    Taken,
+    /// It was dropped, since the outbox was closed before.
+    Closed,
+    /// It was dropped, since [`Queue::push`] refused it, and the outbox was closed by this.
+    Refused,
+}
+
+impl Waiting {
+    // Takes a message in, while it is open.
+    fn put(&mut self, message: Message) -> Put
+        ensures taken { result ≡ put.Taken → (self.new.queue ≡ self.old.queue ++ message ∷ [])
+            × (self.new.is_open ≡ true) }
+        ensures dropped { result ≢ put.Taken → (self.new.queue ≡ self.old.queue)
+            × (self.new.is_open ≡ false) }
+        ensures closed { (result ≡ put.Closed) ↔ (self.old.is_open ≡ false) }
+    {
+        if !self.is_open {
+            return Put::Closed;
+        }
+        if !self.queue.push(message) {
+            self.is_open = false;
+            return Put::Refused;
+        }
+        Put::Taken
+    }
+}
+
+/// The messages that wait to be written to a connection. Whoever puts one in never waits for the
 /// connection.
 #[derive(Drop)]
 pub(crate) struct Outbox {
@@ -34,16 +68,11 @@ impl Outbox {
         }
     }
 
-    /// Hands a message in, and says whether it was taken. It isn't where the outbox is closed, and
-    /// where [`Queue::push`] refuses it, which closes the outbox.
-    pub(crate) fn put<R: Wait>(&self, rt: &R, message: Message) -> bool {
-        let mut waiting = self.waiting.lock(rt);
-        if waiting.is_open && !waiting.queue.push(message) {
-            waiting.is_open = false;
-        }
-        let is_open = waiting.is_open;
+    /// Puts a message in, if it can be taken.
+    pub(crate) fn put<R: Wait>(&self, rt: &R, message: Message) -> Put {
+        let put = self.waiting.lock(rt).put(message);
         self.moved.notify_all();
-        is_open
+        put
     }
 
     /// Waits for a message, and takes the first one out. None where none waits and the outbox is

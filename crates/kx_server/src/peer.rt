@@ -1,5 +1,5 @@
 //! The other end of a connection.
-use crate::outbox::Outbox;
+use crate::outbox::{Outbox, Put};
 use kx_message::Message;
 use kx_stream::send;
 use std::alloc::Global;
@@ -7,6 +7,14 @@ use std::io;
 use std::io::Read;
 use std::net::{Shutdown, TcpStream};
 use std::sync::Wait;
+use std::time::Duration;
+
+// How long a connection that the server closes is read on without a byte, and in how many pieces.
+const LINGER_MILLIS: u64 = 1000;
+
+const LINGER_PIECES: usize = 512;
+
+const LINGER_PIECE: usize = 8192;
 
 /// A connection, as the threads see it that answer over it.
 #[derive(Drop)]
@@ -44,30 +52,56 @@ impl Peer {
     }
 
     /// Answers over the connection, without waiting for it. A connection for which too much waits
-    /// is closed.
+    /// is closed at once; where it was closed before, the answer is dropped.
     pub(crate) fn answer<R: Wait>(&self, rt: &R, message: Message) {
-        if !self.outbox.put(rt, message) {
+        match self.outbox.put(rt, message) {
+            Put::Taken | Put::Closed => {}
+            Put::Refused => self.hang_up(rt),
+        }
+    }
+
+    // Writes the answers that wait until the outbox is closed, and says whether all were written.
+    fn write_all<R: Wait>(&self, rt: &R, alloc: Global) -> bool {
+        for _ in rt.forever() {
+            let Some(message) = self.outbox.next(rt) else {
+                return true;
+            };
+            if send(alloc, &mut &self.stream, &message).is_err() {
+                return false;
+            }
+        }
+        unreachable!()
+    }
+
+    /// Writes what is answered, until the connection is closed, and then tells the other end that
+    /// no more comes.
+    pub(crate) fn write_answers<R: Wait>(&self, rt: &R, alloc: Global) {
+        if self.write_all(rt, alloc) {
+            let _ = self.stream.shutdown(Shutdown::Write);
+        } else {
             self.hang_up(rt);
         }
     }
 
-    /// Writes what is answered, until the connection is closed.
-    pub(crate) fn write_answers<R: Wait>(&self, rt: &R, alloc: Global) {
-        for _ in rt.forever() {
-            let Some(message) = self.outbox.next(rt) else {
-                break;
-            };
-            if send(alloc, &mut &self.stream, &message).is_err() {
-                break;
-            }
-        }
-        self.hang_up(rt);
+    /// No more answers are taken; what was answered is still written.
+    pub(crate) fn finish<R: Wait>(&self, rt: &R) {
+        self.outbox.close(rt);
     }
 
-    /// Nothing more is read; what was answered is still written.
-    pub(crate) fn close<R: Wait>(&self, rt: &R) {
-        self.outbox.close(rt);
-        let _ = self.stream.shutdown(Shutdown::Read);
+    /// Reads on for a while, and drops what comes. A connection that is given up while bytes wait
+    /// to be read is reset, and the other end may lose answers that are on their way.
+    pub(crate) fn linger(&self) {
+        let patience = Duration::from_millis(LINGER_MILLIS);
+        if self.stream.set_read_timeout(Some(patience)).is_err() {
+            return;
+        }
+        let mut piece = [0u8; LINGER_PIECE];
+        for _ in 0..LINGER_PIECES {
+            match self.read(&mut piece) {
+                Ok(0) | Err(_) => break,
+                Ok(_) => {}
+            }
+        }
     }
 
     /// Nothing more is read or written.

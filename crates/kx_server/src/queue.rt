@@ -69,9 +69,9 @@ impl Queue {
         self.messages.is_empty()
     }
 
-    /// Puts a message behind the others, and says whether it did. It doesn't where the message is
-    /// longer than a frame, where more than [`MOST_WAITING`] bytes would wait, and for want of
-    /// memory; then the message is dropped.
+    /// Puts a message after the others, and says whether it did. It doesn't where the message is
+    /// longer than a frame, where more than [`MOST_WAITING`] bytes would wait, and where memory
+    /// runs out; then the message is dropped.
     pub fn push(&mut self, message: Message) -> bool
         ensures { MatchBool result (self.new ≡ self.old ++ message ∷ []) (self.new ≡ self.old) }
     {

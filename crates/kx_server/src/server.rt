@@ -6,69 +6,54 @@ ghost use Rattle.kx_server.specs.Lines.{Prints, line_of};
 ghost use Rattle.kx_server.specs.Opening.{HasBook, InOrder};
 
 use crate::connection::Connection;
-use crate::fault::ServeFault;
-use crate::hub::Hub;
+use crate::fault::{NetFault, ServeFault};
+use crate::hub::{Answers, Hub, Place};
+use crate::locking::lock_folder;
 use crate::opening::{Folder, InFiles, InMemory, Making};
 use crate::options::{Partitions, ServeOptions};
 use crate::peer::Peer;
+use crate::routes::Routes;
 use crate::ticking::{Going, keep_time, moment};
-use crossbeam_channel::Receiver;
-use kx_message::{Message, PartitionId};
-use kx_nodes::JoinSet;
+use crate::waiting::wait_until;
+use kx_message::PartitionId;
+use kx_nodes::{JoinSet, Workers};
 use kx_published::book::{Naming, Opened};
-use kx_serving::{Logging, ServedNode};
+use kx_publishing::{PublishedMachine, Readable};
 use std::alloc::{AllocError, Global};
-use std::fs::{File, Files, OpenOptions, TryLockError};
-use std::io::Write;
+use std::fs::{File, Files};
+use std::io::{ErrorKind, Write};
 use std::marker::Brand;
 use std::net::{Net, TcpListener, TcpStream};
 use std::sync::{Arc, Wait};
 use std::thread::Threads;
 use std::time::{Clock, Duration};
-use std::{fs, thread};
+use std::{io, thread};
 
-// How many threads deliver what nodes hand to nodes.
+// How many threads deliver what nodes send to nodes.
 const WORKERS: usize = 4;
 
-// How often a connection that can't be taken is tried again, and after how long.
-const TRIES: usize = 1000;
-
+// After how long a connection that can't be taken, or a thread that can't be started, is tried
+// again.
 const PAUSE_MILLIS: u64 = 10;
 
 // What a server's threads share.
 #[derive(Drop)]
-struct Shared<M: Logging, J: Naming, R: Wait + Drop> {
-    hub: Arc<Hub<M, J, R>>,
+struct Shared<L: Readable, J: Naming, R: Wait + Drop> {
+    hub: Arc<Hub<L, J, R>>,
     going: Arc<Going>,
 }
 
 impl<
-    M: Logging + Send + Sync + 'static,
+    L: Readable + Send + Sync + 'static,
     J: Naming + Send + Sync + 'static,
-    R: Threads + Wait + Clock + Copy + Send + Sync + Drop + 'static,
-> Shared<M, J, R> {
-    // Starts a worker.
-    fn add_worker(
-        &self,
-        threads: &mut JoinSet<R>,
-        rt: R,
-        inbox: Receiver<Message>,
-    ) -> Result<(), AllocError> {
-        threads.make_room()?;
-        let hub = Arc::try_clone(&self.hub)?;
-        let Ok(handle) = thread::spawn(&rt, move || hub.work(&rt, &inbox)) else {
-            return Err(AllocError);
-        };
-        threads.push(handle);
-        Ok(())
-    }
-
+    R: Eprint + Threads + Wait + Clock + Copy + Send + Sync + Drop + 'static,
+> Shared<L, J, R> {
     // Starts the clock.
-    fn add_clock(&self, threads: &mut JoinSet<R>, rt: R, alloc: Global) -> Result<(), AllocError> {
+    fn add_clock(&self, threads: &mut JoinSet<R>, rt: R, expires: bool) -> Result<(), AllocError> {
         threads.make_room()?;
         let hub = Arc::try_clone(&self.hub)?;
         let going = Arc::try_clone(&self.going)?;
-        let Ok(handle) = thread::spawn(&rt, move || keep_time(&rt, alloc, &*hub, &*going)) else {
+        let Ok(handle) = thread::spawn(&rt, move || keep_time(&rt, &*hub, &*going, expires)) else {
             return Err(AllocError);
         };
         threads.push(handle);
@@ -97,9 +82,14 @@ impl<
         &self,
         threads: &mut JoinSet<R>,
         rt: R,
-        connection: Connection<M, J, R>,
+        alloc: Global,
+        peer: &Arc<Peer>,
+        partitions: Partitions,
     ) -> Result<(), AllocError> {
         threads.make_room()?;
+        let hub = Arc::try_clone(&self.hub)?;
+        let peer = Arc::try_clone(peer)?;
+        let connection = Connection::new(alloc, hub, peer, partitions);
         let Ok(handle) = thread::spawn(&rt, move || connection.serve(&rt)) else {
             return Err(AllocError);
         };
@@ -107,123 +97,172 @@ impl<
         Ok(())
     }
 
-    // Starts the threads of a connection.
+    // Starts the threads of a connection, each as soon as it can be started.
     fn add_connection(
         &self,
         threads: &mut JoinSet<R>,
         rt: R,
         alloc: Global,
-        peer: Peer,
-        options: &ServeOptions<'_>,
-    ) -> Result<(), AllocError> {
-        let peer = Arc::new(alloc, peer)?;
-        let hub = Arc::try_clone(&self.hub)?;
-        let theirs = Arc::try_clone(&peer)?;
-        self.add_writer(threads, rt, alloc, &peer)?;
-        let connection = Connection::new(alloc, hub, theirs, options.partitions);
-        let added = self.add_reader(threads, rt, connection);
-        if added.is_err() {
-            peer.hang_up(&rt);
-        }
-        added
+        peer: &Arc<Peer>,
+        partitions: Partitions,
+    ) {
+        let pause = Duration::from_millis(PAUSE_MILLIS);
+        wait_until(
+            &rt,
+            pause,
+            || self.add_writer(threads, rt, alloc, peer).ok(),
+            || warn(&rt, "no thread can be started now; the server waits"),
+        );
+        wait_until(
+            &rt,
+            pause,
+            || self.add_reader(threads, rt, alloc, peer, partitions).ok(),
+            || warn(&rt, "no thread can be started now; the server waits"),
+        );
     }
 }
 
-// The next connection. One that can't be taken now may be taken later: files that other
-// connections hold are given back when these close.
-fn accept<R: Clock>(rt: &R, listener: &TcpListener) -> Result<TcpStream, ServeFault> {
-    for _ in 0..TRIES {
-        if let Ok((stream, _)) = listener.accept() {
-            return Ok(stream);
-        }
-        thread::sleep(rt, Duration::from_millis(PAUSE_MILLIS));
-    }
-    Err(ServeFault::Net)
+// Tells whoever runs the server. Nobody may watch.
+fn warn<R: Eprint>(rt: &R, words: &str) {
+    let _ = eprintln!(rt; "{words}");
+}
+
+// Whether a listener that fails so never works again: it is no listener (EBADF, EFAULT, EINVAL,
+// ENOTSOCK). All else passes: files that other connections have are given back when these close.
+fn is_for_good(error: &io::Error) -> bool {
+    matches!(error.raw_os_error(), Some(9 | 14 | 22 | 88))
+}
+
+// The next connection. One that can't be taken now is taken later.
+fn accept<R: Eprint + Wait + Clock>(rt: &R, listener: &TcpListener) -> Result<TcpStream, NetFault> {
+    wait_until(
+        rt,
+        Duration::from_millis(PAUSE_MILLIS),
+        || match listener.accept() {
+            Ok((stream, _)) => Some(Ok(stream)),
+            Err(error) if is_for_good(&error) => Some(Err(NetFault::Other)),
+            Err(_) => None,
+        },
+        || warn(rt, "no connection can be taken now; the server waits"),
+    )
+}
+
+// A fault of a listener, with its port.
+fn net_fault(listener: &TcpListener, fault: NetFault) -> ServeFault {
+    let port = match listener.local_addr() {
+        Ok(address) => address.port(),
+        Err(_) => 0,
+    };
+    ServeFault::Net { port, fault }
 }
 
 // Takes the connections, one after the other, and serves each from then on.
 fn take_connections<
-    M: Logging + Send + Sync + 'static,
+    L: Readable + Send + Sync + 'static,
     J: Naming + Send + Sync + 'static,
-    R: Threads + Wait + Clock + Copy + Send + Sync + Drop + 'static,
+    R: Eprint + Threads + Wait + Clock + Copy + Send + Sync + Drop + 'static,
 >(
     rt: R,
     alloc: Global,
-    shared: &Shared<M, J, R>,
+    shared: &Shared<L, J, R>,
     threads: &mut JoinSet<R>,
     listener: &TcpListener,
     options: &ServeOptions<'_>,
 ) -> Result<(), ServeFault> {
     for number in 0..options.connections.get() {
-        let stream = accept(&rt, listener)?;
-        let peer = Peer::new(alloc, number, stream);
-        shared.add_connection(threads, rt, alloc, peer, options)?;
+        let stream = match accept(&rt, listener) {
+            Ok(stream) => stream,
+            Err(fault) => return Err(net_fault(listener, fault)),
+        };
+        // Without memory for it the connection is closed.
+        if let Ok(peer) = Arc::new(alloc, Peer::new(alloc, number, stream)) {
+            shared.add_connection(threads, rt, alloc, &peer, options.partitions);
+        }
     }
     Ok(())
 }
 
-// Starts the workers.
-fn add_workers<
-    M: Logging + Send + Sync + 'static,
+// The workers of a server's nodes.
+type Served<L, J, R> = Workers<PublishedMachine<L, J, R>, Answers<R>, R>;
+
+// Starts the workers of these nodes.
+fn start_workers<
+    L: Readable + Send + Sync + 'static,
     J: Naming + Send + Sync + 'static,
-    R: Threads + Wait + Clock + Copy + Send + Sync + Drop + 'static,
->(
-    rt: R,
-    shared: &Shared<M, J, R>,
-    threads: &mut JoinSet<R>,
-    inboxes: Vec<Receiver<Message>>,
-) -> Result<(), AllocError> {
-    for inbox in inboxes {
-        shared.add_worker(threads, rt, inbox)?;
+    R: Threads + Wait + Copy + Send + Sync + Drop + 'static,
+>(rt: R, alloc: Global, places: &[Place<L, J, R>]) -> Result<Served<L, J, R>, AllocError> {
+    let mut nodes = Vec::new(alloc);
+    for place in places {
+        nodes.push(Arc::try_clone(&place.node)?)?;
     }
-    Ok(())
+    Workers::start(
+        rt,
+        alloc,
+        nodes,
+        WORKERS,
+        Answers::new(rt, Routes::new(alloc)),
+    )
 }
 
-// What the threads of a server with these nodes share, and the inboxes of its workers.
-fn share<M: Logging, J: Naming, R: Wait + Drop>(
+// What the threads of a server with these nodes share.
+fn share<
+    L: Readable + Send + Sync + 'static,
+    J: Naming + Send + Sync + 'static,
+    R: Threads + Wait + Copy + Send + Sync + Drop + 'static,
+>(
     alloc: Global,
-    nodes: Vec<ServedNode<M, J, R>>,
-) -> Result<(Shared<M, J, R>, Vec<Receiver<Message>>), AllocError> {
-    let mut senders = Vec::new(alloc);
-    let mut inboxes = Vec::new(alloc);
-    for _ in 0..WORKERS {
-        let (sender, inbox) = crossbeam_channel::unbounded(alloc)?;
-        senders.push(sender)?;
-        inboxes.push(inbox)?;
-    }
-    let shared = Shared {
-        hub: Arc::new(alloc, Hub::new(alloc, nodes, senders))?,
+    places: Vec<Place<L, J, R>>,
+    workers: &Served<L, J, R>,
+) -> Result<Shared<L, J, R>, AllocError> {
+    Ok(Shared {
+        hub: Arc::new(alloc, Hub::new(places, workers.handle()?))?,
         going: Arc::new(alloc, Going::new())?,
-    };
-    Ok((shared, inboxes))
+    })
 }
 
-// Serves the connections that come to a listener with these nodes.
-fn serve_nodes<
-    M: Logging + Send + Sync + 'static,
+// Serves the connections that come to a listener, beside the clock.
+fn serve_shared<
+    L: Readable + Send + Sync + 'static,
     J: Naming + Send + Sync + 'static,
-    R: Threads + Wait + Clock + Copy + Send + Sync + Drop + 'static,
+    R: Eprint + Threads + Wait + Clock + Copy + Send + Sync + Drop + 'static,
 >(
     rt: R,
     alloc: Global,
-    nodes: Vec<ServedNode<M, J, R>>,
+    shared: &Shared<L, J, R>,
     listener: &TcpListener,
     options: &ServeOptions<'_>,
 ) -> Result<(), ServeFault> {
-    let (shared, inboxes) = share(alloc, nodes)?;
-    let mut workers = JoinSet::new(rt, alloc);
+    let mut clock = JoinSet::new(rt, alloc);
     let mut connections = JoinSet::new(rt, alloc);
-    let served = match add_workers(rt, &shared, &mut workers, inboxes) {
-        Ok(()) => match shared.add_clock(&mut workers, rt, alloc) {
-            Ok(()) => take_connections(rt, alloc, &shared, &mut connections, listener, options),
-            Err(_) => Err(ServeFault::Memory),
-        },
+    let served = match shared.add_clock(&mut clock, rt, options.expires) {
+        Ok(()) => take_connections(rt, alloc, shared, &mut connections, listener, options),
         Err(_) => Err(ServeFault::Memory),
     };
     connections.join();
     shared.going.end(&rt);
-    shared.hub.close(&rt, alloc);
-    workers.join();
+    clock.join();
+    served
+}
+
+// Serves the connections that come to a listener with these nodes.
+fn serve_nodes<
+    L: Readable + Send + Sync + 'static,
+    J: Naming + Send + Sync + 'static,
+    R: Eprint + Threads + Wait + Clock + Copy + Send + Sync + Drop + 'static,
+>(
+    rt: R,
+    alloc: Global,
+    places: Vec<Place<L, J, R>>,
+    listener: &TcpListener,
+    options: &ServeOptions<'_>,
+) -> Result<(), ServeFault> {
+    let workers = start_workers(rt, alloc, places.as_slice())?;
+    let served = match share(alloc, places, &workers) {
+        Ok(shared) => serve_shared(rt, alloc, &shared, listener, options),
+        Err(_) => Err(ServeFault::Memory),
+    };
+    // Nodes without traces leave no receipts.
+    let _ = workers.end();
     served
 }
 
@@ -242,11 +281,29 @@ fn open_books(alloc: Global, partitions: Partitions) -> Result<Vec<Opened>, Allo
     Ok(books)
 }
 
+// Listens on a port of 127.0.0.1.
+fn listen<R: Net<Listener = TcpListener, Stream = TcpStream>>(
+    rt: &R,
+    port: u16,
+) -> Result<TcpListener, ServeFault> {
+    match TcpListener::bind(rt, ("127.0.0.1", port)) {
+        Ok(listener) => Ok(listener),
+        Err(error) => {
+            let fault = match error.kind() {
+                ErrorKind::AddrInUse => NetFault::InUse,
+                _ => NetFault::Other,
+            };
+            Err(ServeFault::Net { port, fault })
+        }
+    }
+}
+
 // Serves with nodes whose published logs have these books.
 fn serve_named<
     J: Naming + Send + Sync + 'static,
     F: Folder,
     R: Net<Listener = TcpListener, Stream = TcpStream>
+        + Eprint
         + Threads
         + Wait
         + Clock
@@ -275,15 +332,14 @@ fn serve_named<
         rt,
         alloc,
         folder,
+        partitions: options.partitions,
         connections: options.connections,
         now: moment(&rt).unwrap_or(0),
     };
     let nodes = making.nodes::<J>(books, offsets)?;
-    let Ok(listener) = TcpListener::bind(&rt, ("127.0.0.1", options.port)) else {
-        return Err(ServeFault::Net);
-    };
+    let listener = listen(&rt, options.port)?;
     let Ok(address) = listener.local_addr() else {
-        return Err(ServeFault::Net);
+        return Err(net_fault(&listener, NetFault::Other));
     };
     tell(out, "listening", usize::from(address.port()))?;
     serve_nodes(rt, alloc, nodes, &listener, options)?;
@@ -305,6 +361,7 @@ fn tell<W: Write>(out: &mut W, word: &str, number: usize) -> Result<(), ServeFau
 fn serve_over<
     F: Folder,
     R: Net<Listener = TcpListener, Stream = TcpStream>
+        + Eprint
         + Threads
         + Wait
         + Clock
@@ -327,31 +384,6 @@ fn serve_over<
     let books = open_books(alloc, options.partitions)?;
     let offsets = Opened::new(PartitionId::OFFSETS);
     serve_named::<Brand, F, R, W>(rt, alloc, folder, options, books, offsets, out)
-}
-
-// Keeps other servers out of a folder, which is made where there is none, for as long as the file
-// is open.
-fn lock_folder<R: Files<File = File>>(
-    rt: &R,
-    alloc: Global,
-    dir: &str,
-) -> Result<File, ServeFault> {
-    let path = format!(in alloc; "{dir}/lock")?;
-    let opened = match fs::create_dir_all(rt, dir) {
-        Ok(()) => OpenOptions::new()
-            .write(true)
-            .create(true)
-            .open(rt, path.as_str()),
-        Err(error) => Err(error),
-    };
-    let Ok(file) = opened else {
-        return Err(ServeFault::Folder);
-    };
-    match file.try_lock() {
-        Ok(()) => Ok(file),
-        Err(TryLockError::WouldBlock) => Err(ServeFault::InUse),
-        Err(TryLockError::Error(_)) => Err(ServeFault::Folder),
-    }
 }
 
 /// Serves the core on 127.0.0.1: prints `listening` and the port, serves as many connections as

@@ -1,10 +1,12 @@
-//! The clock of a server: transactions that have lasted too long are ended, markers that weren't
-//! answered are handed out again, and nodes whose stores failed are opened again.
+//! The clock of a server: nodes whose stores failed are opened again, logs that readers don't see yet
+//! are published, markers that weren't answered are sent again, and where the server is asked to,
+//! transactions that have lasted too long are ended.
+ghost use Rattle.std.specs.Prelude.{◌≡◌, ◌/◌, min};
+ghost use Rattle.core.specs.Duration.{as_nanos};
+
 use crate::hub::Hub;
-use kx_machine::Input;
 use kx_published::book::Naming;
-use kx_serving::Logging;
-use std::alloc::{AllocError, Global};
+use kx_publishing::Readable;
 use std::sync::{Condvar, Mutex, Wait};
 use std::time::{Clock, Duration};
 
@@ -22,7 +24,7 @@ pub(crate) struct Going {
 }
 
 impl Going {
-    /// It does.
+    /// A server that goes on.
     pub(crate) fn new() -> Going {
         Going {
             has_ended: Mutex::new(false),
@@ -30,7 +32,7 @@ impl Going {
         }
     }
 
-    /// It doesn't go on.
+    /// From now on it doesn't, and whoever waits is woken.
     pub(crate) fn end<R: Wait>(&self, rt: &R) {
         *self.has_ended.lock(rt) = true;
         self.moved.notify_all();
@@ -46,77 +48,50 @@ impl Going {
     }
 }
 
-// The moment, in milliseconds since 1970. None where the clock can't be read.
-pub(crate) fn moment<R: Clock>(rt: &R) -> Option<u64> {
-    let since = rt.since_1970().ok()?;
-    Some(
-        since
-            .as_secs()
-            .saturating_mul(1000)
-            .saturating_add(u64::from(since.subsec_millis())),
-    )
-}
-
-// How often the stores of the nodes have failed.
-fn failures_of<M: Logging, J: Naming, R: Wait + Drop>(
-    rt: &R,
-    hub: &Hub<M, J, R>,
-    alloc: Global,
-) -> Result<Vec<u64>, AllocError> {
-    let mut failures = Vec::new(alloc);
-    for node in hub.nodes() {
-        failures.push(node.failures(rt))?;
+// The milliseconds of a time, 2^64 - 1 where they are more.
+fn millis_of(time: Duration) -> u64
+    ensures { result ≡ min (as_nanos time / 1_000_000) u64.MAX }
+{
+    match u64::try_from(time.as_millis()) {
+        Ok(millis) => millis,
+        Err(_) => u64::MAX,
     }
-    Ok(failures)
 }
 
-// Opens those nodes again whose stores failed since.
-fn open_again<M: Logging, J: Naming, R: Wait + Drop>(
+/// The time, in milliseconds since 1970. None where the clock can't be read.
+pub(crate) fn moment<R: Clock>(rt: &R) -> Option<u64> {
+    Some(millis_of(rt.since_1970().ok()?))
+}
+
+// What a tick does at this time, in milliseconds since 1970.
+fn tick<L: Readable, J: Naming, R: Wait + Drop>(
     rt: &R,
-    hub: &Hub<M, J, R>,
-    seen: &mut [u64],
+    hub: &Hub<L, J, R>,
+    expires: bool,
     now: u64,
 ) {
-    for (place, node) in hub.nodes().iter().enumerate() {
-        let failures = node.failures(rt);
-        if let Some(seen) = seen.get_mut(place) {
-            if *seen < failures {
-                *seen = failures;
-                hub.step(rt, place, &Input::Restart(now));
+    hub.tend(rt, now);
+    if expires {
+        for _ in 0..MOST_ENDED {
+            if !hub.expire(rt, now) {
+                break;
             }
         }
     }
+    hub.remind(rt);
 }
 
-// One tick.
-fn tick<M: Logging, J: Naming, R: Wait + Drop>(
+/// Ticks until the server has ended. Transactions that have lasted too long are ended only where
+/// the clock `expires` them.
+pub(crate) fn keep_time<L: Readable, J: Naming, R: Wait + Clock + Drop>(
     rt: &R,
-    hub: &Hub<M, J, R>,
-    seen: &mut [u64],
-    now: u64,
-) {
-    open_again(rt, hub, seen, now);
-    for _ in 0..MOST_ENDED {
-        if !hub.expire(rt, now) {
-            break;
-        }
-    }
-    hub.step(rt, 0, &Input::Remind);
-}
-
-/// Ticks until the server has ended. Does nothing where there is no memory for it.
-pub(crate) fn keep_time<M: Logging, J: Naming, R: Wait + Clock + Drop>(
-    rt: &R,
-    alloc: Global,
-    hub: &Hub<M, J, R>,
+    hub: &Hub<L, J, R>,
     going: &Going,
+    expires: bool,
 ) {
-    let Ok(mut seen) = failures_of(rt, hub, alloc) else {
-        return;
-    };
     for _ in rt.forever() {
         if let Some(now) = moment(rt) {
-            tick(rt, hub, seen.as_mut_slice(), now);
+            tick(rt, hub, expires, now);
         }
         if going.waits(rt) {
             break;

@@ -106,7 +106,7 @@ module _ {M : Type 0} (stands : NodeState → M → Type 0) (allows : M → Stor
   unserved : (rest : List ℕ) (handed : List Message) (old new : Option (List ℕ))
       (f : StreamFault) → Written handed old new (Err f) → Ends rest handed old new (Err f)
   unserved rest handed old new (Frame g) cut = inr cut
-  unserved rest handed old new Write cut = tt
+  unserved rest handed old new Write cut = cut
   unserved rest handed old new Read cut = absurd cut
 
   -- a message of the piece isn't answered

@@ -15,7 +15,7 @@ use Rattle.kx_stream.specs.Serving.{Answers, Serves}
 use Rattle.kx_stream.specs.Stream.{AllServed, OneServed}
 use Rattle.kx_stream.specs.declared.fault.StreamFault.{StreamFault}
 use Rattle.kx_stream.specs.declared.fault.StreamFault.TheVariants.{Read, Write, Frame}
-use Rattle.kx_stream.proofs.Writing.{appends_both, cut_behind}
+use Rattle.kx_stream.proofs.Writing.{appends_both, broken_after, cut_behind, frames-append}
 
 -- those up to a place, with the one that stands there
 pub split_at : (all : List Message) (at : ℕ) (x : Message) → (at < length all)
@@ -93,7 +93,9 @@ module _ {M : Type 0} (stands : NodeState → M → Type 0) (allows : M → Stor
       → Written (handed ++ more) old new (Err fault)
   written_behind old now new handed more (Frame fault) first cut =
       cut_behind old now new handed more fault first cut
-  written_behind old now new handed more Write first cut = tt
+  written_behind old now new handed more Write first cut =
+      broken_after old now new (frames handed) (frames more) (frames (handed ++ more))
+      (frames-append handed more) first cut
   written_behind old now new handed more Read first cut = absurd cut
 
   pub far_fails : (before mid after : M) (old now new : Option (List ℕ))

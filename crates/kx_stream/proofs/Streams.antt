@@ -1,8 +1,10 @@
 -- A stream, piece by piece.
-use Rattle.std.proofs.Common.{◌≡◌, ℕ, List, [], ◌++◌, Option, Result, Ok, Err, refl, sym, ap}
-use Rattle.std.proofs.Common.{◌∙◌, subst, append_assoc, append-nil, inl, inr, take}
-use Rattle.std.specs.Prelude.{OnOk}
-use Rattle.std.specs.Io.KnownBytes.{Appends, Consumes, IsAtEnd}
+use Rattle.std.proofs.Common.{◌≡◌, ◌≢◌, ◌≤◌, ◌+◌, ℕ, List, [], ◌++◌, Option, Result, Ok, Err, refl}
+use Rattle.std.proofs.Common.{sym, ap, ◌∙◌, subst, append_assoc, append-nil, inl, inr, take, length}
+use Rattle.std.proofs.Common.{arith, length-append}
+use Rattle.std.specs.Prelude.{MatchResult, OnOk}
+use Rattle.std.proofs.lemmas.List.{length-take-le}
+use Rattle.std.specs.Io.KnownBytes.{Appends, Consumes}
 use Rattle.std.proofs.KnownBytes.{Appends-nil, Consumes-nil, Consumes-trans}
 use Rattle.kx_machine.specs.Meaning.{NodeState}
 use Rattle.kx_message.specs.Message.{IsSendable}
@@ -10,11 +12,12 @@ use Rattle.kx_message.specs.Reader.{unsigned}
 use Rattle.kx_message.specs.declared.message.Message.{Message}
 use Rattle.kx_model.specs.Disk.{Store}
 use Rattle.kx_stream.specs.Sending.{frames}
-use Rattle.kx_stream.specs.Stream.{Ends, PieceServed, Served}
+use Rattle.kx_stream.specs.Stream.{Ends, IsDone, PieceServed, Served}
 use Rattle.kx_stream.specs.declared.fault.StreamFault.{StreamFault}
 use Rattle.kx_stream.specs.declared.fault.StreamFault.TheVariants.{Read, Write, Frame}
+use Rattle.kx_stream.specs.declared.stream.ReadsEnd.{ReadsEnd}
 use Rattle.kx_stream.proofs.Pieces.{all_both, nothing_served}
-use Rattle.kx_stream.proofs.Writing.{appends_both, cut_behind, frames-append}
+use Rattle.kx_stream.proofs.Writing.{appends_both, broken_after, cut_behind, frames-append}
 use Rattle.kx_stream.proofs.Rows.{serves_both, serves_none}
 use Rattle.kx_wire.specs.Frames.{More, Reads, Stream, frame_at}
 use Rattle.kx_wire.specs.declared.fault.FrameFault.TheVariants as fault
@@ -22,6 +25,11 @@ use Rattle.kx_wire.specs.declared.fault.FrameFault.TheVariants as fault
 nothing_is_less : frame_at [] ≡ More
 unfolding frame_at unsigned
 nothing_is_less = refl
+
+-- a read that gave something
+pub gave_some : (buf : List ℕ) (count : ℕ) → count ≢ 0 → count ≤ length buf
+    → 1 ≤ length (take count buf)
+gave_some buf count some within = omega (arith, some, length-take-le count buf within)
 
 -- a read that gave nothing
 pub gave_nothing : (a b c : Option (List ℕ)) (read buf : List ℕ) (count : ℕ) → Consumes a b read
@@ -31,18 +39,21 @@ gave_nothing a b c read buf count first second none =
     subst (Consumes a c) (append-nil read) (Consumes-trans a b c read [] first still)
 
 module _ {M : Type 0} (stands : NodeState → M → Type 0) (allows : M → Store → Type 0) where
-  -- some of the stream was read, all that came of it is served and written, and the rest is held
-  pub record Along (before after : M) (input left old new : Option (List ℕ)) (stream : Stream)
-      : Type 0 where
+  -- some of the stream was read, by so many reads of a byte or more; all that came of it is served
+  -- and written, and the rest is held
+  pub record Along (reads : ℕ) (before after : M) (input left old new : Option (List ℕ))
+      (stream : Stream) : Type 0 where
     pub read : List ℕ
+    pub many : reads ≤ length read
     pub consumed : Consumes input left read
     pub served : Served stands allows read before after old new (Ok tt)
     pub held : stream ≡ Reads served.behind
 
   pub along_start : (m : M) (input known : Option (List ℕ)) (stream : Stream) → stream ≡ Reads []
-      → Along m m input input known known stream
+      → Along 0 m m input input known known stream
   along_start m input known stream is = record {
     read = [];
+    many = omega arith;
     consumed = Consumes-nil input;
     served = record {
       messages = [];
@@ -62,8 +73,10 @@ module _ {M : Type 0} (stands : NodeState → M → Type 0) (allows : M → Stor
   ends_behind old mid new behind handed more (Ok done) first ends =
       (ends.0, appends_both old mid new handed more first ends.1)
   ends_behind old mid new behind handed more (Err Read) first ends =
-      appends_both old mid new handed more first ends
-  ends_behind old mid new behind handed more (Err Write) first ends = tt
+      (ends.0, appends_both old mid new handed more first ends.1)
+  ends_behind old mid new behind handed more (Err Write) first ends =
+      broken_after old mid new (frames handed) (frames more) (frames (handed ++ more))
+      (frames-append handed more) first ends
   ends_behind old mid new behind handed more (Err (Frame f)) first (inl stood) =
       inl (stood.0, appends_both old mid new handed more first stood.1)
   ends_behind old mid new behind handed more (Err (Frame f)) first (inr cut) =
@@ -98,64 +111,75 @@ module _ {M : Type 0} (stands : NodeState → M → Type 0) (allows : M → Stor
       )
 
   -- one more piece is served
-  pub along_more : (before mid after : M) (input now left old known new : Option (List ℕ))
-      (piece : List ℕ) (stream next : Stream) → Along before mid input now old known stream
+  pub along_more : (reads : ℕ) (before mid after : M)
+      (input now left old known new : Option (List ℕ)) (piece : List ℕ) (stream next : Stream)
+      → Along reads before mid input now old known stream → 1 ≤ length piece
       → Consumes now left piece
       → ((partial : List ℕ) → stream ≡ Reads partial
       → PieceServed stands allows partial piece mid after next known new (Ok tt))
-      → Along before after input left old new next
-  along_more before mid after input now left old known new piece stream next along taken more =
+      → Along (reads + 1) before after input left old new next
+  along_more reads before mid after input now left old known new piece stream next along some taken
+      more =
       let both = served_more before mid after old known new along.read piece next (Ok tt)
       along.served (more along.served.behind along.held) in
       record {
         read = along.read ++ piece;
+        many = omega (arith, along.many, some, length-append along.read piece);
         consumed = Consumes-trans input now left along.read piece along.consumed taken;
         served = both.0;
         held = both.1;
       }
 
   -- a piece ends it
-  pub ended : (before mid after : M) (input now left old known new : Option (List ℕ))
+  pub ended : (reads : ℕ) (before mid after : M)
+      (input now left old known new : Option (List ℕ))
       (piece : List ℕ) (stream next : Stream) (fault : StreamFault)
-      (result : Result (Unit {0}) StreamFault) → Along before mid input now old known stream
+      → Along reads before mid input now old known stream
       → Consumes now left piece
       → ((partial : List ℕ) → stream ≡ Reads partial
       → PieceServed stands allows partial piece mid after next known new (Err fault))
-      → result ≡ Err fault
-      → (read : List ℕ) × Consumes input left read × OnOk result (IsAtEnd left)
-      × Served stands allows read before after old new result
-  ended before mid after input now left old known new piece stream next fault result along taken
-      more is =
+      → (read : List ℕ) × Consumes input left read
+      × Served stands allows read before after old new (Err fault)
+  ended reads before mid after input now left old known new piece stream next fault along taken
+      more =
       let both = served_more before mid after old known new along.read piece next (Err fault)
-      along.served (more along.served.behind along.held) in
-      subst (λ (r : Result (Unit {0}) StreamFault). (read : List ℕ) × Consumes input left read
-      × OnOk r (IsAtEnd left) × Served stands allows read before after old new r) (sym is) (
+      along.served (more along.served.behind along.held) in (
         along.read ++ piece,
         Consumes-trans input now left along.read piece along.consumed taken,
-        tt,
         both.0,
       )
 
-  -- the reader fails
-  pub read_fails : (read : List ℕ) (before after : M) (old new : Option (List ℕ))
+  -- what the reads of a stream come to
+  abbrev pub ReadTo : M → M → Option (List ℕ) → Option (List ℕ) → Option (List ℕ)
+      → Option (List ℕ) → Result ReadsEnd StreamFault → Type 0
+  ReadTo before after input left old new result =
+      (read : List ℕ) × Consumes input left read × MatchResult result
+      (λ end. IsDone end read left × Served stands allows read before after old new (Ok tt))
+      (λ fault. Served stands allows read before after old new (Err fault))
+
+  pub read_breaks : (before after : M) (input left old new : Option (List ℕ)) (fault : StreamFault)
+      (result : Result ReadsEnd StreamFault) → result ≡ Err fault
+      → ((read : List ℕ) × Consumes input left read
+      × Served stands allows read before after old new (Err fault))
+      → ReadTo before after input left old new result
+  read_breaks before after input left old new fault result is ended =
+      subst (ReadTo before after input left old new) (sym is) ended
+
+  -- no more is read, though the stream hasn't ended
+  pub unread : (read : List ℕ) (before after : M) (old new : Option (List ℕ))
       → Served stands allows read before after old new (Ok tt)
       → Served stands allows read before after old new (Err Read)
-  read_fails read before after old new served = record {
+  unread read before after old new served = record {
     messages = served.messages;
     behind = served.behind;
     parts = served.parts;
     each = served.each;
     handed = served.handed;
     serves = served.serves;
-    ends = served.ends.1;
+    ends = served.ends;
   }
 
   -- there is no memory to begin with
-  pub no_memory : (m : M) (input known : Option (List ℕ))
-      (result : Result (Unit {0}) StreamFault) → result ≡ Err (Frame fault.Memory)
-      → (read : List ℕ) × Consumes input input read × OnOk result (IsAtEnd input)
-      × Served stands allows read m m known known result
-  no_memory m input known result is =
-      subst (λ (r : Result (Unit {0}) StreamFault). (read : List ℕ) × Consumes input input read
-      × OnOk r (IsAtEnd input) × Served stands allows read m m known known r) (sym is)
-      ([], Consumes-nil input, tt, nothing_served stands allows [] m known fault.Memory (inr refl))
+  pub no_memory : (m : M) (known : Option (List ℕ))
+      → Served stands allows [] m m known known (Err (Frame fault.Memory))
+  no_memory m known = nothing_served stands allows [] m known fault.Memory (inr refl)

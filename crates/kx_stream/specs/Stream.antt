@@ -1,15 +1,18 @@
 -- What was read of a stream, what the machine did with it, and what was written.
-use Rattle.std.specs.Prelude.{◌≡◌, ◌⊎◌, ℕ, List, [], ◌++◌, Option, Result, Ok, Err, OnOk}
+use Rattle.std.specs.Prelude.{◌≡◌, ◌≤◌, ◌^◌, ◌⊎◌, ℕ, List, [], ◌++◌, length, Option, Result, Ok}
+use Rattle.std.specs.Prelude.{Err, OnOk}
 use Rattle.std.specs.List.{AllByRecursion}
-use Rattle.std.specs.Io.KnownBytes.{Appends}
+use Rattle.std.specs.Io.KnownBytes.{Appends, IsAtEnd}
 use Rattle.kx_machine.specs.Meaning.{NodeState}
 use Rattle.kx_message.specs.Message.{IsSendable}
 use Rattle.kx_message.specs.declared.message.Message.{Message}
 use Rattle.kx_model.specs.Disk.{Store}
-use Rattle.kx_stream.specs.Sending.{IsCut, Written, frames}
+use Rattle.kx_stream.specs.Sending.{IsBroken, IsCut, Written, frames}
 use Rattle.kx_stream.specs.Serving.{Answers, Serves}
 use Rattle.kx_stream.specs.declared.fault.StreamFault.{StreamFault}
 use Rattle.kx_stream.specs.declared.fault.StreamFault.TheVariants.{Read, Write, Frame}
+use Rattle.kx_stream.specs.declared.stream.ReadsEnd.{ReadsEnd}
+use Rattle.kx_stream.specs.declared.stream.ReadsEnd.TheVariants.{AtEnd, ReadFailed, TooMany}
 use Rattle.kx_wire.specs.Frames.{Bad, More, Stream, Reads, frame_at}
 use Rattle.kx_wire.specs.declared.fault.FrameFault.{FrameFault}
 use Rattle.kx_wire.specs.declared.fault.FrameFault.TheVariants.{Memory}
@@ -21,14 +24,23 @@ Breaks fault behind handed old new =
     (((frame_at behind ≡ Bad fault) ⊎ (fault ≡ Memory)) × Appends old new (frames handed))
     ⊎ IsCut fault handed old new
 
--- by the outcome, where these bytes stand behind the messages that were taken: at the end less than
--- a frame
+-- by the outcome, where these bytes stand behind the messages that were taken: less than a frame,
+-- where the stream ended or wasn't read further; where a write failed, a front of the frames of what
+-- was handed out is written
 abbrev pub Ends : List ℕ → List Message → Option (List ℕ) → Option (List ℕ)
     → Result (Unit {0}) StreamFault → Type 0
 Ends behind handed old new (Ok done) = (frame_at behind ≡ More) × Appends old new (frames handed)
-Ends behind handed old new (Err Read) = Appends old new (frames handed)
-Ends behind handed old new (Err Write) = Unit {0}
+Ends behind handed old new (Err Read) =
+    (frame_at behind ≡ More) × Appends old new (frames handed)
+Ends behind handed old new (Err Write) = IsBroken (frames handed) old new
 Ends behind handed old new (Err (Frame fault)) = Breaks fault behind handed old new
+
+-- why no more is read, where these bytes were read: the reader gave nothing; a read failed; or each
+-- of 2^32 reads gave something
+abbrev pub IsDone : ReadsEnd → List ℕ → Option (List ℕ) → Type 0
+IsDone AtEnd read left = IsAtEnd left
+IsDone ReadFailed read left = Unit {0}
+IsDone TooMany read left = 2 ^ 32 ≤ length read
 
 module _ {M : Type 0} (stands : NodeState → M → Type 0) (allows : M → Store → Type 0) where
   -- the bytes begin with the frames of messages, which the machine took, one after the other; what

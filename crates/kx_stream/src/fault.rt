@@ -11,16 +11,18 @@ use thiserror::Error;
 /// Why a stream isn't served to its end. The machine keeps the steps that it made.
 #[derive(Clone, Copy, Debug, PartialEq, Eq, Error)]
 pub enum StreamFault {
-    /// The reader failed, or gave something 2^32 times and didn't come to its end. What the machine
-    /// handed out by then is written.
+    /// A read failed, or each of 2^32 reads gave something. The messages that were read whole are
+    /// served, and what the machine handed out is written.
     #[error("the stream cannot be read")]
     Read,
-    /// The writer failed. What of the frames was written isn't known: a failed write doesn't say.
+    /// A write failed. A front of the frames of what the machine handed out is written, and not all
+    /// of them.
     #[error("the replies cannot be written")]
     Write,
     /// What comes next in the stream is no frame of a message, after the messages before it were
     /// served; or memory ran out for reading or for a frame; or a message that was handed out is
-    /// longer than a frame, and then [`FrameFault::TooLong`].
+    /// longer than a frame, and then [`FrameFault::TooLong`]. The frames of what was handed out
+    /// before are written.
     #[error("{0}")]
     Frame(FrameFault),
 }
@@ -48,7 +50,7 @@ impl From<FrameFault> for StreamFault {
     }
 }
 
-/// Want of memory, as a frame has it.
+/// Out of memory, as a frame has it.
 impl From<AllocError> for StreamFault {
     ghost from_gives = { λ refused fault. fault ≡ Frame Memory };
 

@@ -1,31 +1,64 @@
 //! What a machine hands out, written as frames.
-ghost use Rattle.std.specs.Prelude.{◌≡◌, MatchResult, IsOk};
-ghost use Rattle.kx_stream.specs.Sending.{Sends, Written};
+ghost use Rattle.std.specs.Prelude.{◌≡◌, ◌≤◌, length, take, IfOk, MatchResult};
+ghost use Rattle.std.specs.Io.KnownBytes.{Appends, Keeps};
+ghost use Rattle.kx_stream.specs.Sending.{Sends, Writes, Written};
 
 use crate::fault::StreamFault;
 use kx_wire::{FrameFault, Message, frame_head, record_batches};
 use std::alloc::Global;
-use std::io;
-use std::io::Write;
+use std::io::{ErrorKind, Write};
 
-// What a write is to a stream.
-fn written(done: io::Result<()>) -> Result<(), StreamFault>
-    ensures { MatchResult result (λ _. IsOk done) (λ fault. fault ≡ StreamFault.Write) }
+/// How often a write that was interrupted is tried again.
+const TRIES: u32 = u32::MAX;
+
+// Writes a front of some bytes by one write, and says how many of them. A write that was interrupted
+// writes none.
+fn write_front<W: Write>(writer: &mut W, bytes: &[u8]) -> Result<usize, StreamFault>
+    ensures within { IfOk result (λ count. count ≤ length bytes.now) }
+    ensures bytes { MatchResult result
+        (λ count. Appends (W.contents writer.old) (W.contents writer.new) (take count bytes.now))
+        (λ fault. (fault ≡ StreamFault.Write)
+        × Keeps (W.contents writer.old) (W.contents writer.new)) }
 {
-    match done {
-        Ok(()) => Ok(()),
-        Err(_) => Err(StreamFault::Write),
+    match writer.write(bytes) {
+        Ok(0) => Err(StreamFault::Write),
+        Ok(count) => Ok(count),
+        Err(error) => {
+            if error.kind() == ErrorKind::Interrupted {
+                Ok(0)
+            } else {
+                Err(StreamFault::Write)
+            }
+        }
     }
+}
+
+// Writes all of some bytes, by as many writes as it takes.
+fn write_whole<W: Write>(writer: &mut W, bytes: &[u8]) -> Result<(), StreamFault>
+    ensures { Writes bytes.now (W.contents writer.old) (W.contents writer.new) result }
+{
+    let mut written = 0;
+    let mut tries = TRIES;
+    while written < bytes.len() {
+        let count = write_front(writer, &bytes[written..])?;
+        if count == 0 {
+            if tries == 0 {
+                return Err(StreamFault::Write);
+            }
+            tries -= 1;
+        }
+        written += count;
+    }
+    Ok(())
 }
 
 /// Writes the frame of a message; the record batches that it carries, from where they lie.
 ///
 /// # Errors
 ///
-/// As those of [`serve_stream`](crate::serve_stream) that are of writing: [`StreamFault::Write`]
-/// where the writer failed; [`StreamFault::Frame`] with [`FrameFault::Memory`] for want of memory,
-/// and with [`FrameFault::TooLong`] where the message is longer than a frame, and then nothing is
-/// written.
+/// [`StreamFault::Write`] where a write failed: a front of the frame is written, and not all of it.
+/// [`StreamFault::Frame`] with [`FrameFault::Memory`] where memory is refused, and with
+/// [`FrameFault::TooLong`] where the message is longer than a frame; nothing is written then.
 pub fn send<W: Write>(alloc: Global, writer: &mut W, message: &Message) -> Result<(), StreamFault>
     ensures { Sends message.now (W.contents writer.old) (W.contents writer.new) result }
 {
@@ -33,18 +66,18 @@ pub fn send<W: Write>(alloc: Global, writer: &mut W, message: &Message) -> Resul
         return Err(StreamFault::Frame(FrameFault::TooLong));
     }
     let head = frame_head(alloc, message)?;
-    written(writer.write_all(head.as_slice()))?;
-    written(writer.write_all(record_batches(message)))
+    write_whole(writer, head.as_slice())?;
+    write_whole(writer, record_batches(message))
 }
 
 /// Writes the frames of messages, in order, each as soon as it is made.
 ///
 /// # Errors
 ///
-/// [`StreamFault::Write`] where the writer failed, [`StreamFault::Frame`] with
-/// [`FrameFault::Memory`] for want of memory, and with [`FrameFault::TooLong`] at a message that is
-/// longer than a frame; in the last two cases the frames before that message are written, and
-/// nothing else.
+/// [`StreamFault::Write`] where a write failed: a front of the frames is written, and not all of
+/// them. [`StreamFault::Frame`] with [`FrameFault::Memory`] where memory is refused, and with
+/// [`FrameFault::TooLong`] at a message that is longer than a frame: the frames before that message
+/// are written, and nothing else.
 pub(crate) fn send_all<W: Write>(
     alloc: Global,
     writer: &mut W,

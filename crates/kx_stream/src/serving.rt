@@ -20,7 +20,11 @@ fn serve_one<M: Machine, W: Write>(
         (W.contents writer.old) (W.contents writer.new) result }
 {
     match machine.deliver(message) {
-        Ok(taken) => send_all(alloc, writer, taken.messages.as_slice()),
+        Ok(taken) => {
+            let written = send_all(alloc, writer, taken.messages.as_slice());
+            drop(taken);
+            written
+        }
         Err(_) => Ok(()),
     }
 }

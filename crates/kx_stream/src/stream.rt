@@ -1,7 +1,7 @@
 //! The stream itself.
-ghost use Rattle.std.specs.Prelude.{◌≡◌, ℕ, List, OnOk};
+ghost use Rattle.std.specs.Prelude.{◌≡◌, ℕ, List, Ok, Err, MatchResult, OnOk};
 ghost use Rattle.std.specs.Io.KnownBytes.{Consumes, IsAtEnd};
-ghost use Rattle.kx_stream.specs.Stream.{PieceServed, Served};
+ghost use Rattle.kx_stream.specs.Stream.{IsDone, PieceServed, Served};
 ghost use Rattle.kx_wire.specs.Frames.{Reads};
 
 use crate::fault::StreamFault;
@@ -14,11 +14,11 @@ use std::io::{Read, Write};
 /// How many bytes a reader is asked for at once.
 const PIECE: usize = 65_536;
 
-/// How often a reader is asked at most.
+/// How often a reader is asked at most, whatever it gives.
 const READS: u64 = 1 << 32;
 
 // Takes a piece of the stream: the machine takes the messages whose frames are whole with it. A
-// fault of the frame behind them is told once they are served.
+// fault of the frame after them is told once they are served.
 fn serve_piece<M: Machine, W: Write>(
     alloc: Global,
     frames: &mut Frames,
@@ -36,15 +36,58 @@ fn serve_piece<M: Machine, W: Write>(
     Ok(())
 }
 
-/// Serves a stream of frames with a machine, up to the stream's end: each message whose frame comes
-/// in whole is taken by the machine, in whatever pieces the bytes come, and the frames of what it
-/// hands out are written at once, in order. What comes of a frame at the end is dropped. A step for
-/// which the machine has no memory writes nothing, and the stream goes on. The writer isn't
+// Why no more is read of a stream.
+#[derive(Clone, Copy)]
+pub(crate) enum ReadsEnd {
+    // The reader gave nothing: it has come to its end.
+    AtEnd,
+    // A read failed.
+    ReadFailed,
+    // Each of 2^32 reads gave something.
+    TooMany,
+}
+
+// Reads the stream piece by piece, and serves each, until no more is to be read.
+fn serve_pieces<R: Read, W: Write, M: Machine>(
+    alloc: Global,
+    reader: &mut R,
+    writer: &mut W,
+    machine: &mut M,
+) -> Result<ReadsEnd, StreamFault>
+    ensures { (read : List ℕ) × Consumes (R.remaining reader.old) (R.remaining reader.new) read
+        × MatchResult result (λ end. IsDone end read (R.remaining reader.new)
+        × Served M.stands M.allows read machine.old machine.new
+        (W.contents writer.old) (W.contents writer.new) (Ok tt))
+        (λ fault. Served M.stands M.allows read machine.old machine.new
+        (W.contents writer.old) (W.contents writer.new) (Err fault)) }
+{
+    let mut piece = vec![in alloc; 0; PIECE]?;
+    let mut frames = Frames::new(alloc);
+    for reads in 0..READS {
+        let Ok(count) = reader.read(&mut piece) else {
+            return Ok(ReadsEnd::ReadFailed);
+        };
+        if count == 0 {
+            return Ok(ReadsEnd::AtEnd);
+        }
+        serve_piece(alloc, &mut frames, machine, &piece[..count], writer)?;
+    }
+    Ok(ReadsEnd::TooMany)
+}
+
+/// Serves a stream of frames with a machine, up to the stream's end: each message whose frame
+/// arrives whole is taken by the machine, in whatever pieces the bytes arrive, and the frames of
+/// what it hands out are written at once, in order. A part of a frame at the end is dropped. A step
+/// for which the machine has no memory writes nothing, and the stream goes on. The writer isn't
 /// flushed.
 ///
 /// # Errors
 ///
-/// Those of [`StreamFault`]; the machine keeps the steps that it made by then.
+/// [`StreamFault::Read`] where a read failed, or each of 2^32 reads gave something: all messages
+/// that were read whole are served, and their answers written. [`StreamFault::Write`] where a write
+/// failed: a front of the answers is written, and not all of them. [`StreamFault::Frame`] where what
+/// comes next is no frame of a message, or one that was handed out isn't written, or memory ran out:
+/// the answers before it are written. The machine keeps the steps that it made by then.
 pub fn serve_stream<R: Read, W: Write, M: Machine>(
     alloc: Global,
     reader: &mut R,
@@ -56,16 +99,8 @@ pub fn serve_stream<R: Read, W: Write, M: Machine>(
         × Served M.stands M.allows read machine.old machine.new
         (W.contents writer.old) (W.contents writer.new) result }
 {
-    let mut piece = vec![in alloc; 0; PIECE]?;
-    let mut frames = Frames::new(alloc);
-    for _ in 0..READS {
-        let Ok(count) = reader.read(&mut piece) else {
-            return Err(StreamFault::Read);
-        };
-        if count == 0 {
-            return Ok(());
-        }
-        serve_piece(alloc, &mut frames, machine, &piece[..count], writer)?;
+    match serve_pieces(alloc, reader, writer, machine)? {
+        ReadsEnd::AtEnd => Ok(()),
+        ReadsEnd::ReadFailed | ReadsEnd::TooMany => Err(StreamFault::Read),
     }
-    Err(StreamFault::Read)
 }

@@ -7,8 +7,8 @@ use thiserror::Error;
 /// Why a script ends before its last line.
 #[derive(Clone, Copy, Debug, PartialEq, Eq, Error)]
 pub enum ScriptFault {
-    /// The reader failed, or the script has more than 2^32 lines. The answers to the lines before
-    /// were written, and nothing else.
+    /// The reader failed, or would have to be read more than 2^32 times. The answers to the lines
+    /// before were written, and nothing else.
     #[error("the script cannot be read")]
     Read,
     /// The writer failed. What of the answers was written isn't known: a failed write doesn't say.

@@ -4,8 +4,9 @@ ghost use Rattle.kx_text.specs.Lines.{ReadsLine};
 ghost use Rattle.kx_text.specs.declared.fault.ScriptFault.TheVariants as fault;
 
 use crate::fault::ScriptFault;
+use crate::reads::read_fault;
 use std::io;
-use std::io::{BufRead, ErrorKind};
+use std::io::BufRead;
 
 /// What a write is to a script.
 ///
@@ -33,7 +34,6 @@ pub fn next_line<R: BufRead>(reader: &mut R, line: &mut Vec<u8>) -> Result<bool,
     line.clear();
     match reader.read_until(b'\n', line) {
         Ok(count) => Ok(count != 0),
-        Err(error) if error.kind() == ErrorKind::OutOfMemory => Err(ScriptFault::Memory),
-        Err(_) => Err(ScriptFault::Read),
+        Err(error) => Err(read_fault(&error)),
     }
 }

@@ -1,14 +1,18 @@
 -- What is noted of the offsets of one batch, and requests as the commits of offsets that they are.
-use Rattle.std.specs.Prelude.{◌≤◌, ◌+◌, ◌^◌, ℕ, List, Option, filter_map, length}
+use Rattle.std.specs.Prelude.{◌≡◌, ◌≤◌, ◌+◌, ◌^◌, ◌⊎◌, ℕ, ℤ, pos, true, List, [], Option}
+use Rattle.std.specs.Prelude.{filter_map}
 use Rattle.kx_varint.specs.Text.{◌>>=◌}
-use Rattle.kx_batch.specs.Batch.{batch_of}
 use Rattle.kx_batch.specs.Record.{Record}
 use Rattle.kx_commits.specs.Follows.{said_in}
 use Rattle.kx_commits.specs.Kept.{Kept, Said}
+use Rattle.kx_log.specs.LogState.{LogState}
+use Rattle.kx_message.specs.declared.message.Held.{Held}
 use Rattle.kx_message.specs.declared.message.Message.TheVariants as msg
 use Rattle.kx_message.specs.declared.requests.TxnOffsetCommit.{TxnOffsetCommit}
 use Rattle.kx_model.specs.Groups.{fact_of}
-use Rattle.kx_model.specs.Verification.{Parked}
+use Rattle.kx_model.specs.Log.{entries}
+use Rattle.kx_model.specs.Producers.{expected}
+use Rattle.kx_model.specs.Verification.{Parked, Target, ToPartition, ToGroup}
 use Rattle.kx_offsets.specs.Facts.{CommitFits}
 use Rattle.kx_verify.specs.Request.{IsParked}
 
@@ -27,11 +31,21 @@ pub record MayWait (kept : Kept) (count : ℕ) : Type 0 where
   pub few : (group : List ℕ) (partition : ℕ)
       → (kept.slot group partition).pending + count ≤ 2 ^ 63
 
--- its batch has at most so many records
-abbrev pub HasAtMost : ℕ → Parked → Type 0
-HasAtMost most parked = length (batch_of parked.request.text).records ≤ most
+-- the text of the batch that is to be appended for a request, if it is a commit of offsets
+abbrev pub commit_text : List ℕ → Target → List ℕ
+commit_text text (ToPartition partition) = []
+commit_text text (ToGroup group member generation) = text
+
+abbrev pub text_for : Parked → List ℕ
+text_for parked = commit_text parked.request.text parked.request.target
 
 -- the commit is the message of the request, and what it holds fits its fields
 pub record IsCommitFor (commit : TxnOffsetCommit) (parked : Parked) : Type 0 where
   pub parks : IsParked (msg.TxnOffsetCommit commit) parked
   pub fits : CommitFits commit.group commit.held commit.first_sequence commit.offsets
+
+-- of this id and epoch, and this first sequence, none comes next: the log is closed, or another
+-- sequence is expected
+abbrev pub IsOver : Held → ℤ → LogState → Type 0
+IsOver held first log = (log.closed ≡ true)
+    ⊎ (first ≡ pos (expected (entries log.batches) held.id held.epoch) → ⊥)

@@ -1,6 +1,6 @@
 use Rattle.std.proofs.Common.{◌≡◌, ◌∙◌, List, sym, subst}
 use Rattle.std.proofs.lemmas.Result.{err_from_is_err_and}
-use Rattle.kx_audit.specs.Refused.{IsRefused}
+use Rattle.kx_audit.specs.Refused.{HaveOrder, IsRefused}
 use Rattle.kx_audit.specs.Replayed.{traces_of, trails_of}
 use Rattle.kx_audit.specs.Schedule.{AllFit}
 use Rattle.kx_nodes.specs.Replay.{Traced}
@@ -34,10 +34,26 @@ check_receipts-requires-clause-replayed g c =
     rw (c.as_slice-3.ensures.value, c.into_parts-nodes.ensures.nodes)
     c.into_parts-nodes.ensures.merging.replayed
 
-pub check_receipts-requires-clause-apart : goal.check_receipts-requires-clause-apart
-check_receipts-requires-clause-apart g c =
+pub check_receipts-requires-clause-ordered : goal.check_receipts-requires-clause-ordered
+check_receipts-requires-clause-ordered g c =
+    let making = g.B.Tells.making in
+    let traces : traces_of c.in_ok-merge.field-0.nodes ≡ traces_of c.in_ok-nodes.nodes.items =
+    c.in_ok-merge.ensures.traces in
     rw (c.as_slice-3.ensures.value, c.into_parts-nodes.ensures.nodes)
-    c.into_parts-nodes.ensures.merging.apart
+    (subst (λ (l : List (Traced _)). HaveOrder (trails_of making l)) (sym traces)
+    c.in_ok-merge.ensures.ordered)
+
+pub returns-in_err-check_receipts-clause-refused : goal.returns-in_err-check_receipts-clause-refused
+returns-in_err-check_receipts-clause-refused g c =
+    let making = g.B.Tells.making in
+    let out = c.from_residual-in_err-check_receipts in
+    let p = err_from_is_err_and out.result out.ensures.1 in
+    let traces : traces_of c.in_ok-merge.field-0.nodes ≡ c.args.traces.items =
+    c.in_ok-merge.ensures.traces ∙ c.in_ok-nodes.ensures.traces_are in
+    let refused = rw (c.as_slice-3.ensures.value, c.into_parts-nodes.ensures.nodes)
+    at c.in_err-check_receipts.ensures.refused in
+    rw (p.1, p.2) (subst (λ (l : List (Traced _)). IsRefused (trails_of making l)
+    c.args.receipts.now c.in_err-check_receipts.field-0.0) traces refused)
 
 pub of-requires : goal.of-requires
 of-requires g c =

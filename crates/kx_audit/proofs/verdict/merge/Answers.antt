@@ -1,9 +1,10 @@
 use Rattle.std.proofs.Common.{◌≡◌, ◌∙◌, List, ap, rules, subst}
 use Rattle.std.specs.Prelude.{IsFalse, IsTrue}
 use Rattle.kx_audit.specs.Merged.{Merged}
-use Rattle.kx_audit.specs.Refused.{AreStuck}
+use Rattle.kx_audit.specs.Refused.{AreStuck, HaveOrder}
 use Rattle.kx_audit.specs.Replayed.{traces_of, trails_of}
 use Rattle.kx_nodes.specs.Replay.{Traced}
+use Rattle.kx_audit.proofs.Done.{have_order}
 use Rattle.kx_audit.proofs.Stuck.{are_stuck}
 use Rattle.kx_audit.proofs.verdict.merge.Goals as goal
 
@@ -26,3 +27,15 @@ returns-then-not-is_done-clause-refused g c = λ _.
 pub returns-clause-done : goal.returns-clause-done
 returns-clause-done g c =
     let done : IsTrue c.is_done.result = search rules in c.is_done.ensures.done done
+
+pub returns-clause-ordered : goal.returns-clause-ordered
+returns-clause-ordered g c =
+    let making = g.B.Tells.making in
+    let m = c.in_ok-merged.merged in
+    let traces : traces_of m.nodes ≡ traces_of c.args.nodes.items =
+    c.in_ok-merged.ensures.traces
+    ∙ ap (λ (n : Merged _ _). traces_of n.nodes) c.start.ensures in
+    let done : IsTrue c.is_done.result = search rules in
+    subst (λ (l : List (Traced _)). HaveOrder (trails_of making l)) traces
+    (have_order making g.B.Machine.Machine.stands m c.is_done.ensures.merging
+    (c.is_done.ensures.done done))

@@ -6,6 +6,6 @@ use Rattle.kx_broker.proofs.fetch.answer_fetch.Goals as goal
 
 pub returns-in-Ok-clause-defined : goal.returns-in-Ok-clause-defined
 returns-in-Ok-clause-defined c = λ answer is.
-    if_ok c.page_reply.result c.page_reply.ensures (λ message e.
+    if_ok c.page_reply.result c.page_reply.ensures.ok (λ message e.
     e ∙ page_replied c.args.it.now answer c.in-Ok.page
     (subst (IsFetched answer) c.in-Ok.is is))

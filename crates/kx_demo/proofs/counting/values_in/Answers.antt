@@ -3,7 +3,7 @@ use Rattle.std.proofs.lemmas.Result.{IfOk-weaker}
 use Rattle.kx_cluster.specs.Any.{any_state}
 use Rattle.kx_demo.specs.Counting.{AreCommitted, IsThere, committed_in, texts, value_of}
 use Rattle.kx_model.specs.Reading.{committed_of}
-use Rattle.kx_script.specs.Prefixed.{images_of}
+use Rattle.kx_processor.specs.Prefixed.{images_of}
 use Rattle.kx_demo.proofs.WholePage.{gets_whole}
 use Rattle.kx_demo.proofs.counting.values_in.Goals as goal
 

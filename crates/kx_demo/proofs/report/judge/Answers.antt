@@ -5,7 +5,7 @@ use Rattle.kx_audit.specs.Replayed.{trails_of}
 use Rattle.kx_cluster.specs.Any.{any_making}
 use Rattle.kx_demo.specs.declared.fault.DemoFault.TheVariants as fault
 use Rattle.kx_demo.specs.Telling.{Fails, SaysNo, SaysYes, line}
-use Rattle.kx_script.specs.Prefixed.{images_of}
+use Rattle.kx_processor.specs.Prefixed.{images_of}
 use Rattle.kx_demo.proofs.Endings.{fails, memory_is_other, write_fails}
 use Rattle.kx_demo.proofs.report.judge.Goals as goal
 

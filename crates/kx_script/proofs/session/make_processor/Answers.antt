@@ -2,7 +2,7 @@ use Rattle.std.proofs.Common.{◌≡◌, ℕ, true, Some, refl, sym, ap, ◌∙�
 use Rattle.std.proofs.lemmas.Result.{OkIff-at_ok}
 use Rattle.kx_model.specs.World.{is_new}
 use Rattle.kx_system.specs.System.{SystemEvent, MakeProcessor}
-use Rattle.kx_script.specs.Prefixed.{image_of}
+use Rattle.kx_processor.specs.Prefixed.{image_of}
 use Rattle.kx_script.proofs.Occurring.{occurs}
 use Rattle.kx_script.proofs.Performing.{where_it_holds}
 use Rattle.kx_script.proofs.session.make_processor.Goals as goal

@@ -2,8 +2,8 @@ use Rattle.std.specs.Prelude.{nat_lt}
 use Rattle.kx_broker.proofs.Taking.{delivered_any}
 use Rattle.kx_broker.proofs.machine.PartitionMachine.deliver.Goals as goal
 
-pub returns : goal.returns
-returns g c =
+pub returns-clause-taken : goal.returns-clause-taken
+returns-clause-taken g c =
     delivered_any c.args.self.now c.serve.new.self c.args.message.now c.in_ok-messages.messages
     (nat_lt c.failures-before.result c.failures.result) c.in_ok-messages.ensures.ok
     (λ i. nat_lt (c.failures-before.ensures i) (c.failures.ensures i))

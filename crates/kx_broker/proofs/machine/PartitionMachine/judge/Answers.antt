@@ -57,31 +57,28 @@ returns-in-Unverified-clause-err g c =
     ∙ c.self.view_is in
     on_err c.park.result c.park.ensures.err (λ e. e ∙ same)
 
-pub returns : goal.returns
-returns g c = record {
-  ok = λ number p is.
-      let inside = c.self.inside in
-      let it = c.args.it.now in
-      let answer = c.in_ok-answer.answer in
-      let old = serving inside.number inside.partition inside.guard in
-      let new = serving inside.number c.produce.new.self inside.guard in
-      let known : IsHeld inside.partition = record {
-        placed = c.end-end.ensures.log;
-        grown = c.end-end.ensures.grown;
-        holds = c.end-end.ensures.store;
-      } in
-      let text = c.as_slice-text.ensures in
-      let bytes = subst IsBytes text c.bytes_fit.ensures in
-      let judged = subst (λ t. IsProduced t false inside.partition c.produce.new.self answer) text
-      c.in_ok-answer.ensures.answer in
-      let fits : FitsSigned w64 c.offset_of.result = search rules in
-      let offset = to_z-of_z w64 c.offset_of.result fits ∙ c.offset_of.ensures in
-      let reply = c.reply.ensures
-      ∙ λ i. the.ProduceReply it.caller it.partition (c.code.ensures i) (offset i) in
-      as_seen (IsServed number) p old c.args.self.now new
-      (λ store. on_request number p store (request_of (msg.Produce it))) _ c.only.result
-      c.self.view_is (c.only.ensures ∙ ap (λ (m : Message). m ∷ []) reply)
-      (λ stands. answered_as number p old stands it known c.produce.new.self answer bytes judged
-      c.in_default.not-Unverified) is;
-  err = tt;
-}
+pub returns-clause-ok : goal.returns-clause-ok
+returns-clause-ok g c = λ number p is.
+    let inside = c.self.inside in
+    let it = c.args.it.now in
+    let answer = c.in_ok-answer.answer in
+    let old = serving inside.number inside.partition inside.guard in
+    let new = serving inside.number c.produce.new.self inside.guard in
+    let known : IsHeld inside.partition = record {
+      placed = c.end-end.ensures.log;
+      grown = c.end-end.ensures.grown;
+      holds = c.end-end.ensures.store;
+    } in
+    let text = c.as_slice-text.ensures in
+    let bytes = subst IsBytes text c.bytes_fit.ensures in
+    let judged = subst (λ t. IsProduced t false inside.partition c.produce.new.self answer) text
+    c.in_ok-answer.ensures.answer in
+    let fits : FitsSigned w64 c.offset_of.result = search rules in
+    let offset = to_z-of_z w64 c.offset_of.result fits ∙ c.offset_of.ensures in
+    let reply = c.reply-reply.ensures
+    ∙ λ i. the.ProduceReply it.caller it.partition (c.code.ensures i) (offset i) in
+    as_seen (IsServed number) p old c.args.self.now new
+    (λ store. on_request number p store (request_of (msg.Produce it))) _ c.one.result
+    c.self.view_is (c.one.ensures ∙ ap (λ (m : Message). m ∷ []) reply)
+    (λ stands. answered_as number p old stands it known c.produce.new.self answer bytes judged
+    c.in_default.not-Unverified) is

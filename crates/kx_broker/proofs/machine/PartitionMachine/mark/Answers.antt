@@ -32,8 +32,8 @@ returns-clause-ok g c = λ number p is.
     ap (λ s. s.number) c.self.view_is ∙ is.number_is in
     as_seen (IsServed number) p old c.args.self.now new
     (λ store. on_marker number p store it.txn it.held m)
-    (the.MarkerReply number it.txn it.held c.in_ok-code.code ∷ []) c.only.result c.self.view_is
-    (c.only.ensures
+    (the.MarkerReply number it.txn it.held c.in_ok-code.code ∷ []) c.one.result c.self.view_is
+    (c.one.ensures
     ∙ ap (λ n. the.MarkerReply n it.txn it.held c.in_ok-code.code ∷ []) own)
     (λ stands. marked_as number p old stands known it.txn it.held m c.marker.new.self
     c.in_ok-code.code fits answer) is

@@ -17,5 +17,4 @@ returns-else-eq-clause-ok g c = λ number p is.
     let it = c.args.it.now in
     let other = ap (λ n. it.partition == n) (sym (c.number.ensures ∙ is.number_is))
     ∙ sym c.eq.ensures ∙ c.if-eq.false in
-    if_ok c.refuse.result c.refuse.ensures
-    (λ messages e. produce_other number p c.args.self.now is messages it other e)
+    produce_other number p c.args.self.now is c.refuse.result it other c.refuse.ensures

@@ -13,7 +13,7 @@ returns-in-Fetch-clause-ok g c = λ number p is.
     let old = c.args.self.now in
     subst (λ (m : Message). IfOk c.fetch.result (Serves (IsServed number) p old old
     (λ store. data_takes number p store m))) (sym c.in-Fetch.is)
-    (if_ok c.fetch.result c.fetch.ensures
+    (if_ok c.fetch.result c.fetch.ensures.ok
     (λ messages e. fetch_served number p old is messages it e))
 
 pub returns-in_default-clause-ok : goal.returns-in_default-clause-ok

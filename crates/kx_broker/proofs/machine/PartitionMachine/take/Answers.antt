@@ -7,8 +7,8 @@ use Rattle.kx_broker.proofs.Taking.{unread_any}
 use Rattle.kx_machine.specs.Meaning.{input_of}
 use Rattle.kx_broker.proofs.machine.PartitionMachine.take.Goals as goal
 
-pub returns-in_ok-answer-in-Put : goal.returns-in_ok-answer-in-Put
-returns-in_ok-answer-in-Put g c = λ state stands.
+pub returns-in_ok-answer-in-Put-clause-taken : goal.returns-in_ok-answer-in-Put-clause-taken
+returns-in_ok-answer-in-Put-clause-taken g c = λ state stands.
     let old = c.args.self.now in
     let new = c.put.new.self in
     let values = c.in-Put.values in
@@ -19,8 +19,8 @@ returns-in_ok-answer-in-Put g c = λ state stands.
     c.in_ok-answer-in-Put.ensures.ok
     (λ i. nat_lt (c.failures-before.ensures i) (c.failures.ensures i)) state stands)
 
-pub returns-in-Read : goal.returns-in-Read
-returns-in-Read g c = λ state stands.
+pub returns-in-Read-clause-taken : goal.returns-in-Read-clause-taken
+returns-in-Read-clause-taken g c = λ state stands.
     let old = c.args.self.now in
     let new = c.restart.new.self in
     let failed = nat_lt c.failures-before.result c.failures-in-Read.result in
@@ -31,8 +31,8 @@ returns-in-Read g c = λ state stands.
     (c.in_ok-found-in-Restart.ensures number p is))
     (λ i. nat_lt (c.failures-before.ensures i) (c.failures-in-Read.ensures i)) state stands)
 
-pub returns-in-Unread : goal.returns-in-Unread
-returns-in-Unread g c = λ state stands.
+pub returns-in-Unread-clause-taken : goal.returns-in-Unread-clause-taken
+returns-in-Unread-clause-taken g c = λ state stands.
     let old = c.args.self.now in
     let new = c.restart.new.self in
     let failed = nat_lt c.failures-before.result c.failures-in-Unread.result in
@@ -43,8 +43,8 @@ returns-in-Unread g c = λ state stands.
     c.in-Unread.is (c.in_ok-found-in-Restart.ensures number p is))
     (λ i. nat_lt (c.failures-before.ensures i) (c.failures-in-Unread.ensures i)) state stands)
 
-pub returns-in-Command : goal.returns-in-Command
-returns-in-Command g c = λ state stands.
+pub returns-in-Command-clause-taken : goal.returns-in-Command-clause-taken
+returns-in-Command-clause-taken g c = λ state stands.
     let old = c.args.self.now in
     taken_as state (MayDo old) (λ s. StandsFor s old) (input_of c.args.input.now)
     (input_of c.args.input.now) _ c.answer-in-Command.result (λ i. input_of c.args.input.now)

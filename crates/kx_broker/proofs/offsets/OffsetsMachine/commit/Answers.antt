@@ -1,5 +1,6 @@
 use Rattle.std.proofs.Common.{◌∙◌, ◌∷◌, [], ap, subst, sym, false}
 use Rattle.std.specs.Prelude.{IfOk}
+use Rattle.kx_broker.specs.Memory.{GroupsMayLack}
 use Rattle.kx_broker.specs.Offsets.{KeepsOffsets}
 use Rattle.kx_broker.specs.Serving.{Serves, Serving}
 use Rattle.kx_broker.proofs.Messages.{asks}
@@ -17,15 +18,15 @@ use Rattle.kx_model.specs.Log.{entries}
 use Rattle.kx_model.specs.PartitionNode.{offsets_takes}
 use Rattle.kx_broker.proofs.offsets.OffsetsMachine.commit.Goals as goal
 
-pub park-requires-clause-asks : goal.park-requires-clause-asks
-park-requires-clause-asks g c =
+pub park-requires : goal.park-requires
+park-requires g c =
     let it = c.args.it.now in
     let old = c.self.inside.groups in
     let judged = λ (l : LogState). judge_offsets (entries l.batches) false it.group it.member
     it.generation (text_of it) in
     let asked = asks old.closed (judged old) (text_of it) old c.txn_offset_commit.new.self
     c.in_ok-answer.answer c.in_ok-answer.ensures.answer c.in-Unverified.is in
-    ap judged asked.1 ∙ asked.0
+    record { asks = ap judged asked.1 ∙ asked.0 }
 
 pub returns-in-Unverified-clause-ok : goal.returns-in-Unverified-clause-ok
 returns-in-Unverified-clause-ok g c = λ p is.
@@ -54,20 +55,30 @@ returns-in-Unverified-clause-err g c =
     ∙ c.self.view_is in
     on_err c.park.result c.park.ensures.err (λ e. e ∙ same)
 
-pub returns : goal.returns
-returns g c = record {
-  ok = λ p is.
-      let inside = c.self.inside in
-      let it = c.args.it.now in
-      let answer = c.in_ok-answer.answer in
-      let old = serving offsets_partition inside.groups inside.parked in
-      let new = serving offsets_partition c.txn_offset_commit.new.self inside.parked in
-      let reply = c.reply.ensures ∙ ap (the.OffsetsReply it.caller) c.code.ensures in
-      as_seen KeepsOffsets p old c.args.self.now new
-      (λ store. offsets_takes p store (msg.TxnOffsetCommit it)) _ c.only.result
-      c.self.view_is (c.only.ensures ∙ ap (λ (m : Message). m ∷ []) reply)
-      (λ stands. commit_answered p old stands it c.end_of-end.ensures.kept c.commits_fit.ensures
-      c.txn_offset_commit.new.self answer c.in_ok-answer.ensures.answer
-      c.in_default.not-Unverified) is;
-  err = tt;
-}
+pub returns-in-Unverified-clause-memory : goal.returns-in-Unverified-clause-memory
+returns-in-Unverified-clause-memory g c = λ e.
+    let it = c.args.it.now in
+    let inside = c.self.inside in
+    let old = inside.groups in
+    let asked = asks old.closed (judge_offsets (entries old.batches) false it.group it.member
+    it.generation (text_of it)) (text_of it) old c.txn_offset_commit.new.self
+    c.in_ok-answer.answer c.in_ok-answer.ensures.answer c.in-Unverified.is in
+    let same = ap (λ (l : LogState). serving offsets_partition l inside.parked) asked.1
+    ∙ c.self.view_is in
+    subst (λ (o : Serving). GroupsMayLack o (msg.TxnOffsetCommit it)) same
+    (c.park.ensures.memory e)
+
+pub returns-clause-ok : goal.returns-clause-ok
+returns-clause-ok g c = λ p is.
+    let inside = c.self.inside in
+    let it = c.args.it.now in
+    let answer = c.in_ok-answer.answer in
+    let old = serving offsets_partition inside.groups inside.parked in
+    let new = serving offsets_partition c.txn_offset_commit.new.self inside.parked in
+    let reply = c.reply.ensures ∙ ap (the.OffsetsReply it.caller) c.code.ensures in
+    as_seen KeepsOffsets p old c.args.self.now new
+    (λ store. offsets_takes p store (msg.TxnOffsetCommit it)) _ c.one.result
+    c.self.view_is (c.one.ensures ∙ ap (λ (m : Message). m ∷ []) reply)
+    (λ stands. commit_answered p old stands it c.end_of-end.ensures.kept c.commits_fit.ensures
+    c.txn_offset_commit.new.self answer c.in_ok-answer.ensures.answer
+    c.in_default.not-Unverified) is

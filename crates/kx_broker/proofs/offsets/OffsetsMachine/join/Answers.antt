@@ -15,8 +15,8 @@ returns-clause-ok g c = λ p is.
     let new = serving offsets_partition c.join.new.self inside.parked in
     let reply = c.in_ok-reply.reply in
     as_seen KeepsOffsets p old c.args.self.now new
-    (λ store. offsets_takes p store (msg.Join it)) (msg.JoinReply reply ∷ []) c.only.result
-    c.self.view_is c.only.ensures
+    (λ store. offsets_takes p store (msg.Join it)) (msg.JoinReply reply ∷ []) c.one.result
+    c.self.view_is c.one.ensures
     (λ stands. joined_as p old stands c.end_of-end.ensures.kept it.group c.member_fits.ensures.name
     it.caller c.join.new.self reply.code (msg.JoinReply reply) c.member_fits.ensures.number
     c.in_ok-reply.ensures.answer.0 c.in_ok-reply.ensures.answer.1) is

@@ -16,7 +16,7 @@ returns-clause-ok g c = λ p is.
     let new = serving offsets_partition c.leave.new.self inside.parked in
     as_seen KeepsOffsets p old c.args.self.now new
     (λ store. offsets_takes p store (msg.Leave it))
-    (the.LeaveReply it.caller c.in_ok-code.code ∷ []) c.only.result c.self.view_is c.only.ensures
+    (the.LeaveReply it.caller c.in_ok-code.code ∷ []) c.one.result c.self.view_is c.one.ensures
     (λ stands. left_as p old stands c.end_of-end.ensures.kept it.group c.member_fits.ensures.name
     it.caller c.leave.new.self c.in_ok-code.code c.member_fits.ensures.number
     c.in_ok-code.ensures.answer) is

@@ -26,7 +26,7 @@ returns-clause-ok g c = λ p is.
     let new = serving offsets_partition c.marker.new.self inside.parked in
     as_seen KeepsOffsets p old c.args.self.now new
     (λ store. on_marker offsets_partition p store it.txn it.held m)
-    (the.MarkerReply offsets_partition it.txn it.held c.in_ok-code.code ∷ []) c.only.result
-    c.self.view_is c.only.ensures
+    (the.MarkerReply offsets_partition it.txn it.held c.in_ok-code.code ∷ []) c.one.result
+    c.self.view_is c.one.ensures
     (λ stands. marked_as p old stands c.end_of-end.ensures.kept it.txn it.held m c.marker.new.self
     c.in_ok-code.code fits answer) is

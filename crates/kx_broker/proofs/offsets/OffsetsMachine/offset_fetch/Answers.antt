@@ -4,7 +4,6 @@ use Rattle.std.specs.Int.RustNames.{FitsSigned}
 use Rattle.std.proofs.lemmas.Int.{to_z-of_z}
 use Rattle.kx_broker.specs.Serving.{Serving}
 use Rattle.kx_broker.proofs.OffsetsMessages.{offset_fetched}
-use Rattle.kx_group.proofs.Answers.{if_ok}
 use Rattle.kx_message.specs.Messages as the
 use Rattle.kx_model.specs.Groups.{OffsetAnswer, offset_fetch}
 use Rattle.kx_model.specs.Log.{entries}
@@ -17,9 +16,8 @@ returns g c = λ p is.
     record { code = c.offset_fetch-code.result.0; offset = c.offset_fetch-code.result.1 } in
     let fits : FitsSigned w64 a.offset = search rules in
     let number = to_z-of_z w64 a.offset fits in
-    if_ok c.one.result c.one.ensures
-    (λ messages e. offset_fetched p c.args.self.now is it a messages
+    offset_fetched p c.args.self.now is it a c.one.result
     (c.offset_fetch-code.ensures
     ∙ ap (λ (o : Serving). offset_fetch (entries o.log.batches) it.group it.partition it.stable)
     c.self.view_is)
-    (e ∙ λ i. the.OffsetFetchReply it.caller a.code (number i) ∷ []))
+    (c.one.ensures ∙ λ i. the.OffsetFetchReply it.caller a.code (number i) ∷ [])

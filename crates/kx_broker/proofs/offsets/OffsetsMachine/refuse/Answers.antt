@@ -1,6 +1,5 @@
 use Rattle.std.proofs.Common.{◌∙◌, ◌∷◌, [], ap, sym}
 use Rattle.kx_broker.proofs.OffsetsMessages.{batch_other, batch_own}
-use Rattle.kx_group.proofs.Answers.{if_ok}
 use Rattle.kx_message.specs.declared.message.Message.{Message}
 use Rattle.kx_broker.proofs.offsets.OffsetsMachine.refuse.Goals as goal
 
@@ -11,7 +10,6 @@ returns-then-eq g c = λ p is.
 
 pub returns-else-eq : goal.returns-else-eq
 returns-else-eq g c = λ p is.
-    if_ok c.one.result c.one.ensures
-    (λ messages e. batch_other p c.args.self.now is messages c.args.it.now
+    batch_other p c.args.self.now is c.one.result c.args.it.now
     (sym c.eq.ensures ∙ c.if-eq.false)
-    (e ∙ ap (λ (m : Message). m ∷ []) c.refused_batch.ensures))
+    (c.one.ensures ∙ ap (λ (m : Message). m ∷ []) c.refused_batch.ensures)

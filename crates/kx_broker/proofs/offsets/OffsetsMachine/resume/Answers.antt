@@ -2,6 +2,7 @@ use Rattle.std.proofs.Common.{◌∙◌, ap, length}
 use Rattle.kx_broker.specs.Offsets.{KeepsOffsets}
 use Rattle.kx_broker.specs.Serving.{told_each}
 use Rattle.kx_broker.proofs.OffsetsMessages.{commits_resumed}
+use Rattle.kx_broker.proofs.OffsetsParked.{resumed_as}
 use Rattle.kx_broker.proofs.Resuming.{resumed_each}
 use Rattle.kx_broker.proofs.Served.{as_seen, serving}
 use Rattle.kx_message.specs.Ranges.{offsets_partition}
@@ -13,7 +14,10 @@ pub tell-replies-requires-clause-same : goal.tell-replies-requires-clause-same
 tell-replies-requires-clause-same g c =
     ap length c.as_slice.ensures.value
     ∙ resumed_each c.of_held-requests.result.now c.self.inside.groups c.resume.new.self
-    c.in_ok-answers.answers.items c.in_ok-answers.ensures.answers
+    c.in_ok-answers.answers.items
+    (resumed_as c.of_held-requests.result.now c.self.inside.groups c.resume.new.self
+    c.in_ok-answers.answers.items c.of_held-requests.ensures.alike
+    c.in_ok-answers.ensures.answers)
 
 pub returns-clause-ok : goal.returns-clause-ok
 returns-clause-ok g c = λ p is.
@@ -30,4 +34,5 @@ returns-clause-ok g c = λ p is.
     ∙ ap (told_each requests) c.as_slice.ensures.value)
     (λ stands. commits_resumed p old stands held c.forget.new.self c.forget.ensures requests
     c.resume.new.self answers c.end_of-end.ensures.kept c.of_held-requests.ensures.value
-    c.in_ok-answers.ensures.answers) is
+    (resumed_as requests inside.groups c.resume.new.self answers c.of_held-requests.ensures.alike
+    c.in_ok-answers.ensures.answers)) is

@@ -53,17 +53,17 @@ returns-in-WriteMarker-clause-ok g c = λ p is.
 pub returns-in-OffsetFetch-clause-ok : goal.returns-in-OffsetFetch-clause-ok
 returns-in-OffsetFetch-clause-ok g c = λ p is.
     let old = c.args.self.now in
-    subst (λ (m : Message). IfOk c.offset_fetch.result (Serves KeepsOffsets p old old
-    (λ store. offsets_takes p store m))) (sym c.in-OffsetFetch.is) (c.offset_fetch.ensures p is)
+    subst (λ (m : Message). Serves KeepsOffsets p old old (λ store. offsets_takes p store m)
+    c.offset_fetch.result) (sym c.in-OffsetFetch.is) (c.offset_fetch.ensures p is)
 
 pub returns-in-Produce-clause-ok : goal.returns-in-Produce-clause-ok
 returns-in-Produce-clause-ok g c = λ p is.
     let old = c.args.self.now in
-    subst (λ (m : Message). IfOk c.refuse.result (Serves KeepsOffsets p old old
-    (λ store. offsets_takes p store m))) (sym c.in-Produce.is) (c.refuse.ensures p is)
+    subst (λ (m : Message). Serves KeepsOffsets p old old (λ store. offsets_takes p store m)
+    c.refuse.result) (sym c.in-Produce.is) (c.refuse.ensures p is)
 
 pub returns-in-Fetch-clause-ok : goal.returns-in-Fetch-clause-ok
 returns-in-Fetch-clause-ok g c = λ p is.
     let old = c.args.self.now in
     subst (λ (m : Message). IfOk c.fetch.result (Serves KeepsOffsets p old old
-    (λ store. offsets_takes p store m))) (sym c.in-Fetch.is) (c.fetch.ensures p is)
+    (λ store. offsets_takes p store m))) (sym c.in-Fetch.is) (c.fetch.ensures.ok p is)

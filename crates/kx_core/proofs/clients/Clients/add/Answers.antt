@@ -1,7 +1,8 @@
 use Rattle.std.proofs.Common.{◌≡◌, List, true, subst, sym, ap, ◌∙◌}
 use Rattle.kx_core.proofs.Rising.{Rising, rising_push}
-use Rattle.kx_core.specs.Clients.{client_of, clients_in}
-use Rattle.kx_core.specs.declared.any_client.AnyClient.{AnyClient}
+use Rattle.kx_core.specs.Clients.{clients_in}
+use Rattle.kx_client_node.specs.Clients.{client_of}
+use Rattle.kx_client_node.specs.declared.any_client.AnyClient.{AnyClient}
 use Rattle.kx_model.specs.World.{is_new}
 use Rattle.kx_core.proofs.clients.Clients.add.Goals as goal
 

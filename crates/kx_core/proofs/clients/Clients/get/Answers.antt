@@ -1,7 +1,8 @@
 use Rattle.std.proofs.Common.{◌≡◌, List, Some, subst, sym}
 use Rattle.std.specs.Prelude.{slice_get}
-use Rattle.kx_core.specs.Clients.{client_in, client_of, clients_in}
-use Rattle.kx_core.specs.declared.any_client.AnyClient.{AnyClient}
+use Rattle.kx_core.specs.Clients.{client_in, clients_in}
+use Rattle.kx_client_node.specs.Clients.{client_of}
+use Rattle.kx_client_node.specs.declared.any_client.AnyClient.{AnyClient}
 use Rattle.kx_core.proofs.Turns.{looked_up}
 use Rattle.kx_core.proofs.clients.Clients.get.Goals as goal
 

@@ -4,8 +4,9 @@ use Rattle.std.specs.Prelude.{slice_get}
 use Rattle.std.proofs.lemmas.Bool.Decides.{Decides-ltb, Decides-eqb}
 use Rattle.std.proofs.lemmas.Fn.{always_returns_same}
 use Rattle.std.proofs.lemmas.Option.{get_or_from_slice_get, slice_get_read}
-use Rattle.kx_core.specs.Clients.{client_in, client_of, clients_in}
-use Rattle.kx_core.specs.declared.any_client.AnyClient.{AnyClient}
+use Rattle.kx_core.specs.Clients.{client_in, clients_in}
+use Rattle.kx_client_node.specs.Clients.{client_of}
+use Rattle.kx_client_node.specs.declared.any_client.AnyClient.{AnyClient}
 use Rattle.kx_core.proofs.Rising.{Rising, absent_at, at_least_number, below_first}
 use Rattle.kx_core.proofs.clients.Clients.place_of.Goals as goal
 

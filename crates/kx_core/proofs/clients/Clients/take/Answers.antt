@@ -1,7 +1,8 @@
 use Rattle.std.proofs.Common.{◌≡◌, List, Some, ap, refl, rules, subst, sym, ◌∙◌}
 use Rattle.std.specs.Prelude.{slice_get, slice_set}
-use Rattle.kx_core.specs.Clients.{TakesAt, all_of, state_of}
-use Rattle.kx_core.specs.declared.any_client.AnyClient.{AnyClient}
+use Rattle.kx_core.specs.Clients.{TakesAt, all_of}
+use Rattle.kx_client_node.specs.Clients.{state_of}
+use Rattle.kx_client_node.specs.declared.any_client.AnyClient.{AnyClient}
 use Rattle.kx_core.proofs.Turns.{refused_at, taken_at}
 use Rattle.kx_core.specs.World.{given}
 use Rattle.kx_core.proofs.clients.Clients.take.Goals as goal

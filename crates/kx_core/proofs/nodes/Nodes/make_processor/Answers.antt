@@ -1,7 +1,7 @@
 use Rattle.std.proofs.Common.{◌∙◌, List, ap, subst, sym}
 use Rattle.kx_core.specs.Clients.{clients_in}
 use Rattle.kx_core.specs.World.{StandForAll}
-use Rattle.kx_core.specs.declared.any_client.AnyClient.{AnyClient}
+use Rattle.kx_client_node.specs.declared.any_client.AnyClient.{AnyClient}
 use Rattle.kx_core.proofs.Happening.{no_processor_made, processor_made}
 use Rattle.kx_core.proofs.Standing.{matched}
 use Rattle.kx_model.specs.World.{is_new}

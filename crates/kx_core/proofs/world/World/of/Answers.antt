@@ -1,6 +1,6 @@
 use Rattle.std.proofs.Common.{List, length, subst, sym}
 use Rattle.kx_core.specs.World.{StandForAll}
-use Rattle.kx_core.specs.declared.any_client.AnyClient.{AnyClient}
+use Rattle.kx_client_node.specs.declared.any_client.AnyClient.{AnyClient}
 use Rattle.kx_core.proofs.Running.{begins}
 use Rattle.kx_system.specs.System.{start_system}
 use Rattle.kx_core.proofs.world.World.of.Goals as goal

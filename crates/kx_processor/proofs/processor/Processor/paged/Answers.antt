@@ -10,8 +10,8 @@ use Rattle.kx_processor.proofs.Told.{at_page, has_page}
 use Rattle.kx_system.specs.Processor.{fetched, from_offset}
 use Rattle.kx_processor.proofs.processor.Processor.paged.Goals as goal
 
-pub returns-in_ok-behind-in-Ok : goal.returns-in_ok-behind-in-Ok
-returns-in_ok-behind-in-Ok g c =
+pub returns-in_ok-behind-in-Ok-clause-ok : goal.returns-in_ok-behind-in-Ok-clause-ok
+returns-in_ok-behind-in-Ok-clause-ok g c =
     let at = c.in-Fetching in
     let reply = c.args.reply.now in
     let inside = c.self.inside in

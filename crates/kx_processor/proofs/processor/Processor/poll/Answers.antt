@@ -10,21 +10,21 @@ use Rattle.kx_processor.proofs.Steps.{poll_answers, running, no_id, an_id, overf
 use Rattle.kx_system.specs.Processor.{Stopped, has_failed, is_overflown, is_waiting}
 use Rattle.kx_processor.proofs.processor.Processor.poll.Goals as goal
 
-pub returns-then-has_failed : goal.returns-then-has_failed
-returns-then-has_failed g c =
+pub returns-then-has_failed-clause-polled : goal.returns-then-has_failed-clause-polled
+returns-then-has_failed-clause-polled g c =
     poll_failed (processor_of g.P.Process.image_of c.args.self.now)
     (sym c.has_failed.ensures ∙ c.if-has_failed.true)
 
-pub returns-then-is_waiting : goal.returns-then-is_waiting
-returns-then-is_waiting g c =
+pub returns-then-is_waiting-clause-polled : goal.returns-then-is_waiting-clause-polled
+returns-then-is_waiting-clause-polled g c =
     let of = processor_of g.P.Process.image_of in
     poll_waits (of c.args.self.now) (sym c.has_failed.ensures ∙ c.if-has_failed.false)
     (subst (λ r. is_waiting r.client ≡ true) c.self.view_is
     (sym c.is_waiting.ensures ∙ c.if-is_waiting.true))
     ∙ ap (serves (of c.args.self.now)) (sym c.new.ensures.items)
 
-pub returns-then-not-has_id : goal.returns-then-not-has_id
-returns-then-not-has_id g c =
+pub returns-then-not-has_id-clause-polled : goal.returns-then-not-has_id-clause-polled
+returns-then-not-has_id-clause-polled g c =
     poll_not_ready (processor_of g.P.Process.image_of c.args.self.now)
     (sym c.has_failed.ensures ∙ c.if-has_failed.false)
     (subst (λ r. is_waiting r.client ≡ false) c.self.view_is
@@ -32,8 +32,8 @@ returns-then-not-has_id g c =
     (subst (λ r. is_none r.client.held ≡ true) c.self.view_is
     (no_id c.self.inside.client.held (sym c.has_id.ensures ∙ c.if-not-has_id.true)))
 
-pub returns-then-is_overflown : goal.returns-then-is_overflown
-returns-then-is_overflown g c =
+pub returns-then-is_overflown-clause-polled : goal.returns-then-is_overflown-clause-polled
+returns-then-is_overflown-clause-polled g c =
     let of = processor_of g.P.Process.image_of in
     let inside = c.self.inside in
     let here = running inside.group inside.inputs inside.process (stage_of inside.stage)
@@ -48,8 +48,8 @@ returns-then-is_overflown g c =
     (overflown (stage_of inside.stage)
     (sym c.is_overflown.ensures ∙ c.if-is_overflown.true)))
 
-pub returns : goal.returns
-returns g c =
+pub returns-clause-polled : goal.returns-clause-polled
+returns-clause-polled g c =
     let of = processor_of g.P.Process.image_of in
     let view_is = c.self.view_is in
     poll_answers g.P.Process.image_of c.args.self.now c.next.new.self

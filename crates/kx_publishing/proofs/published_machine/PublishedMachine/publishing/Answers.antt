@@ -1,15 +1,15 @@
-use Rattle.std.proofs.Common.{rules, ◌≡◌}
-use Rattle.kx_machine.specs.Meaning.{AtPartition}
-use Rattle.kx_model.specs.PartitionNode.{empty_partition}
-use Rattle.kx_publishing.proofs.Publishing.{behind_begins}
+use Rattle.std.proofs.Common.{List, ◌++◌, ap, rules}
+use Rattle.kx_model.specs.Log.{Stored}
+use Rattle.kx_publishing.proofs.Showing.{runs_with}
 use Rattle.kx_publishing.proofs.published_machine.PublishedMachine.publishing.Goals as goal
 
 pub invariant_of-result : goal.invariant_of-result
 invariant_of-result g c =
-    let t = c.new-2.result.trace in
-    let made : g.B.Made.state t.made ≡ AtPartition c.args.opened.partition empty_partition =
-    search rules in (
-      behind_begins g.B.Made.state t c.args.opened.partition c.in_ok-publisher.publisher
-          made (search rules) (search rules),
+    let wrote = c.requires.wrote in
+    let log = g.L.Readable.log c.args.locked in
+    let done = c.in_ok-publisher.publisher in (
+      runs_with g.L.Locked.stands g.L.Readable.log g.met.L.Readable.log_is c.args.locked wrote.0
+          wrote.1 wrote.2 done
+          (log, ap (λ (l : List Stored). l ++ log) c.in_ok-publisher.ensures.2),
       search rules,
     )

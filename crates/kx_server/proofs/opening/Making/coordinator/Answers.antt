@@ -3,8 +3,7 @@ use Rattle.kx_coord_node.specs.Stands.{opened_coordinator}
 use Rattle.kx_machine.specs.Meaning.{AtCoordinator}
 use Rattle.kx_server.proofs.opening.Making.coordinator.Goals as goal
 
--- src/opening.rt:140:20
-pub new-requires : goal.new-requires
-new-requires g c =
+pub new-locked-requires : goal.new-locked-requires
+new-locked-requires g c =
     let now = c.args.self.now.now in
     (AtCoordinator (opened_coordinator c.in-Ok.machine.log.notes now), search rules, refl)

@@ -1,9 +1,0 @@
-use Rattle.kx_cluster.proofs.Allowing.{takes_so}
-use Rattle.kx_model.specs.Step.{Comes}
-use Rattle.kx_cluster.proofs.machine.AnyMachineMachine.deliver.Goals as goal
-
-pub returns-in-Client : goal.returns-in-Client
-returns-in-Client g c = λ state.
-    takes_so c.args.self.now c.in-Client.machine c.deliver-in-Client.new.self c.in-Client.is
-    g.F.Process.image_of state (Comes c.args.message.now) c.deliver-in-Client.result
-    (c.deliver-in-Client.ensures state)

@@ -1,9 +1,0 @@
-use Rattle.kx_cluster.proofs.Allowing.{takes_so}
-use Rattle.kx_machine.specs.Meaning.{input_of}
-use Rattle.kx_cluster.proofs.machine.AnyMachineMachine.take.Goals as goal
-
-pub returns-in-Client : goal.returns-in-Client
-returns-in-Client g c = λ state.
-    takes_so c.args.self.now c.in-Client.machine c.take-in-Client.new.self c.in-Client.is
-    g.F.Process.image_of state (input_of c.args.input.now) c.take-in-Client.result
-    (c.take-in-Client.ensures state)

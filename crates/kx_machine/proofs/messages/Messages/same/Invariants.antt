@@ -1,6 +1,0 @@
-use Rattle.std.proofs.Common.{◌≡◌, take}
-use Rattle.kx_machine.proofs.messages.Messages.same.Given as goal
-
--- the messages so far are the same
-abbrev pub invariant-loop-at : goal.invariant-loop-at
-invariant-loop-at l = take l.at l.self ≡ take l.at l.other

@@ -1,0 +1,56 @@
+-- How the program ends, and what was written by then.
+use Rattle.std.proofs.Common.{◌≡◌, ◌∙◌, ◌⊎◌, ℕ, List, Bool, Option, None, Some, Result, Ok, Err}
+use Rattle.std.proofs.Common.{inl, inr, IfSome, MatchResult}
+use Rattle.std.specs.Io.KnownBytes.{Appends, Keeps}
+use Rattle.kx_demo.specs.Telling.{Tells, SaysYes, SaysNo, GaveUp, Fails}
+use Rattle.kx_demo.specs.declared.fault.DemoFault.{DemoFault}
+use Rattle.kx_program.specs.Program.{DumpsBytes, DumpsFile, Plays}
+use Rattle.kx_text.specs.Statuses.{ending_of}
+use Rattle.kx_text.specs.declared.fault.ScriptFault.{ScriptFault}
+use Rattle.kx_text.specs.declared.program.Ending.{Ending}
+use Rattle.kx_text.specs.declared.program.Ending.TheVariants as ending
+
+-- what is said of a run, and how the program ends
+pub ran_so : (known : Option (List ℕ)) (says : List ℕ → Result (Unit {0}) ScriptFault → Type 0)
+    (ran : Result (Unit {0}) ScriptFault) (how : Ending)
+    → IfSome known (λ script. says script ran) → how ≡ ending_of ran
+    → IfSome known (λ script. (r : Result (Unit {0}) ScriptFault) × says script r
+    × (how ≡ ending_of r))
+ran_so None says ran how told is = tt
+ran_so (Some script) says ran how told is = (ran, told, is)
+
+-- a file that was read, or couldn't be
+pub file_dumped : {V E : Type 0} (bytes : V → List ℕ) (read : Result V E)
+    (old new : Option (List ℕ)) (how : Ending)
+    → MatchResult read (λ v. DumpsBytes (bytes v) old new how)
+    (λ e. (how ≡ ending.Failed) × Keeps old new) → DumpsFile old new how
+file_dumped bytes (Ok v) old new how told = (Some (bytes v), told)
+file_dumped bytes (Err e) old new how told = (None, told)
+
+-- a flush keeps what was appended
+appends_kept : (old mid new : Option (List ℕ)) (text : List ℕ) → Appends old mid text
+    → Keeps mid new → Appends old new text
+appends_kept None mid new text appended kept = tt
+appends_kept (Some xs) None new text appended kept = absurd appended
+appends_kept (Some xs) (Some ys) None text appended kept = absurd kept
+appends_kept (Some xs) (Some ys) (Some zs) text appended kept = kept ∙ appended
+
+tells_kept : (old mid new : Option (List ℕ)) (played : Result Bool DemoFault) → Keeps mid new
+    → Tells old mid played → Tells old new played
+tells_kept old mid new _ kept (SaysYes run audited told) = SaysYes run audited (record {
+  counts = told.counts;
+  counted = told.counted;
+  printed = appends_kept old mid new _ told.printed kept;
+})
+tells_kept old mid new _ kept (SaysNo trails receipts why refused printed) =
+    SaysNo trails receipts why refused (appends_kept old mid new _ printed kept)
+tells_kept old mid new _ kept (GaveUp printed) = GaveUp (appends_kept old mid new _ printed kept)
+tells_kept old mid new _ kept (Fails why other) = Fails why other
+
+-- a demonstration, and a flush behind it
+pub plays_flushed : (old mid new : Option (List ℕ)) (before after : Ending) → Keeps mid new
+    → (after ≡ ending.Failed) ⊎ (after ≡ before) → Plays old mid before → Plays old new after
+plays_flushed old mid new before after kept (inl failed) plays = inl failed
+plays_flushed old mid new before after kept (inr same) (inl failed) = inl (same ∙ failed)
+plays_flushed old mid new before after kept (inr same) (inr (played, tells, is)) =
+    inr (played, tells_kept old mid new played kept tells, same ∙ is)

@@ -1,0 +1,4 @@
+mod Commands
+mod Ending
+mod Finding
+mod Reading

@@ -1,0 +1,22 @@
+use Rattle.std.proofs.Common.{Err, inl}
+use Rattle.std.specs.Io.Buffered.{writer_contents}
+use Rattle.kx_script.specs.Script.{Ends}
+use Rattle.kx_program.proofs.Ending.{ran_so}
+use Rattle.kx_program.proofs.streams.sim.Goals as goal
+
+pub returns-in-Err : goal.returns-in-Err
+returns-in-Err g c =
+    let old = writer_contents g.O.Write.contents c.args.out.now in
+    let new = writer_contents g.O.Write.contents c.run_sim-ran.new.writer in
+    record {
+      ends = ran_so _ (λ script r. Ends script old new r) (Err c.in-Err.fault) _
+          c.in-Err.ensures.ends c.failed.ensures;
+      flushed = inl c.failed.ensures;
+    }
+
+pub returns-in-Ok-clause-ends : goal.returns-in-Ok-clause-ends
+returns-in-Ok-clause-ends g c =
+    let old = writer_contents g.O.Write.contents c.args.out.now in
+    let new = writer_contents g.O.Write.contents c.run_sim-ran.new.writer in
+    ran_so _ (λ script r. Ends script old new r) c.run_sim-ran.result _
+    c.run_sim-ran.ensures.ends c.of.ensures

@@ -1,0 +1,31 @@
+use Rattle.std.proofs.Common.{codes, rules}
+use Rattle.std.proofs.lemmas.Result.{IfOk-weaker}
+use Rattle.clap.specs.Words.{new_app}
+use Rattle.kx_program.specs.Usage.{demo_app, dump_app, serve_app, sim_app, with_needed_subcommand}
+use Rattle.kx_program.proofs.Commands.{Makes, with_command}
+use Rattle.kx_program.proofs.usage.command_line.Goals as goal
+
+pub returns : goal.returns
+returns c =
+    let made_0 : Makes c.subcommand_required.result
+    (with_needed_subcommand (new_app (codes "kx_main"))) =
+    record { is = search rules; local = search rules } in
+    let sim : Makes c.sim_usage.result sim_app =
+    record { is = c.sim_usage.ensures.app; local = c.sim_usage.ensures.local } in
+    let made_1 = with_command _ _ _ _ _ c.in_ok-subcommand.ensures made_0 sim in
+    let dump : Makes c.in_ok-dump_usage.field-0 dump_app = record {
+      is = c.in_ok-dump_usage.ensures.app;
+      local = c.in_ok-dump_usage.ensures.local;
+    } in
+    let made_2 = with_command _ _ _ _ _ c.in_ok-subcommand-2.ensures made_1 dump in
+    let serve : Makes c.in_ok-serve_usage.field-0 serve_app = record {
+      is = c.in_ok-serve_usage.ensures.app;
+      local = c.in_ok-serve_usage.ensures.local;
+    } in
+    let made_3 = with_command _ _ _ _ _ c.in_ok-subcommand-3.ensures made_2 serve in
+    let demo : Makes c.in_ok-demo_usage.field-0 demo_app = record {
+      is = c.in_ok-demo_usage.ensures.app;
+      local = c.in_ok-demo_usage.ensures.local;
+    } in
+    IfOk-weaker c.subcommand-4.result _ _
+    (λ command adds. (with_command _ _ _ _ _ adds made_3 demo).is) c.subcommand-4.ensures

@@ -1,0 +1,5 @@
+pub mod Asking
+pub mod Endings
+pub mod Program
+pub mod Tasks
+pub mod Usage

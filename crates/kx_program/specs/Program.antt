@@ -1,0 +1,69 @@
+-- What the program does for its words: what it reads and writes, and how it ends.
+use Rattle.std.specs.Prelude.{◌≡◌, ◌⊎◌, Bool, true, List, ℕ, Option, Result, Err, IfSome, MatchOption}
+use Rattle.std.specs.Prelude.{MatchResult, OnOk, map, string_bytes}
+use Rattle.std.specs.Io.KnownBytes.{Keeps}
+use Rattle.std.specs.declared.io.ErrorKind.{ErrorKind as IoKind}
+use Rattle.std.specs.declared.io.ErrorKind.TheVariants as io
+use Rattle.clap.specs.Words.{Text}
+use Rattle.kx_demo.specs.Telling.{Tells}
+use Rattle.kx_demo.specs.declared.fault.DemoFault.{DemoFault}
+use Rattle.kx_program.specs.Asking.{EndsRefused, IsRefusedFor}
+use Rattle.kx_program.specs.Endings.{ending_of_demo}
+use Rattle.kx_program.specs.Tasks.{WordsAskFor}
+use Rattle.kx_program.specs.declared.asking.Refusal.{Refusal}
+use Rattle.kx_program.specs.declared.task.Task.{Task}
+use Rattle.kx_program.specs.declared.task.Task.TheVariants as task
+use Rattle.kx_script.specs.Script.{Ends}
+use Rattle.kx_server.specs.Lines.{Prints}
+use Rattle.kx_server.specs.declared.fault.ServeFault.{ServeFault}
+use Rattle.kx_text.specs.Dump.{Dumps}
+use Rattle.kx_text.specs.Statuses.{ending_of}
+use Rattle.kx_text.specs.declared.dump.DumpFault.{DumpFault}
+use Rattle.kx_text.specs.declared.fault.ScriptFault.{ScriptFault}
+use Rattle.kx_text.specs.declared.program.Ending.{Ending}
+use Rattle.kx_text.specs.declared.program.Ending.TheVariants as ending
+
+-- the script on standard input was run
+abbrev pub Simulates : Option (List ℕ) → Option (List ℕ) → Option (List ℕ) → Ending → Type 0
+Simulates input old new how = IfSome input (λ script. (ran : Result (Unit {0}) ScriptFault)
+    × Ends script old new ran × (how ≡ ending_of ran))
+
+-- these bytes of a file were dumped
+abbrev pub DumpsBytes : List ℕ → Option (List ℕ) → Option (List ℕ) → Ending → Type 0
+DumpsBytes bytes old new how = (dumped : Result (Unit {0}) DumpFault)
+    × Dumps bytes old new dumped × (how ≡ ending_of dumped)
+
+-- a file was dumped, or couldn't be read, and nothing was written
+abbrev pub DumpsFile : Option (List ℕ) → Option (List ℕ) → Ending → Type 0
+DumpsFile old new how = (read : Option (List ℕ)) × MatchOption read
+    ((how ≡ ending.Failed) × Keeps old new) (λ bytes. DumpsBytes bytes old new how)
+
+-- a server served so many connections
+abbrev pub ServesAll : ℕ → Option (List ℕ) → Option (List ℕ) → Ending → Type 0
+ServesAll connections old new how = (served : Result (Unit {0}) ServeFault)
+    × OnOk served (Prints connections old new) × (how ≡ ending_of served)
+
+-- a demonstration was played and told; else the program failed
+abbrev pub Plays : Option (List ℕ) → Option (List ℕ) → Ending → Type 0
+Plays old new how = (how ≡ ending.Failed) ⊎ ((played : Result Bool DemoFault)
+    × Tells old new played × (how ≡ ending_of_demo played))
+
+-- what was asked for was done
+abbrev pub Performs : Option (List ℕ) → Option (List ℕ) → Option (List ℕ) → Task → Ending → Type 0
+Performs input old new task.Sim how = Simulates input old new how
+Performs input old new (task.Dump path) how = DumpsFile old new how
+Performs input old new (task.Serve options) how = ServesAll options.connections old new how
+Performs input old new (task.Demo asked) how = Plays old new how
+
+-- where the words can't be had: one that isn't text is wrong
+abbrev pub IsWithoutWords : IoKind → Ending → Type 0
+IsWithoutWords io.InvalidData how = how ≡ ending.WrongArguments
+IsWithoutWords _ how = how ≡ ending.Failed
+
+-- the program did what the words ask for, or they ask for nothing
+pub data DoesWords (words : List Text) (is_watched : Bool) (input old new : Option (List ℕ))
+    (how : Ending) : Type 0 where
+  Does : (what : Task) → WordsAskFor words is_watched what → Performs input old new what how
+      → DoesWords words is_watched input old new how
+  IsRefused : (why : Refusal) → IsRefusedFor words is_watched why → EndsRefused why how
+      → DoesWords words is_watched input old new how

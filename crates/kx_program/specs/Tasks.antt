@@ -1,0 +1,71 @@
+-- What the words of a command line ask for, by what clap finds in them.
+use Rattle.std.specs.Prelude.{◌≡◌, ◌<◌, ◌^◌, ℕ, List, Bool, true, false, Option, None, Some, codes}
+use Rattle.std.specs.Prelude.{option_map}
+use Rattle.std.specs.Str.Parse.{IsNumeral, digits_value, without_leading_plus}
+use Rattle.clap.specs.Words.{Row, Text, first_of, one_of, subcommand_of}
+use Rattle.kx_play.specs.Options.{IsRecords, IsWorkers}
+use Rattle.kx_play.specs.declared.options.PlayOptions.{PlayOptions}
+use Rattle.kx_program.specs.Usage.{program_app}
+use Rattle.kx_program.specs.declared.task.Demonstration.{Demonstration}
+use Rattle.kx_program.specs.declared.task.Task.{Task}
+use Rattle.kx_program.specs.declared.task.Task.TheVariants as task
+use Rattle.kx_relay.specs.Line.{IsHolding, IsLosses}
+use Rattle.kx_server.specs.Options.{IsConnections, IsPartitions}
+use Rattle.kx_server.specs.declared.options.ServeOptions.{ServeOptions}
+
+-- the text is this number of so many bits, in decimal digits
+abbrev pub Writes : ℕ → Option Text → ℕ → Type 0
+Writes bits None n = ⊥
+Writes bits (Some text) n = IsNumeral 10 (without_leading_plus text) × (n < 2 ^ bits)
+    × (n ≡ digits_value 10 (without_leading_plus text))
+
+-- a flag is on where it was given
+abbrev pub Flags : Option Text → Bool → Type 0
+Flags None on = on ≡ false
+Flags (Some text) on = (text ≡ codes "true" → on ≡ true) × (text ≡ codes "false" → on ≡ false)
+
+-- the options of `serve`
+pub record IsServe (rows : List Row) (is_watched : Bool) (options : ServeOptions) : Type 0 where
+  pub partitions : Writes 16 (one_of (codes "partitions") rows) options.partitions
+  pub partitions_fit : IsPartitions options.partitions
+  pub connections : Writes 16 (one_of (codes "connections") rows) options.connections
+  pub connections_fit : IsConnections options.connections
+  pub port : Writes 16 (one_of (codes "port") rows) options.port
+  pub dir : option_map (λ d. d.now) options.dir ≡ first_of (codes "dir") rows
+  pub tells : options.tells_progress ≡ is_watched
+  pub expires : Flags (one_of (codes "expire") rows) options.expires
+
+-- what is played
+pub record IsPlay (rows : List Row) (options : PlayOptions) : Type 0 where
+  pub workers : Writes 16 (one_of (codes "workers") rows) options.workers
+  pub workers_fit : IsWorkers options.workers
+  pub records : Writes 16 (one_of (codes "records") rows) options.records
+  pub records_fit : IsRecords options.records
+  pub seed : Writes 64 (one_of (codes "seed") rows) options.seed
+  pub lose : Writes 16 (one_of (codes "lose") rows) options.lose
+  pub lose_fits : IsLosses options.lose
+  pub hold : Writes 16 (one_of (codes "hold") rows) options.hold
+  pub hold_fits : IsHolding options.hold
+
+-- the options of `demo`
+pub record IsDemo (rows : List Row) (asked : Demonstration) : Type 0 where
+  pub plays : IsPlay rows asked.options
+  pub trace : option_map (λ t. t.now) asked.trace ≡ first_of (codes "trace") rows
+
+-- the subcommand of this name asks for this, with these options
+abbrev pub IsAsked : Text → List Row → Bool → Task → Type 0
+IsAsked name rows is_watched task.Sim = name ≡ codes "sim"
+IsAsked name rows is_watched (task.Dump path) =
+    (name ≡ codes "dump") × (first_of (codes "FILE") rows ≡ Some path.now)
+IsAsked name rows is_watched (task.Serve options) =
+    (name ≡ codes "serve") × IsServe rows is_watched options
+IsAsked name rows is_watched (task.Demo asked) = (name ≡ codes "demo") × IsDemo rows asked
+
+-- what was found of a subcommand asks for this
+abbrev pub AsksFor : Option (Text × List Row) → Bool → Task → Type 0
+AsksFor None is_watched what = ⊥
+AsksFor (Some found) is_watched what = IsAsked found.0 found.1 is_watched what
+
+-- these words, of which the first is the program's name, ask for this
+abbrev pub WordsAskFor : List Text → Bool → Task → Type 0
+WordsAskFor words is_watched what = AsksFor (subcommand_of program_app words) is_watched what

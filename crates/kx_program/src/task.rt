@@ -1,0 +1,137 @@
+//! What the words of a command line ask for.
+ghost use Rattle.std.specs.Prelude.{ℕ, MatchOption, codes};
+ghost use Rattle.clap.specs.Words.{found_of, one_of, rows_of, subcommand_rows_of};
+ghost use Rattle.kx_play.specs.declared.options.PlayOptions.{PlayOptions};
+ghost use Rattle.kx_program.specs.Tasks.{AsksFor, IsDemo, IsPlay, IsServe, Writes};
+ghost use Rattle.kx_program.specs.declared.task.Demonstration.{Demonstration};
+ghost use Rattle.kx_program.specs.declared.task.Task.{Task};
+ghost use Rattle.kx_relay.specs.Line.{IsLosses};
+ghost use Rattle.kx_server.specs.declared.options.ServeOptions.{ServeOptions};
+
+use clap::ArgMatches;
+use kx_play::{PlayOptions, Records, WorkerCount};
+use kx_relay::{Holding, Losses};
+use kx_server::{Connections, Partitions, ServeOptions};
+
+/// What `demo` is asked for.
+#[derive(Clone, Copy)]
+pub struct Demonstration<'a> {
+    /// What is played.
+    pub options: PlayOptions,
+    /// The file into which each event is written, if any.
+    pub trace: Option<&'a str>,
+}
+
+/// What the words of a command line ask for.
+#[derive(Clone, Copy)]
+pub enum Task<'a> {
+    /// Run the script on standard input.
+    Sim,
+    /// Print the record batches of the file at this path.
+    Dump(&'a str),
+    /// Serve clients.
+    Serve(ServeOptions<'a>),
+    /// Play the demonstration and audit it.
+    Demo(Demonstration<'a>),
+}
+
+// A number that an option has, of 16 bits.
+fn number_in(given: &ArgMatches<'_>, id: &str) -> Option<u16>
+    ensures { MatchOption result
+        ((n : ℕ) → Writes 16 (one_of id.now (rows_of (found_of given.now))) n → ⊥)
+        (Writes 16 (one_of id.now (rows_of (found_of given.now)))) }
+{
+    given.get_one(id)
+}
+
+// The seed.
+fn seed_in(given: &ArgMatches<'_>) -> Option<u64>
+    ensures { MatchOption result
+        ((n : ℕ) → Writes 64 (one_of (codes "seed") (rows_of (found_of given.now))) n → ⊥)
+        (Writes 64 (one_of (codes "seed") (rows_of (found_of given.now)))) }
+{
+    given.get_one("seed")
+}
+
+// What `serve` is asked for.
+fn serve_options<'a>(given: &ArgMatches<'a>, is_watched: bool) -> Option<ServeOptions<'a>>
+    ensures { MatchOption result
+        ((options : ServeOptions) → IsServe (rows_of (found_of given.now)) is_watched options → ⊥)
+        (IsServe (rows_of (found_of given.now)) is_watched) }
+{
+    Some(ServeOptions {
+        partitions: Partitions::new(number_in(given, "partitions")?)?,
+        connections: Connections::new(usize::from(number_in(given, "connections")?))?,
+        port: number_in(given, "port")?,
+        dir: given.get_str("dir"),
+        tells_progress: is_watched,
+        expires: given.get_flag("expire"),
+    })
+}
+
+// How many frames of a hundred are lost.
+fn losses_in(given: &ArgMatches<'_>) -> Option<Losses>
+    ensures { MatchOption result
+        ((n : ℕ) → Writes 16 (one_of (codes "lose") (rows_of (found_of given.now))) n
+        → IsLosses n → ⊥)
+        (λ losses. Writes 16 (one_of (codes "lose") (rows_of (found_of given.now))) losses
+        × IsLosses losses) }
+{
+    match u8::try_from(number_in(given, "lose")?) {
+        Ok(percent) => Losses::new(percent),
+        Err(_) => None,
+    }
+}
+
+// What `demo` is asked to play.
+fn play_options(given: &ArgMatches<'_>) -> Option<PlayOptions>
+    ensures { MatchOption result
+        ((options : PlayOptions) → IsPlay (rows_of (found_of given.now)) options → ⊥)
+        (IsPlay (rows_of (found_of given.now))) }
+{
+    Some(PlayOptions {
+        workers: WorkerCount::new(usize::from(number_in(given, "workers")?))?,
+        records: Records::new(usize::from(number_in(given, "records")?))?,
+        seed: seed_in(given)?,
+        lose: losses_in(given)?,
+        hold: Holding::new(usize::from(number_in(given, "hold")?))?,
+    })
+}
+
+// What `demo` is asked for.
+fn demo_in<'a>(given: &ArgMatches<'a>) -> Option<Demonstration<'a>>
+    ensures { MatchOption result
+        ((asked : Demonstration) → IsDemo (rows_of (found_of given.now)) asked → ⊥)
+        (IsDemo (rows_of (found_of given.now))) }
+{
+    Some(Demonstration {
+        options: play_options(given)?,
+        trace: given.get_str("trace"),
+    })
+}
+
+/// What the words of a command line ask for, as clap found them; None where they name no
+/// subcommand, or an option has a value out of its range. `is_watched` says whether somebody
+/// watches standard error, so that a server tells there which logs it opens.
+pub fn task_in<'a>(found: &ArgMatches<'a>, is_watched: bool) -> Option<Task<'a>>
+    ensures { MatchOption result
+        ((what : Task) → AsksFor (subcommand_rows_of found.now) is_watched what → ⊥)
+        (AsksFor (subcommand_rows_of found.now) is_watched) }
+{
+    match found.subcommand() {
+        Some(("sim", _)) => Some(Task::Sim),
+        Some(("dump", given)) => match given.get_str("FILE") {
+            Some(path) => Some(Task::Dump(path)),
+            None => None,
+        },
+        Some(("serve", given)) => match serve_options(given, is_watched) {
+            Some(options) => Some(Task::Serve(options)),
+            None => None,
+        },
+        Some(("demo", given)) => match demo_in(given) {
+            Some(asked) => Some(Task::Demo(asked)),
+            None => None,
+        },
+        Some(_) | None => None,
+    }
+}

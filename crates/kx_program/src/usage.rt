@@ -1,0 +1,224 @@
+//! The command line: subcommands, options and their ranges.
+ghost use Rattle.std.specs.Prelude.{◌≡◌, IfOk, false};
+ghost use Rattle.clap.specs.Words.{app_of, rule_of};
+ghost use Rattle.clap.specs.declared.builder.command.Command.TheViews.{out-Command};
+ghost use Rattle.kx_program.specs.Usage.{connections_rule, demo_app, dir_rule, dump_app, expire_rule};
+ghost use Rattle.kx_program.specs.Usage.{hold_rule, lose_rule, needed, option_of, partitions_rule};
+ghost use Rattle.kx_program.specs.Usage.{port_rule, program_app, records_rule, seed_rule, serve_app};
+ghost use Rattle.kx_program.specs.Usage.{sim_app, trace_rule, with_default, workers_rule};
+
+use clap::builder::ValueParser;
+use clap::{Arg, ArgAction, Command};
+use std::alloc::{AllocError, Global};
+
+// An option with a number that has a default.
+fn number<'a>(
+    alloc: Global,
+    name: &'a str,
+    value: &'a str,
+    default: &'a str,
+    help: &'a str,
+) -> Arg<'a>
+    ensures rule { rule_of result ≡ with_default default.entry.now (option_of name.entry.now) }
+    ensures local { result.global ≡ false }
+{
+    Arg::new(alloc, name)
+        .long(name)
+        .value_name(value)
+        .default_value(default)
+        .action(ArgAction::Set)
+        .help(help)
+}
+
+// An option with a number that has to be given.
+fn required<'a>(alloc: Global, name: &'a str, value: &'a str, help: &'a str) -> Arg<'a>
+    ensures rule { rule_of result ≡ needed (option_of name.entry.now) }
+    ensures local { result.global ≡ false }
+{
+    Arg::new(alloc, name)
+        .long(name)
+        .value_name(value)
+        .required(true)
+        .action(ArgAction::Set)
+        .help(help)
+}
+
+// How many data partitions a server has.
+fn partitions<'a>(alloc: Global) -> Arg<'a>
+    ensures rule { rule_of result ≡ partitions_rule }
+    ensures local { result.global ≡ false }
+{
+    let help = "How many data partitions there are, 1 to 16";
+    required(alloc, "partitions", "P", help).value_parser(clap::value_parser!(u16).range(1..=16))
+}
+
+// How many connections a server serves.
+fn connections<'a>(alloc: Global) -> Arg<'a>
+    ensures rule { rule_of result ≡ connections_rule }
+    ensures local { result.global ≡ false }
+{
+    let help = "How many connections are served before the server ends, 1 to 1024";
+    required(alloc, "connections", "N", help).value_parser(clap::value_parser!(u16).range(1..=1024))
+}
+
+// The port on which a server listens.
+fn port<'a>(alloc: Global) -> Arg<'a>
+    ensures rule { rule_of result ≡ port_rule }
+    ensures local { result.global ≡ false }
+{
+    let help = "The port on 127.0.0.1; 0 takes any that is free";
+    number(alloc, "port", "PORT", "0", help).value_parser(clap::value_parser!(u16))
+}
+
+// The folder of a server's logs. An empty name is wrong: its files would stand at the root.
+fn dir<'a>(alloc: Global) -> Arg<'a>
+    ensures rule { rule_of result ≡ dir_rule }
+    ensures local { result.global ≡ false }
+{
+    Arg::new(alloc, "dir")
+        .long("dir")
+        .value_name("DIR")
+        .action(ArgAction::Set)
+        .value_parser(ValueParser::NonEmptyString)
+        .help("Keeps the logs in files of this folder; else they are in memory")
+}
+
+// Whether a server's clock aborts transactions.
+fn expire<'a>(alloc: Global) -> Arg<'a>
+    ensures rule { rule_of result ≡ expire_rule }
+    ensures local { result.global ≡ false }
+{
+    Arg::new(alloc, "expire")
+        .long("expire")
+        .action(ArgAction::SetTrue)
+        .help("Aborts transactions whose time is up; else they stay open")
+}
+
+// How many threads serve a demonstration.
+fn workers<'a>(alloc: Global) -> Arg<'a>
+    ensures rule { rule_of result ≡ workers_rule }
+    ensures local { result.global ≡ false }
+{
+    let help = "How many threads serve the nodes, 1 to 16";
+    number(alloc, "workers", "W", "4", help).value_parser(clap::value_parser!(u16).range(1..=16))
+}
+
+// How many records a demonstration has.
+fn records<'a>(alloc: Global) -> Arg<'a>
+    ensures rule { rule_of result ≡ records_rule }
+    ensures local { result.global ≡ false }
+{
+    let help = "How many records each of the two input partitions has, 1 to 10000";
+    number(alloc, "records", "N", "100", help).value_parser(clap::value_parser!(u16).range(
+        1..=10000,
+    ))
+}
+
+// What the lost frames are drawn from.
+fn seed<'a>(alloc: Global) -> Arg<'a>
+    ensures rule { rule_of result ≡ seed_rule }
+    ensures local { result.global ≡ false }
+{
+    let help = "What the lost frames are drawn from";
+    number(alloc, "seed", "S", "1", help).value_parser(clap::value_parser!(u64))
+}
+
+// How many frames are lost.
+fn lose<'a>(alloc: Global) -> Arg<'a>
+    ensures rule { rule_of result ≡ lose_rule }
+    ensures local { result.global ≡ false }
+{
+    let help = "How many frames of a hundred are lost, 0 to 50";
+    number(alloc, "lose", "L", "0", help).value_parser(clap::value_parser!(u8).range(0..=50))
+}
+
+// How long copies are held back.
+fn hold<'a>(alloc: Global) -> Arg<'a>
+    ensures rule { rule_of result ≡ hold_rule }
+    ensures local { result.global ≡ false }
+{
+    let help = "How many further frames go between a frame and its copy, 0 to 8";
+    number(alloc, "hold", "H", "0", help).value_parser(clap::value_parser!(u16).range(0..=8))
+}
+
+// The file of a demonstration's trace.
+fn trace<'a>(alloc: Global) -> Arg<'a>
+    ensures rule { rule_of result ≡ trace_rule }
+    ensures local { result.global ≡ false }
+{
+    Arg::new(alloc, "trace")
+        .long("trace")
+        .value_name("FILE")
+        .action(ArgAction::Set)
+        .help("Writes what happened into this file, one line an event")
+}
+
+// `sim`.
+fn sim_usage<'a>(alloc: Global) -> Command<'a>
+    ensures app { app_of result ≡ sim_app }
+    ensures local { (out-Command result).has_globals ≡ false }
+{
+    Command::new(alloc, "sim").about(
+        "Runs the script on standard input and writes its answers to standard output",
+    )
+}
+
+// `dump`.
+fn dump_usage<'a>(alloc: Global) -> Result<Command<'a>, AllocError>
+    ensures app { IfOk result (λ command. app_of command ≡ dump_app) }
+    ensures local { IfOk result (λ command. (out-Command command).has_globals ≡ false) }
+{
+    let file = Arg::new(alloc, "FILE")
+        .required(true)
+        .action(ArgAction::Set)
+        .help("Record batches, one after the other");
+    Command::new(alloc, "dump")
+        .about("Prints the record batches of a file, one line for each batch and record")
+        .arg(file)
+}
+
+// `serve`.
+fn serve_usage<'a>(alloc: Global) -> Result<Command<'a>, AllocError>
+    ensures app { IfOk result (λ command. app_of command ≡ serve_app) }
+    ensures local { IfOk result (λ command. (out-Command command).has_globals ≡ false) }
+{
+    Command::new(alloc, "serve")
+        .about("Serves all nodes of a core to clients over sockets")
+        .arg(partitions(alloc))?
+        .arg(connections(alloc))?
+        .arg(port(alloc))?
+        .arg(dir(alloc))?
+        .arg(expire(alloc))
+}
+
+// `demo`.
+fn demo_usage<'a>(alloc: Global) -> Result<Command<'a>, AllocError>
+    ensures app { IfOk result (λ command. app_of command ≡ demo_app) }
+    ensures local { IfOk result (λ command. (out-Command command).has_globals ≡ false) }
+{
+    Command::new(alloc, "demo")
+        .about("Plays producers and processors against a core over a bad line, and audits them")
+        .arg(workers(alloc))?
+        .arg(records(alloc))?
+        .arg(seed(alloc))?
+        .arg(lose(alloc))?
+        .arg(hold(alloc))?
+        .arg(trace(alloc))
+}
+
+/// The command line: `kx_main sim`, `kx_main dump FILE`, `kx_main serve` or `kx_main demo`.
+///
+/// # Errors
+///
+/// Out of memory.
+pub fn command_line<'a>(alloc: Global) -> Result<Command<'a>, AllocError>
+    ensures { IfOk result (λ command. app_of command ≡ program_app) }
+{
+    Command::new(alloc, "kx_main")
+        .about("An exactly-once core for Kafka's protocol")
+        .subcommand_required(true)
+        .subcommand(sim_usage(alloc))?
+        .subcommand(dump_usage(alloc)?)?
+        .subcommand(serve_usage(alloc)?)?
+        .subcommand(demo_usage(alloc)?)
+}

@@ -1,0 +1,102 @@
+-- What was passed on stays a beginning of the machine's log.
+use Rattle.std.proofs.Common.{◌≡◌, List, [], ◌∷◌, ◌++◌, Option, Some, None, Result, Ok, Err}
+use Rattle.std.proofs.Common.{MatchResult, ap, inl, inr, is_ok, refl, subst, sym, true}
+use mathlib.Core.List.{IsPrefix}
+use Rattle.kx_machine.specs.Logs.{batches_of}
+use Rattle.kx_machine.specs.Meaning.{IsTaken, NodeState, node_step}
+use Rattle.kx_machine.specs.declared.taken.Taken.{Taken}
+use Rattle.kx_model.specs.Disk.{Store}
+use Rattle.kx_model.specs.Log.{Stored}
+use Rattle.kx_model.specs.Step.{Input}
+use Rattle.kx_published.specs.Written.{IsWritten, MarkerComesRight}
+use Rattle.kx_published.specs.declared.known.Known.{Known}
+use Rattle.kx_published.specs.declared.publisher.Done.{Done}
+use Rattle.kx_publishing.proofs.Publishing.{OnlyAdds, prefix_more, wrote_log, wrote_step}
+use Rattle.kx_publishing.specs.Publishing.{BeginsLog, Runs, Shows, WroteItself, comes_with}
+
+------ a step
+
+begins_more : OnlyAdds → (node : NodeState) (store : Store) (input : Input)
+    → MarkerComesRight (comes_with input) → (o : Option Done) → BeginsLog node o
+    → BeginsLog (node_step node store input).state o
+begins_more adds node store input right None begins = tt
+begins_more adds node store input right (Some done) begins = (
+  wrote_step node store input begins.0 right,
+  prefix_more done.sent (batches_of node) (batches_of (node_step node store input).state)
+      begins.1 (adds node store input),
+)
+
+module _ {M : Type 0} (Stands : NodeState → M → Type 0) where
+  pub runs_on : OnlyAdds → (input : Input) → MarkerComesRight (comes_with input)
+      → (Allows : Store → Type 0) (before after : M) (taken : Taken) (o : Option Done)
+      → (runs : Runs Stands before o)
+      → IsTaken runs.node input Allows (λ s. Stands s after) taken → Runs Stands after o
+  runs_on adds input right Allows before after taken o runs took = record {
+    node = (node_step runs.node took.store input).state;
+    stands = took.stands;
+    begins = begins_more adds runs.node took.store input right o runs.begins;
+  }
+
+------ a publish
+
+module _ {M : Type 0} (Stands : NodeState → M → Type 0) (log : M → List Stored)
+    (log_is : (machine : M) (state : NodeState) → Stands state machine
+    → log machine ≡ batches_of state) where
+  -- the log of a node that wrote it
+  pub log_written : (machine : M) (node : NodeState) → Stands node machine → WroteItself node
+      → IsWritten (log machine)
+  log_written machine node stands wrote =
+      subst IsWritten (sym (log_is machine node stands)) (wrote_log node wrote)
+
+  pub runs_written : (machine : M) (o : Option Done) (done : Done) → Runs Stands machine o
+      → o ≡ Some done → IsWritten (log machine)
+  runs_written machine o done runs is =
+      log_written machine runs.node runs.stands (subst (BeginsLog runs.node) is runs.begins).0
+
+  pub runs_prefix : (machine : M) (o : Option Done) (done : Done) → Runs Stands machine o
+      → o ≡ Some done → IsPrefix done.sent (log machine)
+  runs_prefix machine o done runs is =
+      subst (IsPrefix done.sent) (sym (log_is machine runs.node runs.stands))
+      (subst (BeginsLog runs.node) is runs.begins).1
+
+  -- more of it was passed on
+  pub runs_with : (machine : M) (node : NodeState) → Stands node machine → WroteItself node
+      → (done : Done) → IsPrefix done.sent (log machine) → Runs Stands machine (Some done)
+  runs_with machine node stands wrote done sent = record {
+    node = node;
+    stands = stands;
+    begins = (wrote, subst (IsPrefix done.sent) (log_is machine node stands) sent);
+  }
+
+  pub runs_sent : (machine : M) (o : Option Done) (done after : Done) → Runs Stands machine o
+      → o ≡ Some done → IsPrefix after.sent (log machine) → Runs Stands machine (Some after)
+  runs_sent machine o done after runs is sent =
+      runs_with machine runs.node runs.stands (subst (BeginsLog runs.node) is runs.begins).0 after
+      sent
+
+-- what it told
+pub shows_told : {E : Type 0} (told : Result Known E) (log : List Stored) (old new : Done)
+    → new.known.partition ≡ old.known.partition
+    → MatchResult told (λ (t : Known). (t ≡ new.known)
+    × (new.known.logs ≡ old.known.logs ++ record { log = log } ∷ []) × (new.shown ≡ log))
+    (λ (refused : E). new.shown ≡ old.shown)
+    → Shows (is_ok told) log (Some old) (Some new)
+shows_told (Ok t) log old new partition done = inr (
+  t,
+  record {
+    old = old;
+    new = new;
+    before_is = refl;
+    after_is = refl;
+    told_is = done.0;
+    partition = partition;
+    logs = done.1;
+    shown = done.2;
+  },
+)
+shows_told (Err refused) log old new partition same = ap Some same
+
+-- what is seen already is shown, and nothing is published
+pub shows_seen : (log : List Stored) (done : Done) → done.shown ≡ log
+    → Shows true log (Some done) (Some done)
+shows_seen log done seen = inl (seen, refl)

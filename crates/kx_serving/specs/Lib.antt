@@ -1,3 +1,0 @@
-pub mod Brokers
-pub mod Logs
-pub mod Serving

@@ -1,0 +1,14 @@
+use Rattle.std.proofs.Common.{◌≡◌, ℕ, List, [], None, Some, IfSome, Option, subst}
+use Rattle.std.specs.Io.KnownBytes.{IsAtEnd}
+use Rattle.kx_text.proofs.reads.CountedReads.refill.Goals as goal
+
+-- where nothing is shown, nothing is left
+at-end : (known : Option (List ℕ)) (P : Type 0) → IfSome known (λ xs. P → xs ≡ []) → P
+    → IsAtEnd known
+at-end None P end none = tt
+at-end (Some xs) P end none = end none
+
+pub returns-in_ok-self-clause-end : goal.returns-in_ok-self-clause-end
+returns-in_ok-self-clause-end g c =
+    λ none. subst (λ reader. IsAtEnd (g.R.Read.remaining reader)) c.count.ensures
+    (at-end _ _ c.in_ok-self.ensures.end none)

@@ -1,0 +1,106 @@
+//! A reader that counts its reads, and what a failed one is to a script.
+ghost use Rattle.std.specs.Prelude.{◌≡◌, ◌↔◌, ◌<◌, ◌^◌, IsTrue, OnOk};
+ghost use Rattle.std.specs.Io.KnownBytes.{IsAtEnd, Keeps};
+ghost use Rattle.std.specs.IoError.{error_kind};
+ghost use Rattle.kx_text.specs.Reads.{fault_of_kind};
+
+use crate::fault::ScriptFault;
+use std::io;
+use std::io::{BufRead, ErrorKind, Read};
+
+// How many reads a call over a reader makes at most.
+const MOST_READS: u64 = 1 << 32;
+
+/// What a failed read is to a script: `Memory` where its buffer can't be had, else `Read`.
+pub fn read_fault(failed: &io::Error) -> ScriptFault
+    ensures { result ≡ fault_of_kind (error_kind failed.now) }
+{
+    match failed.kind() {
+        ErrorKind::OutOfMemory => ScriptFault::Memory,
+        _ => ScriptFault::Read,
+    }
+}
+
+/// Whether a call that has made n reads may make one more: it makes 2^32 at most.
+pub fn may_read(made: u64) -> bool
+    ensures { IsTrue result ↔ made < 2 ^ 32 }
+{
+    made < MOST_READS
+}
+
+/// A reader that counts the reads it makes of another one, and fails in place of the read behind
+/// 2^32 of them. Looking at bytes that an earlier read gave is no read.
+#[derive(Drop)]
+pub struct CountedReads<R> {
+    reader: R,
+    made: u64,
+    // how many bytes of the last read are left
+    left: usize,
+}
+
+impl<R> CountedReads<R> {
+    /// A reader that has made no read yet.
+    pub fn new(reader: R) -> CountedReads<R>
+        ensures reader { result.reader ≡ reader }
+        ensures made { result.made ≡ 0 }
+    {
+        CountedReads {
+            reader,
+            made: 0,
+            left: 0,
+        }
+    }
+
+    // Counts a read, which fails where no more may be made.
+    fn count(&mut self) -> io::Result<()>
+        ensures { self.new.reader ≡ self.old.reader }
+    {
+        if !may_read(self.made) {
+            return Err(io::Error::from(ErrorKind::FileTooLarge));
+        }
+        self.made += 1;
+        Ok(())
+    }
+}
+
+impl<R: BufRead> CountedReads<R> {
+    // Makes a read where the bytes of the last one are used up.
+    fn refill(&mut self) -> io::Result<()>
+        ensures kept { Keeps (R.remaining self.old.reader) (R.remaining self.new.reader) }
+        ensures end { OnOk result (self.new.left ≡ 0 → IsAtEnd (R.remaining self.old.reader)) }
+    {
+        if self.left == 0 {
+            self.count()?;
+            self.left = self.reader.fill_buf()?.len();
+        }
+        Ok(())
+    }
+}
+
+impl<R: Read> Read for CountedReads<R> {
+    ghost remaining = { λ r. R.remaining r.reader };
+
+    fn read(&mut self, buf: &mut [u8]) -> io::Result<usize> {
+        self.count()?;
+        let count = self.reader.read(buf)?;
+        self.left = self.left.saturating_sub(count);
+        Ok(count)
+    }
+}
+
+impl<R: BufRead> BufRead for CountedReads<R> {
+    ghost consumable_len = { λ r. R.consumable_len r.reader };
+
+    fn fill_buf(&mut self) -> io::Result<&[u8]> {
+        self.refill()?;
+        if self.left == 0 {
+            return Ok(&[]);
+        }
+        self.reader.fill_buf()
+    }
+
+    fn consume(&mut self, amount: usize) {
+        self.left = self.left.saturating_sub(amount);
+        self.reader.consume(amount);
+    }
+}
