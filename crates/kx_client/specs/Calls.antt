@@ -19,7 +19,7 @@ number_of fault.MustAbort = 7
 number_of fault.TooLarge = 8
 number_of fault.Memory = 9
 
--- the rules have nothing against the command, and it hands out something
+-- the rules have nothing against the command, and it sends something
 abbrev pub HandsOut : Commanded → Type 0
 HandsOut (Declines fault) = ⊥
 HandsOut (Does client sent) = 0 < length sent

@@ -11,7 +11,7 @@ use Rattle.kx_model.specs.Disk.{Store}
 use Rattle.kx_processor.specs.Running.{processing_of, processor_of}
 use Rattle.kx_system.specs.Processor.{Images, Processing, Processor, has_failed}
 
--- the fault is the one that the rules have; want of memory may come in its place
+-- the fault is the one that the rules have; out of memory may come in its place
 abbrev pub IsDeclined : ClientFault → Commanded → Type 0
 IsDeclined fault answer = (fault ≡ Memory)
     ⊎ ((refusal : Fault) × (answer ≡ Declines refusal) × (fault ≡ fault_of refusal))

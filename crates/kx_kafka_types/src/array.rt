@@ -142,7 +142,7 @@ impl<T: Struct> Array<T> {
         }
     }
 
-    // So many structs.
+    // This many structs.
     fn with_len(reader: &mut T::Reader, version: Version, left: u32) -> Result<Self, KafkaFault>
         ensures { MatchResult result
             (λ x. repeated (fields_at version T.fields) left (T.Reader.bytes reader.old)

@@ -39,7 +39,7 @@ impl KafkaFault {
     }
 }
 
-/// Want of memory is [`KafkaFault::Memory`].
+/// Out of memory is [`KafkaFault::Memory`].
 impl From<AllocError> for KafkaFault {
     ghost from_gives = { λ refused fault. fault ≡ KafkaFault.Memory };
 

@@ -192,7 +192,7 @@ impl<'a> FieldReader<'a> {
         Ok(n.checked_sub(1))
     }
 
-    // So many bytes.
+    // This many bytes.
     #[tactic(auto, unfolding(crate::specs::Reading::taken))]
     fn take(&mut self, count: u32) -> Result<&'a [u8], KafkaFault>
         ensures { MatchResult result

@@ -77,7 +77,7 @@ fn serve_pieces<R: Read, W: Write, M: Machine>(
 
 /// Serves a stream of frames with a machine, up to the stream's end: each message whose frame
 /// arrives whole is taken by the machine, in whatever pieces the bytes arrive, and the frames of
-/// what it hands out are written at once, in order. A part of a frame at the end is dropped. A step
+/// what it sends are written at once, in order. A part of a frame at the end is dropped. A step
 /// for which the machine has no memory writes nothing, and the stream goes on. The writer isn't
 /// flushed.
 ///
