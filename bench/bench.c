@@ -63,6 +63,8 @@ int main(int argc, char **argv)
     bench_growth();
     bench_pages();
     bench_serve();
+    bench_served();
+    bench_kafka();
     bench_transactions();
     return 0;
 }

@@ -58,6 +58,18 @@ int64_t pages_prefetched(uint64_t transactions, uint64_t pages);
 /* serve.c: a stream of frames, through the server of a partition. */
 void bench_serve(void);
 
+/* served.c: the memory and the time of a log that is served. */
+void bench_served(void);
+
+/* heap.c: counts the bytes of the blocks that the library asks for from now on, until it is asked
+ * how many there were after the last; and how many there were at most. */
+void heap_count(void);
+size_t heap_at_last(void);
+size_t heap_most(void);
+
+/* kafka.c: Kafka's own Produce, read and answered. */
+void bench_kafka(void);
+
 /* txns.c: transactions of a coordinator. */
 void bench_transactions(void);
 
@@ -92,6 +104,8 @@ size_t kx_bench_build(uint64_t records, uint64_t count);
 int64_t kx_bench_produce(const uint8_t *text, size_t len, uint64_t count);
 int64_t kx_bench_pages(uint64_t transactions, uint64_t pages);
 int64_t kx_bench_serve(const uint8_t *stream, size_t len);
+int64_t kx_bench_served(const uint8_t *text, size_t len, uint64_t count, uint64_t pages);
+size_t kx_bench_kafka_produce(const uint8_t *text, size_t len, uint64_t count);
 int64_t kx_bench_transactions(uint64_t txns, uint64_t turns);
 
 /* The number at the front of bytes that were checked. */

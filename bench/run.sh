@@ -8,6 +8,6 @@ cd "$(dirname "$0")"
 work=$(mktemp -d)
 trap 'rm -rf "$work"' EXIT
 "${CC:-gcc}" ${CPPFLAGS-} -O3 -march=x86-64-v2 -Wall -Wextra -o "$work/bench" bench.c common.c \
-    batch.c crc.c heap.c logs.c pages.c parse.c reads.c serve.c txns.c \
+    batch.c crc.c heap.c kafka.c logs.c pages.c parse.c reads.c serve.c served.c txns.c \
     ../crates/kx_bench/out/libkx_bench.a
 "$work/bench" "$work/batches"

@@ -206,4 +206,5 @@ def main():
     sys.exit(1 if lost or doubles else 0)
 
 
-main()
+if __name__ == "__main__":
+    main()

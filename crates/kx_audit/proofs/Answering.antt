@@ -12,14 +12,14 @@ use Rattle.kx_machine.specs.declared.input.Input.{Input}
 use Rattle.kx_machine.specs.declared.input.Input.TheVariants as input
 use Rattle.kx_machine.specs.declared.taken.Taken.{Taken}
 use Rattle.kx_message.specs.declared.message.Message.{Message}
-use Rattle.kx_message.specs.declared.message.Node.{Node}
+use Rattle.kx_message.specs.declared.message.NodeId.{NodeId}
 use Rattle.kx_model.specs.Disk.{Store}
 use Rattle.kx_nodes.specs.declared.receipt.Receipt.{Receipt}
 use Rattle.kx_system.specs.System.{System, SystemEvent, run_system, system_step}
 use Rattle.kx_audit.proofs.Names.{same_is}
 
 -- an event is at the node that is handed something
-place_is : (sent : List Message) (to : Node) (given : Input) (store : Store) (event : SystemEvent)
+place_is : (sent : List Message) (to : NodeId) (given : Input) (store : Store) (event : SystemEvent)
     → IsEventOf sent to given store event → place_of event ≡ to
 place_is sent to (input.Deliver m) store event is = ap place_of is.2
 place_is sent to (input.Command c) store event is = ap place_of is
@@ -30,7 +30,7 @@ place_is sent to (input.Put values) store event is = ap place_of is
 place_is sent to (input.Restart now) store event is = ap place_of is
 
 -- the event that is the step at a place among those of a node
-record IsFound (begin : System) (events : List SystemEvent) (name : Node) (place : ℕ)
+record IsFound (begin : System) (events : List SystemEvent) (name : NodeId) (place : ℕ)
     (p : Passed) : Type 0 where
   before : List SystemEvent
   event : SystemEvent
@@ -40,7 +40,7 @@ record IsFound (begin : System) (events : List SystemEvent) (name : Node) (place
   place_is : place ≡ length (events_at name before)
   occurs : Occurs (run_system before begin) p event
 
-module _ (name : Node) (p : Passed) where
+module _ (name : NodeId) (p : Passed) where
   one_more : (b : Bool) (e : SystemEvent) (before : List SystemEvent)
       → same_node (place_of e) name ≡ b
       → length (events_at name (e ∷ before))
@@ -108,13 +108,13 @@ module _ (name : Node) (p : Passed) where
           let same : q ≡ p = cc in
           found_first begin q e events same (same_is q.node name is) all.0
       by true is (suc k) at rest =
-          behind begin e events k true (ap (λ (n : Node). same_node n name) own ∙ is) (rest k at)
+          behind begin e events k true (ap (λ (n : NodeId). same_node n name) own ∙ is) (rest k at)
       by false is k at rest =
-          behind begin e events k false (ap (λ (n : Node). same_node n name) own ∙ is) (rest k at)
+          behind begin e events k false (ap (λ (n : NodeId). same_node n name) own ∙ is) (rest k at)
 
 ------ the step of a receipt
 
-told_alike : (merged : List Passed) (name : Node)
+told_alike : (merged : List Passed) (name : NodeId)
     → told_at name (told_in merged) ≡ told_in (at_node name merged)
 told_alike [] name = refl
 told_alike (p ∷ merged) name = by (same_node p.node name) (told_alike merged name)
@@ -139,10 +139,12 @@ step_told (p ∷ ps) (suc k) x at =
     let rest = step_told ps k x at in
     record { step = rest.step; at = rest.at; is = rest.is }
 
-pub is_answered : (trails : List Trail) (merged : List Passed) (events : List SystemEvent)
-    (s : System) (receipt : Receipt) (x : Told) → IsScheduleOf trails merged events s
-    → IsOfStep (told_in merged) receipt x → IsAnswered (made_system trails) events receipt
-is_answered trails merged events s receipt x whole is =
+pub is_answered : (arrived : List Message) (trails : List Trail) (merged : List Passed)
+    (events : List SystemEvent) (s : System) (receipt : Receipt) (x : Told)
+    → IsScheduleOf arrived trails merged events s → IsOfStep (told_in merged) receipt x
+    → IsAnswered (made_system arrived trails) events receipt
+is_answered arrived trails merged events s receipt x whole is =
+    let begin = made_system arrived trails in
     let one = step_told (at_node receipt.node merged) receipt.place x
     (sym (ap (λ (xs : List Told). slice_get xs receipt.place) (told_alike merged receipt.node))
     ∙ is.there) in
@@ -151,10 +153,9 @@ is_answered trails merged events s receipt x whole is =
     is.input_is ∙ ap (λ (y : Told). y.step.input) (sym one.is) in
     let taken_is : receipt.taken ≡ p.taken =
     is.taken_is ∙ ap (λ (y : Told). y.taken) (sym one.is) in
-    let f = found receipt.node p (made_system trails) merged events receipt.place whole.occur
-    one.at in
+    let f = found receipt.node p begin merged events receipt.place whole.occur one.at in
     let o = f.occurs in
-    let at : System = run_system f.before (made_system trails) in
+    let at : System = run_system f.before begin in
     record {
       before = f.before;
       event = f.event;
@@ -164,7 +165,7 @@ is_answered trails merged events s receipt x whole is =
       place_is = f.place_is;
       answers = record {
         store = o.store;
-        is = subst (λ (to : Node). IsEventOf at.world.sent to receipt.input o.store f.event)
+        is = subst (λ (to : NodeId). IsEventOf at.world.sent to receipt.input o.store f.event)
             f.node_is
             (subst (λ (given : Input). IsEventOf at.world.sent p.node given o.store f.event)
             (sym input_is) o.is);

@@ -1,6 +1,6 @@
 -- A trace that is run again goes on by one step, and so does the order of all steps.
-use Rattle.std.proofs.Common.{◌≡◌, ◌≢◌, ◌++◌, Bool, true, false, cond, List, [], ◌∷◌, refl}
-use Rattle.std.proofs.Common.{sym, ap, ◌∙◌, subst, append-nil}
+use Rattle.std.proofs.Common.{◌≡◌, ◌≢◌, ◌++◌, ℕ, Option, Bool, true, false, cond, List, [], ◌∷◌}
+use Rattle.std.proofs.Common.{refl, sym, ap, ◌∙◌, subst, append-nil}
 use Rattle.std.proofs.lemmas.List.{append_assoc}
 use Rattle.kx_audit.specs.Joined.{Passed, WasHandedOut, led_to}
 use Rattle.kx_audit.specs.Nodes.{same_node}
@@ -9,7 +9,7 @@ use Rattle.kx_audit.specs.Told.{told_messages, told_takens}
 use Rattle.kx_machine.specs.Meaning.{IsTaken, NodeState, input_of, node_step}
 use Rattle.kx_machine.specs.declared.taken.Taken.{Taken}
 use Rattle.kx_message.specs.declared.message.Message.{Message}
-use Rattle.kx_message.specs.declared.message.Node.{Node}
+use Rattle.kx_message.specs.declared.message.NodeId.{NodeId}
 use Rattle.kx_model.specs.Disk.{Store}
 use Rattle.kx_nodes.specs.Replay.{Takes, mark_of}
 use Rattle.kx_nodes.specs.declared.trace.Step.{Step}
@@ -18,8 +18,8 @@ use Rattle.kx_audit.proofs.Ways.{goes_push, led_push, steps_push}
 
 ------ a trace that is run again
 
-pub takes_of : {Allows : Store → Type 0} {StandsFor : NodeState → Type 0} (before : NodeState)
-    (step : Step) (taken : Taken)
+pub takes_of : {Allows : Option ℕ → Store → Type 0} {StandsFor : NodeState → Type 0}
+    (before : NodeState) (step : Step) (taken : Taken)
     → (is : IsTaken before (input_of step.input) Allows StandsFor taken)
     → step.mark ≡ mark_of taken
     → Takes before step taken (node_step before is.store (input_of step.input)).state
@@ -49,7 +49,7 @@ run_begins stands made machine is =
 
 -- it takes the next step, and answers what is told
 pub run_on : {M : Type 0} (stands : NodeState → M → Type 0) (old new : M)
-    (Allows : Store → Type 0) (made : NodeState) (told : List Told) (x : Told)
+    (Allows : Option ℕ → Store → Type 0) (made : NodeState) (told : List Told) (x : Told)
     → AnswersSo made told (λ node. stands node old)
     → ((state : NodeState) → stands state old
     → IsTaken state (input_of x.step.input) Allows (λ s. stands s new) x.taken)
@@ -79,7 +79,7 @@ run_on stands old new Allows made told x run take mark =
 
 ------ one more step of all
 
-told_push : (name : Node) (told : List Told) (x : Told) (b : Bool) → same_node x.node name ≡ b
+told_push : (name : NodeId) (told : List Told) (x : Told) (b : Bool) → same_node x.node name ≡ b
     → told_at name (told ++ x ∷ []) ≡ told_at name told ++ cond b (x ∷ []) []
 told_push name [] x b e = ap (λ c. cond c (x ∷ []) []) e
 told_push name (y ∷ told) x b e = by (same_node y.node name) (told_push name told x b e)
@@ -96,7 +96,7 @@ pub told_push_own : (told : List Told) (x : Told)
 told_push_own told x = told_push x.node told x true (same_self x.node)
 
 -- and changes nothing at another
-pub told_push_other : (name : Node) (told : List Told) (x : Told) → name ≢ x.node
+pub told_push_other : (name : NodeId) (told : List Told) (x : Told) → name ≢ x.node
     → told_at name (told ++ x ∷ []) ≡ told_at name told
 told_push_other name told x other =
     told_push name told x false (apart x.node name (λ h. other (sym h)))
@@ -109,19 +109,15 @@ messages_push (y ∷ told) x =
     ap (λ (ms : List Message). y.taken.messages ++ ms) (messages_push told x)
     ∙ sym (append_assoc y.taken.messages (told_messages told) x.taken.messages)
 
-order_more : (sent : List Message) (told : List Told) (x : Told) → AreToldInOrder sent told
+-- it takes in what was sent before
+pub order_push : (sent : List Message) (told : List Told) (x : Told) → AreToldInOrder sent told
     → WasHandedOut (sent ++ told_messages told) x.step.input
     → AreToldInOrder sent (told ++ x ∷ [])
-order_more sent [] x order was =
+order_push sent [] x order was =
     (subst (λ (ms : List Message). WasHandedOut ms x.step.input) (append-nil sent) was, tt)
-order_more sent (y ∷ told) x order was = (
+order_push sent (y ∷ told) x order was = (
   order.0,
-  order_more (sent ++ y.taken.messages) told x order.1
+  order_push (sent ++ y.taken.messages) told x order.1
       (subst (λ (ms : List Message). WasHandedOut ms x.step.input)
       (sym (append_assoc sent y.taken.messages (told_messages told))) was),
 )
-
--- it takes in what was handed out before
-pub order_push : (told : List Told) (x : Told) → AreToldInOrder [] told
-    → WasHandedOut (told_messages told) x.step.input → AreToldInOrder [] (told ++ x ∷ [])
-order_push told x order was = order_more [] told x order was

@@ -8,10 +8,11 @@ use Rattle.kx_audit.specs.Making.{ClientMaking, NodeMaking, OfClient, OfCoordina
 use Rattle.kx_audit.specs.Making.{Processes, Trail, client_by, client_with, clients_of, event_with}
 use Rattle.kx_audit.specs.Making.{in_order, making_event, makings, named, node_of, processing_by}
 use Rattle.kx_audit.specs.Nodes.{node_in, node_with, partition_with}
-use Rattle.kx_audit.specs.Schedule.{IsUntraced}
+use Rattle.kx_audit.specs.Schedule.{IsUntraced, start_with}
 use Rattle.kx_message.specs.Ranges.{offsets_partition}
-use Rattle.kx_message.specs.declared.message.Node.{Node}
-use Rattle.kx_message.specs.declared.message.Node.TheVariants as node
+use Rattle.kx_message.specs.declared.message.Message.{Message}
+use Rattle.kx_message.specs.declared.message.NodeId.{NodeId}
+use Rattle.kx_message.specs.declared.message.NodeId.TheVariants as node
 use Rattle.kx_model.specs.Client.{Client}
 use Rattle.kx_model.specs.PartitionNode.{empty_partition}
 use Rattle.kx_model.specs.World.{World, client_at, is_new, partition_at, step}
@@ -37,7 +38,7 @@ pub record IsBelow (n : ℕ) (s : System) : Type 0 where
 -- the client stands as it was made, and no other node changed
 pub record IsMade (s : System) (c : ClientMaking) (t : System) : Type 0 where
   pub there : node_in t (node.Client c.number) ≡ Some (node_of (OfClient c))
-  pub others : (name : Node) → name ≢ node.Client c.number → node_in t name ≡ node_in s name
+  pub others : (name : NodeId) → name ≢ node.Client c.number → node_in t name ≡ node_in s name
   pub below : IsBelow (c.number + 1) t
   pub sent : t.world.sent ≡ s.world.sent
 
@@ -73,7 +74,7 @@ module _ (s : System) (c : ClientMaking) (below : IsBelow c.number s) where
   abbrev plain : System
   plain = record s { world = new_world }
 
-  plain_others : (name : Node) → name ≢ node.Client c.number
+  plain_others : (name : NodeId) → name ≢ node.Client c.number
       → node_in plain name ≡ node_in s name
   plain_others node.Coordinator apart = refl
   plain_others (node.Partition n) apart = refl
@@ -109,7 +110,7 @@ module _ (s : System) (c : ClientMaking) (below : IsBelow c.number s) where
     abbrev processing : System
     processing = record { world = new_world; processors = s.processors ++ new ∷ [] }
 
-    processing_others : (name : Node) → name ≢ node.Client c.number
+    processing_others : (name : NodeId) → name ≢ node.Client c.number
         → node_in processing name ≡ node_in s name
     processing_others node.Coordinator apart = refl
     processing_others (node.Partition n) apart = refl
@@ -145,7 +146,7 @@ module _ (s : System) (c : ClientMaking) (below : IsBelow c.number s) where
   MadeBy p t =
       (node_in t (node.Client c.number)
       ≡ Some (client_with (client_by c) (processing_by c.number p)))
-      × ((name : Node) → name ≢ node.Client c.number → node_in t name ≡ node_in s name)
+      × ((name : NodeId) → name ≢ node.Client c.number → node_in t name ≡ node_in s name)
       × IsBelow (c.number + 1) t × (t.world.sent ≡ s.world.sent)
 
   made_by : (p : Option Processes) → MadeBy p (system_step s (event_with c p)).0
@@ -168,7 +169,7 @@ module _ (s : System) (c : ClientMaking) (below : IsBelow c.number s) where
 pub record AreMade (s : System) (cs : List ClientMaking) (t : System) : Type 0 where
   pub there : (c : ClientMaking) → IsIn c cs
       → node_in t (node.Client c.number) ≡ Some (node_of (OfClient c))
-  pub others : (name : Node) → ((c : ClientMaking) → IsIn c cs → name ≢ node.Client c.number)
+  pub others : (name : NodeId) → ((c : ClientMaking) → IsIn c cs → name ≢ node.Client c.number)
       → node_in t name ≡ node_in s name
   pub sent : t.world.sent ≡ s.world.sent
 
@@ -238,11 +239,14 @@ partition_there count n few (inr is) =
 
 ------ the node of each trace
 
-module _ (count : ℕ) (few : count < offsets_partition) where
-  abbrev begun : List Trail → System
-  begun trails = run_system (makings trails) (start_system count)
+module _ (arrived : List Message) (count : ℕ) (few : count < offsets_partition) where
+  abbrev begin : System
+  begin = start_with arrived count
 
-  nothing_below : IsBelow 0 (start_system count)
+  abbrev begun : List Trail → System
+  begun trails = run_system (makings trails) begin
+
+  nothing_below : IsBelow 0 begin
   nothing_below = record { clients = tt; processors = tt }
 
   -- a partition that is there, if it is one
@@ -255,14 +259,14 @@ module _ (count : ℕ) (few : count < offsets_partition) where
       → slice_get trails k ≡ Some t → (m : NodeMaking) → t.made ≡ m → IsThere m
       → node_in (begun trails) (named m) ≡ Some (node_of m)
   begins_by trails apart k t at OfCoordinator is there =
-      (makings_made trails (start_system count) apart nothing_below).others node.Coordinator
+      (makings_made trails begin apart nothing_below).others node.Coordinator
       (λ c h same. absurd cc)
   begins_by trails apart k t at (OfPartition n) is there =
-      (makings_made trails (start_system count) apart nothing_below).others (node.Partition n)
+      (makings_made trails begin apart nothing_below).others (node.Partition n)
       (λ c h same. absurd cc)
       ∙ ap (partition_with n) (partition_there count n few there)
   begins_by trails apart k t at (OfClient c) is there =
-      (makings_made trails (start_system count) apart nothing_below).there c
+      (makings_made trails begin apart nothing_below).there c
       (order_has (clients_of trails) c (in_clients trails k t c at is))
 
   pub begins : (trails : List Trail) → AreApart trails → (k : ℕ) (t : Trail)
@@ -270,15 +274,22 @@ module _ (count : ℕ) (few : count < offsets_partition) where
       → node_in (begun trails) (named t.made) ≡ Some (node_of t.made)
   begins trails apart k t at there = begins_by trails apart k t at t.made refl there
 
-  pub begun_sent : (trails : List Trail) → AreApart trails → (begun trails).world.sent ≡ []
+  pub begun_sent : (trails : List Trail) → AreApart trails → (begun trails).world.sent ≡ arrived
   begun_sent trails apart =
-      (makings_made trails (start_system count) apart nothing_below).sent
+      (makings_made trails begin apart nothing_below).sent
+
+  -- what arrived from outside changes no node
+  same_nodes : (name : NodeId) → node_in begin name ≡ node_in (start_system count) name
+  same_nodes node.Coordinator = refl
+  same_nodes (node.Partition n) = refl
+  same_nodes (node.Client n) = refl
 
   -- a node of no trace is as in the beginning
-  pub begun_others : (trails : List Trail) → AreApart trails → (name : Node)
+  pub begun_others : (trails : List Trail) → AreApart trails → (name : NodeId)
       → IsUntraced trails name → node_in (begun trails) name ≡ node_in (start_system count) name
   begun_others trails apart name none =
-      (makings_made trails (start_system count) apart nothing_below).others name
+      (makings_made trails begin apart nothing_below).others name
       (λ c is same.
       let t = trail_of trails c (order_only (clients_of trails) c is) in
       none t.place t.trail t.at (same ∙ sym (ap named t.made)))
+      ∙ same_nodes name

@@ -6,7 +6,7 @@ use Rattle.std.specs.Prelude.{slice_get, sum_by}
 use Rattle.std.proofs.lemmas.List.{take_all}
 use Rattle.std.proofs.lemmas.List.Sums.{sum_by-cons}
 use Rattle.kx_audit.specs.Making.{NodeMaking, Trail, named, node_of, trail_of}
-use Rattle.kx_audit.specs.Merged.{AreDone, IsMerging, Merged, lines_of, told_so_far}
+use Rattle.kx_audit.specs.Merged.{AreDone, IsMerging, Merged, arrived_at, lines_of, told_so_far}
 use Rattle.kx_audit.specs.Refused.{HaveOrder}
 use Rattle.kx_audit.specs.Replayed.{Progress, left, line_of, machines_of, name_at, steps_of}
 use Rattle.kx_audit.specs.Replayed.{traces_of, trails_of}
@@ -65,7 +65,7 @@ module _ {B M : Type 0} (making : B → NodeMaking) (stands : NodeState → M �
         let own = done k p at in
         is.fits k p at ∙ take_all p.done (line_of making p) (omega (arith, all, own))
 
-    pub are_merged : AreMerged trails told
+    pub are_merged : AreMerged (arrived_at making m.clients m.nodes) trails told
     are_merged = record {
       apart = is.apart;
       each = λ k t at.
@@ -106,7 +106,7 @@ module _ {B M : Type 0} (making : B → NodeMaking) (stands : NodeState → M �
         of.trail_is (node_answers k of.node of.there)
 
     -- so they have an order
-    pub have_order : HaveOrder trails
+    pub have_order : HaveOrder (arrived_at making m.clients m.nodes) trails
     have_order = record {
       told = told;
       merged = are_merged;

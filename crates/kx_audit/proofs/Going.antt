@@ -7,8 +7,8 @@ use Rattle.kx_machine.specs.Meaning.{AtClient, AtCoordinator, AtPartition, AtPro
 use Rattle.kx_machine.specs.Meaning.{node_step}
 use Rattle.kx_message.specs.Ranges.{offsets_partition}
 use Rattle.kx_message.specs.declared.message.Message.{Message}
-use Rattle.kx_message.specs.declared.message.Node.{Node}
-use Rattle.kx_message.specs.declared.message.Node.TheVariants as node
+use Rattle.kx_message.specs.declared.message.NodeId.{NodeId}
+use Rattle.kx_message.specs.declared.message.NodeId.TheVariants as node
 use Rattle.kx_model.specs.Client.{Client}
 use Rattle.kx_model.specs.Disk.{Store}
 use Rattle.kx_model.specs.PartitionNode.{Partition}
@@ -23,10 +23,10 @@ use Rattle.kx_audit.proofs.Lookups.{found_number, look_other, look_put}
 use Rattle.kx_system.proofs.Numbers.{processing_number, step_number, turn_number}
 
 -- the node comes to stand where its step leaves it, and no other node changes
-pub record Goes (s : System) (to : Node) (after : NodeStep NodeState) (t : SystemStepped)
+pub record Goes (s : System) (to : NodeId) (after : NodeStep NodeState) (t : SystemStepped)
     : Type 0 where
   pub node_is : node_in t.0 to ≡ Some after.state
-  pub others : (other : Node) → other ≢ to → node_in t.0 other ≡ node_in s other
+  pub others : (other : NodeId) → other ≢ to → node_in t.0 other ≡ node_in s other
   pub sent : t.0.world.sent ≡ s.world.sent ++ after.messages
   pub note_is : t.1 ≡ after.note
 
@@ -51,7 +51,7 @@ module _ (s : System) (store : Store) (input : Input) where
     note_is = refl;
   }
     where
-      others : (other : Node) → other ≢ node.Coordinator
+      others : (other : NodeId) → other ≢ node.Coordinator
           → node_in (handed_in s node.Coordinator store input).0 other ≡ node_in s other
       others node.Coordinator apart = absurd (apart refl)
       others (node.Partition n) apart = refl
@@ -79,7 +79,7 @@ module _ (s : System) (store : Store) (input : Input) where
         by true h = refl
         by false h = get_new w.partitions number p served.state h
 
-    partition_others : (other : Node) → other ≢ node.Partition number
+    partition_others : (other : NodeId) → other ≢ node.Partition number
         → node_in partition_done.0 other ≡ node_in s other
     partition_others node.Coordinator apart = refl
     partition_others (node.Client n) apart = refl
@@ -136,7 +136,7 @@ module _ (s : System) (store : Store) (input : Input) where
           there
           ∙ ap (λ o. after_turn s (at_client w input (Some c)) (turn_with input (Some c) o)) beside
 
-      client_others : (other : Node) → other ≢ node.Client number
+      client_others : (other : NodeId) → other ≢ node.Client number
           → node_in client_done.0 other ≡ node_in s other
       client_others node.Coordinator apart = refl
       client_others (node.Partition n) apart = refl
@@ -181,7 +181,7 @@ module _ (s : System) (store : Store) (input : Input) where
           processing_number processor input
           ∙ found_number (λ (x : Processing). x.number) number s.processors q beside
 
-      turn_others : (other : Node) → other ≢ node.Client number
+      turn_others : (other : NodeId) → other ≢ node.Client number
           → node_in turn_done.0 other ≡ node_in s other
       turn_others node.Coordinator apart = refl
       turn_others (node.Partition n) apart = refl
@@ -210,7 +210,7 @@ module _ (s : System) (store : Store) (input : Input) where
 
   ------ a node of any kind
 
-  abbrev Gone : Node → NodeState → Type 0
+  abbrev Gone : NodeId → NodeState → Type 0
   Gone to before = Goes s to (node_step before store input) (handed_in s to store input)
 
   partition_by : (number : ℕ) (before : NodeState) (o : Option Partition)
@@ -233,7 +233,7 @@ module _ (s : System) (store : Store) (input : Input) where
       subst (Gone (node.Client number)) same (turn_goes number c there q e)
 
   -- wherever the node stands
-  pub goes : (to : Node) (before : NodeState) → node_in s to ≡ Some before → Gone to before
+  pub goes : (to : NodeId) (before : NodeState) → node_in s to ≡ Some before → Gone to before
   goes node.Coordinator before is =
       let same : AtCoordinator w.coordinator ≡ before = cc in
       subst (Gone node.Coordinator) same coordinator_goes

@@ -9,7 +9,7 @@ use Rattle.kx_machine.specs.Meaning.{input_of}
 use Rattle.kx_machine.specs.declared.input.Input.{Input}
 use Rattle.kx_machine.specs.declared.input.Input.TheVariants as input
 use Rattle.kx_message.specs.declared.message.Message.{Message}
-use Rattle.kx_message.specs.declared.message.Node.{Node}
+use Rattle.kx_message.specs.declared.message.NodeId.{NodeId}
 use Rattle.kx_model.specs.Disk.{Store}
 use Rattle.kx_model.specs.Step as model
 use Rattle.kx_model.specs.World.{Deliver, Event, Hand, IsInput, Stepped, delivered, handed, step}
@@ -25,11 +25,11 @@ after_turn s stepped (Some turn) =
     (with_processor s after.state after.messages, after.note)
 
 -- a node of a system is handed an input
-abbrev pub handed_in : System → Node → Store → model.Input → SystemStepped
+abbrev pub handed_in : System → NodeId → Store → model.Input → SystemStepped
 handed_in s to store input = after_turn s (handed s.world to store input) (turn_at s to input)
 
 -- the step is an event, in which the node is handed the input
-pub record IsHanded (s : System) (to : Node) (store : Store) (given : Input) : Type 0 where
+pub record IsHanded (s : System) (to : NodeId) (store : Store) (given : Input) : Type 0 where
   pub event : SystemEvent
   pub fits : IsSystemEvent event
   pub is : IsEventOf s.world.sent to given store event
@@ -45,7 +45,7 @@ pub number_of : {A : Type 0} (xs : List A) (x : A) → Contains xs x
     → (k : ℕ) × (slice_get xs k ≡ Some x)
 number_of xs x c = (c.0, slice_get-get_or xs c.0 x c.1 ∙ ap Some c.2)
 
-module _ (s : System) (to : Node) (store : Store) where
+module _ (s : System) (to : NodeId) (store : Store) where
   by_delivery : (which : ℕ) → system_step s (Happens (Deliver which to store))
       ≡ after_turn s (delivered s.world to store (slice_get s.world.sent which))
       (turn_delivered s to (slice_get s.world.sent which))

@@ -12,8 +12,8 @@ use Rattle.kx_audit.specs.Making.{NodeMaking}
 use Rattle.kx_audit.specs.Receipts.{IsNamed}
 use Rattle.kx_audit.specs.Replayed.{Progress, name_at, traces_of, trails_of}
 use Rattle.kx_audit.specs.declared.key.NodeKey.{NodeKey}
-use Rattle.kx_message.specs.declared.message.Node.{Node}
-use Rattle.kx_message.specs.declared.message.Node.TheVariants as node
+use Rattle.kx_message.specs.declared.message.NodeId.{NodeId}
+use Rattle.kx_message.specs.declared.message.NodeId.TheVariants as node
 use Rattle.kx_nodes.specs.declared.receipt.Receipt.{Receipt}
 use Rattle.kx_audit.proofs.Places.{more_places}
 use Rattle.kx_audit.proofs.Sources.{trail_at}
@@ -22,7 +22,7 @@ pub same_decides : (a b : NodeKey) → Decides (same_key a b) (a ≡ b)
 same_decides a b = search (rules, unsigned_Decides)
 
 -- names of one key are one
-pub one_name : (a b : Node) → key_of a ≡ key_of b → a ≡ b
+pub one_name : (a b : NodeId) → key_of a ≡ key_of b → a ≡ b
 one_name node.Coordinator node.Coordinator e = refl
 one_name (node.Partition m) (node.Partition n) e = cc
 one_name (node.Client m) (node.Client n) e = cc

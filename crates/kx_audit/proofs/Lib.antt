@@ -30,3 +30,4 @@ pub mod Seeing
 pub mod Begun
 pub mod Counting
 pub mod Yes
+pub mod Requests

@@ -6,12 +6,12 @@ use Rattle.std.proofs.lemmas.Option.{same_Some}
 use Rattle.kx_audit.specs.Replayed.{told_by}
 use Rattle.kx_audit.specs.Told.{Told, told_steps, told_takens}
 use Rattle.kx_machine.specs.declared.taken.Taken.{Taken}
-use Rattle.kx_message.specs.declared.message.Node.{Node}
+use Rattle.kx_message.specs.declared.message.NodeId.{NodeId}
 use Rattle.kx_nodes.specs.declared.trace.Step.{Step}
 
 ------ at a place
 
-pub told_by_at : (name : Node) (steps : List Step) (takens : List Taken) (k : ℕ) (step : Step)
+pub told_by_at : (name : NodeId) (steps : List Step) (takens : List Taken) (k : ℕ) (step : Step)
     (taken : Taken) → slice_get steps k ≡ Some step → slice_get takens k ≡ Some taken
     → slice_get (told_by name steps takens) k
     ≡ Some (record { node = name; step = step; taken = taken })
@@ -22,13 +22,13 @@ told_by_at name (s ∷ steps) (t ∷ takens) (suc k) step taken at there =
     told_by_at name steps takens k step taken at there
 
 -- and nothing else is told there
-pub record IsToldBy (name : Node) (steps : List Step) (takens : List Taken) (place : ℕ) (x : Told)
+pub record IsToldBy (name : NodeId) (steps : List Step) (takens : List Taken) (place : ℕ) (x : Told)
     : Type 0 where
   pub node_is : x.node ≡ name
   pub step_is : slice_get steps place ≡ Some x.step
   pub taken_is : slice_get takens place ≡ Some x.taken
 
-pub told_by_is : (name : Node) (steps : List Step) (takens : List Taken) (place : ℕ) (x : Told)
+pub told_by_is : (name : NodeId) (steps : List Step) (takens : List Taken) (place : ℕ) (x : Told)
     → slice_get (told_by name steps takens) place ≡ Some x → IsToldBy name steps takens place x
 told_by_is name [] takens place x at = absurd cc
 told_by_is name (s ∷ steps) [] place x at = absurd cc
@@ -42,21 +42,21 @@ told_by_is name (s ∷ steps) (t ∷ takens) (suc place) x at =
 
 ------ all of it
 
-pub told_by_length : (name : Node) (steps : List Step) (takens : List Taken)
+pub told_by_length : (name : NodeId) (steps : List Step) (takens : List Taken)
     → length takens ≡ length steps → length (told_by name steps takens) ≡ length steps
 told_by_length name [] takens e = refl
 told_by_length name (s ∷ steps) [] e = absurd (omega (arith, e))
 told_by_length name (s ∷ steps) (t ∷ takens) e =
     ap suc (told_by_length name steps takens (omega (arith, e)))
 
-pub told_by_steps : (name : Node) (steps : List Step) (takens : List Taken)
+pub told_by_steps : (name : NodeId) (steps : List Step) (takens : List Taken)
     → length takens ≡ length steps → told_steps (told_by name steps takens) ≡ steps
 told_by_steps name [] takens e = refl
 told_by_steps name (s ∷ steps) [] e = absurd (omega (arith, e))
 told_by_steps name (s ∷ steps) (t ∷ takens) e =
     ap (λ (l : List Step). s ∷ l) (told_by_steps name steps takens (omega (arith, e)))
 
-pub told_by_takens : (name : Node) (steps : List Step) (takens : List Taken)
+pub told_by_takens : (name : NodeId) (steps : List Step) (takens : List Taken)
     → length takens ≡ length steps → told_takens (told_by name steps takens) ≡ takens
 told_by_takens name [] [] e = refl
 told_by_takens name [] (t ∷ takens) e = absurd (omega (arith, e))

@@ -11,7 +11,7 @@ use Rattle.kx_audit.specs.Schedule.{AllOccur, IsStep, Occurs}
 use Rattle.kx_machine.specs.Meaning.{NodeState, input_of, note_of}
 use Rattle.kx_machine.specs.declared.taken.Taken.{Taken}
 use Rattle.kx_message.specs.declared.message.Message.{Message}
-use Rattle.kx_message.specs.declared.message.Node.{Node}
+use Rattle.kx_message.specs.declared.message.NodeId.{NodeId}
 use Rattle.kx_nodes.specs.Replay.{Takes}
 use Rattle.kx_system.specs.System.{IsSystemEvent, System, SystemEvent, SystemStepped, run_system}
 use Rattle.kx_system.specs.System.{system_step}
@@ -53,11 +53,11 @@ happened s p before there takes fits was =
 
 ------ the steps at a node
 
-pub at_own : (p : Passed) (ps : List Passed) (name : Node) → same_node p.node name ≡ true
+pub at_own : (p : Passed) (ps : List Passed) (name : NodeId) → same_node p.node name ≡ true
     → at_node name (p ∷ ps) ≡ p ∷ at_node name ps
 at_own p ps name e = ap (λ b. cond b (p ∷ at_node name ps) (at_node name ps)) e
 
-pub at_other : (p : Passed) (ps : List Passed) (name : Node) → same_node p.node name ≡ false
+pub at_other : (p : Passed) (ps : List Passed) (name : NodeId) → same_node p.node name ≡ false
     → at_node name (p ∷ ps) ≡ at_node name ps
 at_other p ps name e = ap (λ b. cond b (p ∷ at_node name ps) (at_node name ps)) e
 
@@ -73,26 +73,26 @@ led_nowhere (Some node) = refl
 ------ all steps
 
 -- the steps are of nodes with these names
-module _ (IsKnown : Node → Type 0) where
+module _ (IsKnown : NodeId → Type 0) where
   abbrev pub AreKnown : List Passed → Type 0
   AreKnown [] = Unit {0}
   AreKnown (p ∷ ps) = (IsKnown p.node × IsStep p.step) × AreKnown ps
 
   -- a node of this name takes the steps at it
-  pub record Stands (s : System) (merged : List Passed) (name : Node) : Type 0 where
+  pub record Stands (s : System) (merged : List Passed) (name : NodeId) : Type 0 where
     pub before : NodeState
     pub there : node_in s name ≡ Some before
     pub goes_on : GoesOn before (at_node name merged)
 
   abbrev pub AllStand : System → List Passed → Type 0
-  AllStand s merged = (name : Node) → IsKnown name → Stands s merged name
+  AllStand s merged = (name : NodeId) → IsKnown name → Stands s merged name
 
   module _ (s : System) (p : Passed) (ps : List Passed) (event : SystemEvent)
       (is : Occurs s p event) where
     abbrev later : System
     later = (system_step s event).0
 
-    stands_on : (name : Node) (b : Bool) → same_node p.node name ≡ b
+    stands_on : (name : NodeId) (b : Bool) → same_node p.node name ≡ b
         → GoesOn p.after (at_node p.node ps) → Stands s (p ∷ ps) name → Stands later ps name
     stands_on name true e on old =
         subst (Stands later ps) (same_is p.node name e)
@@ -103,18 +103,18 @@ module _ (IsKnown : Node → Type 0) where
       goes_on = subst (GoesOn old.before) (at_other p ps name e) old.goes_on;
     }
 
-    leads : (events : List SystemEvent) → ((name : Node) → node_in (run_system events later) name
+    leads : (events : List SystemEvent) → ((name : NodeId) → node_in (run_system events later) name
         ≡ led_in (node_in later name) (at_node name ps)) → (before : NodeState)
-        → node_in s p.node ≡ Some before → (name : Node) (b : Bool) → same_node p.node name ≡ b
+        → node_in s p.node ≡ Some before → (name : NodeId) (b : Bool) → same_node p.node name ≡ b
         → node_in (run_system events later) name
         ≡ led_in (node_in s name) (at_node name (p ∷ ps))
     leads events rest before there name true e =
         let own : p.node ≡ name = same_is p.node name e in
         rest name
         ∙ ap (λ o. led_in o (at_node name ps))
-        (subst (λ (n : Node). node_in later n ≡ Some p.after) own is.node_is)
+        (subst (λ (n : NodeId). node_in later n ≡ Some p.after) own is.node_is)
         ∙ sym (ap (λ o. led_in o (at_node name (p ∷ ps)))
-        (subst (λ (n : Node). node_in s n ≡ Some before) own there)
+        (subst (λ (n : NodeId). node_in s n ≡ Some before) own there)
         ∙ ap (λ (qs : List Passed). Some (led_to before qs)) (at_own p ps name e))
     leads events rest before there name false e =
         rest name
@@ -126,7 +126,7 @@ module _ (IsKnown : Node → Type 0) where
     pub events : List SystemEvent
     pub fit : All IsSystemEvent events
     pub occur : AllOccur s merged events
-    pub stand : (name : Node) → node_in (run_system events s) name
+    pub stand : (name : NodeId) → node_in (run_system events s) name
         ≡ led_in (node_in s name) (at_node name merged)
     pub sent : (run_system events s).world.sent ≡ s.world.sent ++ handed_out merged
 

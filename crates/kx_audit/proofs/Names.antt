@@ -9,20 +9,20 @@ use Rattle.kx_audit.specs.Nodes.{same_node}
 use Rattle.kx_machine.specs.Meaning.{made_as}
 use Rattle.kx_machine.specs.declared.machine.Making.{Making}
 use Rattle.kx_machine.specs.declared.machine.Making.TheVariants as making
-use Rattle.kx_message.specs.declared.message.Node.{Node}
-use Rattle.kx_message.specs.declared.message.Node.TheVariants as node
+use Rattle.kx_message.specs.declared.message.NodeId.{NodeId}
+use Rattle.kx_message.specs.declared.message.NodeId.TheVariants as node
 use Rattle.kx_nodes.specs.Made.{made_processor}
 use Rattle.kx_nodes.specs.Replay.{name_of}
 use Rattle.kx_nodes.specs.declared.made.ProcessorMaking.{ProcessorMaking}
 use Rattle.kx_system.specs.Processor.{Images}
 use Rattle.kx_audit.proofs.Lookups.{equal}
 
-pub same_self : (a : Node) → same_node a a ≡ true
+pub same_self : (a : NodeId) → same_node a a ≡ true
 same_self node.Coordinator = refl
 same_self (node.Partition n) = equal n n refl
 same_self (node.Client n) = equal n n refl
 
-pub same_is : (a b : Node) → same_node a b ≡ true → a ≡ b
+pub same_is : (a b : NodeId) → same_node a b ≡ true → a ≡ b
 same_is node.Coordinator node.Coordinator e = refl
 same_is (node.Partition m) (node.Partition n) e =
     ap (λ (k : ℕ). node.Partition k) ((Decides-eqb m n).0 e)
@@ -35,12 +35,12 @@ same_is (node.Partition m) (node.Client n) e = absurd cc
 same_is (node.Client m) node.Coordinator e = absurd cc
 same_is (node.Client m) (node.Partition n) e = absurd cc
 
-pub same_not : (a b : Node) → same_node a b ≡ false → a ≢ b
+pub same_not : (a b : NodeId) → same_node a b ≡ false → a ≢ b
 same_not a b e is =
     let both : same_node a b ≡ true = subst (λ c. same_node a c ≡ true) is (same_self a) in
     absurd (let h = sym e ∙ both in cc)
 
-pub apart : (a b : Node) → a ≢ b → same_node a b ≡ false
+pub apart : (a b : NodeId) → a ≢ b → same_node a b ≡ false
 apart a b h = by (same_node a b) refl
   where
     by : (c : Bool) → same_node a b ≡ c → c ≡ false

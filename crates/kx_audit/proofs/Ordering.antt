@@ -7,7 +7,7 @@ use Rattle.std.proofs.lemmas.Bool.Decides.{Decides-ltb, nat_tests}
 use Rattle.kx_audit.specs.Joined.{AreApart}
 use Rattle.kx_audit.specs.Making.{ClientMaking, NodeMaking, OfClient, OfCoordinator, OfPartition}
 use Rattle.kx_audit.specs.Making.{Trail, client_in, clients_of, in_order, named, placed}
-use Rattle.kx_message.specs.declared.message.Node.TheVariants as node
+use Rattle.kx_message.specs.declared.message.NodeId.TheVariants as node
 
 abbrev pub IsIn : ClientMaking → List ClientMaking → Type 0
 IsIn c [] = ⊥

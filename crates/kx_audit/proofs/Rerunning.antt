@@ -1,13 +1,13 @@
 -- A trace that is run again takes one more step.
-use Rattle.std.proofs.Common.{◌≡◌, ◌++◌, ◌+◌, ℕ, List, [], ◌∷◌, length, take, drop, Some, refl, sym}
-use Rattle.std.proofs.Common.{ap, ◌∙◌, subst, arith, add-one, suc}
+use Rattle.std.proofs.Common.{◌≡◌, ◌++◌, ◌+◌, ℕ, List, [], ◌∷◌, length, take, drop, Option, Some}
+use Rattle.std.proofs.Common.{refl, sym, ap, ◌∙◌, subst, arith, add-one, suc}
 use Rattle.std.specs.Prelude.{slice_get}
 use Rattle.kx_audit.specs.Replayed.{IsRunTo, told_by}
 use Rattle.kx_audit.specs.Joined.{led_to}
 use Rattle.kx_audit.specs.Told.{AnswersSo, Told, told_steps, told_takens}
 use Rattle.kx_machine.specs.Meaning.{IsTaken, NodeState, input_of, node_step, taken_of}
 use Rattle.kx_machine.specs.declared.taken.Taken.{Taken}
-use Rattle.kx_message.specs.declared.message.Node.{Node}
+use Rattle.kx_message.specs.declared.message.NodeId.{NodeId}
 use Rattle.kx_model.specs.Disk.{Store}
 use Rattle.kx_nodes.specs.Again.{MayMeet, RunsOn, mode_for}
 use Rattle.kx_nodes.specs.Replay.{mark_of}
@@ -34,7 +34,7 @@ drop_next {A} xs d x at =
 
 ------ what is told
 
-pub told_by_push : (name : Node) (steps : List Step) (takens : List Taken) (step : Step)
+pub told_by_push : (name : NodeId) (steps : List Step) (takens : List Taken) (step : Step)
     (taken : Taken) → length takens ≡ length steps
     → told_by name (steps ++ step ∷ []) (takens ++ taken ∷ [])
     ≡ told_by name steps takens ++ record { node = name; step = step; taken = taken } ∷ []
@@ -60,7 +60,7 @@ pub record RunAgain (made : NodeState) : Type 0 where
       → RunsOn made (before ++ step ∷ []) behind
       (node_step node store (input_of step.input)).state
 
-module _ {M : Type 0} (stands : NodeState → M → Type 0) (name : Node) (made : NodeState)
+module _ {M : Type 0} (stands : NodeState → M → Type 0) (name : NodeId) (made : NodeState)
     (steps : List Step) where
   -- a machine, the steps that it has taken and those that it is to take
   record Run : Type 0 where
@@ -84,8 +84,8 @@ module _ {M : Type 0} (stands : NodeState → M → Type 0) (name : Node) (made 
     count_is = refl;
   }
 
-  abbrev Any : Store → Type 0
-  Any store = Unit {0}
+  abbrev Any : Option ℕ → Store → Type 0
+  Any size store = Unit {0}
 
   abbrev at : M → ℕ → Run
   at machine count =
@@ -96,7 +96,7 @@ module _ {M : Type 0} (stands : NodeState → M → Type 0) (name : Node) (made 
       → slice_get steps count ≡ Some step
       → ((state : NodeState) → stands state old
       → IsTaken state (input_of step.input)
-      (MayMeet state (mode_for step (drop (count + 1) steps)))
+      (λ size. MayMeet state (mode_for step (drop (count + 1) steps)))
       (λ after. stands after new) taken)
       → (state : NodeState) → CanGo state (at old count)
       → IsTaken state (input_of step.input) Any (λ after. CanGo after (at new (count + 1))) taken
@@ -121,7 +121,7 @@ module _ {M : Type 0} (stands : NodeState → M → Type 0) (name : Node) (made 
   marked : RunAgain made → (count : ℕ) (step : Step) (machine : M) (new : M) (taken : Taken)
       (state : NodeState) → slice_get steps count ≡ Some step → CanGo state (at machine count)
       → IsTaken state (input_of step.input)
-      (MayMeet state (mode_for step (drop (count + 1) steps)))
+      (λ size. MayMeet state (mode_for step (drop (count + 1) steps)))
       (λ after. stands after new) taken
       → step.mark ≡ mark_of taken
   marked law count step machine new taken state there can is =
@@ -134,7 +134,7 @@ module _ {M : Type 0} (stands : NodeState → M → Type 0) (name : Node) (made 
       (taken : Taken) → slice_get steps count ≡ Some step
       → ((state : NodeState) → stands state old
       → IsTaken state (input_of step.input)
-      (MayMeet state (mode_for step (drop (count + 1) steps)))
+      (λ size. MayMeet state (mode_for step (drop (count + 1) steps)))
       (λ after. stands after new) taken)
       → IsRunTo stands name made steps count takens old
       → IsRunTo stands name made steps (count + 1) (takens ++ taken ∷ []) new
@@ -159,7 +159,7 @@ module _ {M : Type 0} (stands : NodeState → M → Type 0) (name : Node) (made 
       }
 
 -- all steps are taken
-pub run_ends : {M : Type 0} (stands : NodeState → M → Type 0) (name : Node) (made : NodeState)
+pub run_ends : {M : Type 0} (stands : NodeState → M → Type 0) (name : NodeId) (made : NodeState)
     (steps : List Step) (takens : List Taken) (machine : M)
     → IsRunTo stands name made steps (length steps) takens machine
     → AnswersSo made (told_by name steps takens) (λ node. stands node machine)

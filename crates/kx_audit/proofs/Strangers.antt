@@ -1,8 +1,9 @@
 -- Messages that are taken in, and that no step of any trace hands out.
 use Rattle.std.proofs.Common.{◌≡◌, ℕ, zero, suc, List, [], ◌∷◌, ◌++◌, Some, Contains, refl, sym, ap}
-use Rattle.std.proofs.Common.{◌∙◌, subst}
+use Rattle.std.proofs.Common.{◌∙◌, ⊎_elim, subst}
 use Rattle.std.specs.Prelude.{slice_get}
-use Rattle.std.proofs.lemmas.List.Elements.{Contains-append_left, Contains-append_right}
+use Rattle.std.proofs.lemmas.List.Elements.{Contains-append_cases, Contains-append_left}
+use Rattle.std.proofs.lemmas.List.Elements.{Contains-append_right}
 use Rattle.std.proofs.lemmas.Option.{same_Some}
 use Rattle.kx_laws.proofs.Membership.{flat_map_holds}
 use Rattle.kx_audit.specs.Joined.{IsWay, Passed, WasHandedOut, handed_out}
@@ -75,9 +76,10 @@ module _ {B M : Type 0} (making : B → NodeMaking) (stands : NodeState → M �
   Trails nodes = trails_of making (traces_of nodes)
 
   -- one that those which were run again don't hand out, no way hands out
-  pub have_stranger : TellAnswers → (nodes : List (Progress B M)) → AreReplayed making stands nodes
-      → HasStranger nodes → HaveStranger (Trails nodes)
-  have_stranger tells nodes replayed has =
+  pub have_stranger : TellAnswers → (arrived : List Message) (nodes : List (Progress B M))
+      → AreReplayed making stands nodes → HasStranger arrived nodes
+      → HaveStranger arrived (Trails nodes)
+  have_stranger tells arrived nodes replayed has =
       let takes = has.takes in
       record {
         number = has.number;
@@ -92,15 +94,19 @@ module _ {B M : Type 0} (making : B → NodeMaking) (stands : NodeState → M �
             let p = at_trail making nodes k t at in
             let own = subst (λ (u : Trail). IsWay u way) (sym p.trail_is) is in
             let same = way_takens making stands tells p.node way (replayed k p.node p.there) own in
-            takes.unsent (in_sent nodes k p.node takes.message p.there
+            takes.unsent (Contains-append_right arrived (sent_by nodes) takes.message
+            (in_sent nodes k p.node takes.message p.there
             (subst (λ (l : List Message). Contains l takes.message)
-            (sym (handed_messages way) ∙ ap (λ (l : List Taken). messages_in l) same) out));
+            (sym (handed_messages way) ∙ ap (λ (l : List Taken). messages_in l) same) out)));
+        inside = λ here.
+            takes.unsent (Contains-append_left arrived (sent_by nodes) takes.message here);
       }
 
   -- and one that they hand out, their runs do
-  pub no_stranger : (nodes : List (Progress B M)) → AreReplayed making stands nodes
-      → (HasStranger nodes → ⊥) → HaveStranger (Trails nodes) → ⊥
-  no_stranger nodes replayed without has =
+  pub no_stranger : (arrived : List Message) (nodes : List (Progress B M))
+      → AreReplayed making stands nodes → (HasStranger arrived nodes → ⊥)
+      → HaveStranger arrived (Trails nodes) → ⊥
+  no_stranger arrived nodes replayed without has =
       let p = at_trail making nodes has.number has.trail has.trail_is in
       without (record {
         number = has.number;
@@ -113,7 +119,7 @@ module _ {B M : Type 0} (making : B → NodeMaking) (stands : NodeState → M �
           there = subst (λ (u : Trail). slice_get u.steps has.place ≡ Some has.step)
               (sym p.trail_is) has.there;
           takes = has.takes;
-          unsent = λ sent.
+          unsent = λ either. ⊎_elim has.inside (λ sent.
               let by = sender nodes has.message sent in
               let is = replayed by.number by.node by.there in
               has.none by.number (trail_of making by.node.trace) is.answers.way
@@ -121,6 +127,7 @@ module _ {B M : Type 0} (making : B → NodeMaking) (stands : NodeState → M �
               (run_is_way making stands by.node is)
               (subst (λ (l : List Message). Contains l has.message)
               (ap (λ (l : List Taken). messages_in l) (sym (run_takens making stands by.node is))
-              ∙ handed_messages is.answers.way) by.has);
+              ∙ handed_messages is.answers.way) by.has))
+              (Contains-append_cases arrived (sent_by nodes) has.message either);
         };
       })

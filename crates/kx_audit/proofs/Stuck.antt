@@ -1,11 +1,12 @@
 -- Where no node can go on and a trace isn't done, the traces are stuck.
-use Rattle.std.proofs.Common.{◌≡◌, ℕ, zero, suc, List, [], ◌∷◌, length, take, Some}
+use Rattle.std.proofs.Common.{◌≡◌, ◌++◌, ℕ, zero, suc, List, [], ◌∷◌, length, take, Some}
 use Rattle.std.proofs.Common.{sym, ap, ◌∙◌, subst, arith}
 use Rattle.std.specs.Prelude.{slice_get}
 use Rattle.std.proofs.lemmas.List.{length-take-le, take-map}
 use Rattle.kx_audit.specs.Joined.{GoesOn, Passed, WasHandedOut}
 use Rattle.kx_audit.specs.Making.{NodeMaking, Trail, named, node_of, trail_of}
-use Rattle.kx_audit.specs.Merged.{HasUndone, IsMerging, MayGo, Merged, NoneMayGo, told_so_far}
+use Rattle.kx_audit.specs.Merged.{HasUndone, IsMerging, MayGo, Merged, NoneMayGo, arrived_at}
+use Rattle.kx_audit.specs.Merged.{told_so_far}
 use Rattle.kx_audit.specs.Refused.{ArePartlyMerged, AreStuck, NoneGoesOn}
 use Rattle.kx_audit.specs.Replayed.{Progress, line_of, name_at, traces_of, trails_of}
 use Rattle.kx_audit.specs.Told.{AnswersSo, Told, told_at, told_messages, told_steps}
@@ -43,6 +44,9 @@ module _ {B M : Type 0} (making : B → NodeMaking) (stands : NodeState → M �
   abbrev told : List Told
   told = told_so_far making m
 
+  abbrev arrived : List Message
+  arrived = arrived_at making m.clients m.nodes
+
   module _ (k : ℕ) (p : Progress B M) (at : slice_get m.nodes k ≡ Some p) where
     abbrev own : List Told
     own = told_at (name_at making p) told
@@ -72,7 +76,7 @@ module _ {B M : Type 0} (making : B → NodeMaking) (stands : NodeState → M �
 
     goes_not : (MayGo m.sent p → ⊥) → (step : Step)
         → slice_get p.trace.steps (length own) ≡ Some step
-        → WasHandedOut (told_messages told) step.input → ⊥
+        → WasHandedOut (arrived ++ told_messages told) step.input → ⊥
     goes_not none step there was =
         none (record {
           step = step;
@@ -80,7 +84,7 @@ module _ {B M : Type 0} (making : B → NodeMaking) (stands : NodeState → M �
           was = subst (λ (ms : List Message). WasHandedOut ms step.input) (sym is.sent_is) was;
         })
 
-  partly : ArePartlyMerged trails told
+  partly : ArePartlyMerged arrived trails told
   partly = record {
     in_order = is.in_order;
     no_others = is.no_others;
@@ -95,14 +99,14 @@ module _ {B M : Type 0} (making : B → NodeMaking) (stands : NodeState → M �
         (λ node. Unit {0})) of.trail_is (own_answers k of.node of.there);
   }
 
-  none_goes : NoneMayGo m.sent m.nodes → NoneGoesOn trails told
+  none_goes : NoneMayGo m.sent m.nodes → NoneGoesOn arrived trails told
   none_goes none k t step at =
       let of = at_trail making m.nodes k t at in
       subst (λ (x : Trail). slice_get x.steps (length (told_at (named x.made) told)) ≡ Some step
-      → WasHandedOut (told_messages told) step.input → ⊥) of.trail_is
+      → WasHandedOut (arrived ++ told_messages told) step.input → ⊥) of.trail_is
       (goes_not k of.node of.there (none k of.node of.there) step)
 
-  pub are_stuck : NoneMayGo m.sent m.nodes → HasUndone m.nodes → AreStuck trails
+  pub are_stuck : NoneMayGo m.sent m.nodes → HasUndone m.nodes → AreStuck arrived trails
   are_stuck none undone = record {
     told = told;
     partly = partly;

@@ -12,7 +12,7 @@ use Rattle.kx_audit.specs.Told.{Told, takens_in, told_at, told_in, told_of, told
 use Rattle.kx_machine.specs.Meaning.{NodeState}
 use Rattle.kx_machine.specs.declared.taken.Taken.{Taken}
 use Rattle.kx_message.specs.declared.message.Message.{Message}
-use Rattle.kx_message.specs.declared.message.Node.{Node}
+use Rattle.kx_message.specs.declared.message.NodeId.{NodeId}
 use Rattle.kx_nodes.specs.Replay.{Takes}
 use Rattle.kx_nodes.specs.declared.trace.Step.{Step}
 use Rattle.kx_audit.proofs.Merging.{at_other, at_own}
@@ -21,11 +21,11 @@ use Rattle.kx_audit.proofs.Ordering.{tail_apart}
 
 ------ what is told at a node
 
-told_own : (x : Told) (told : List Told) (name : Node) → same_node x.node name ≡ true
+told_own : (x : Told) (told : List Told) (name : NodeId) → same_node x.node name ≡ true
     → told_at name (x ∷ told) ≡ x ∷ told_at name told
 told_own x told name e = ap (λ b. cond b (x ∷ told_at name told) (told_at name told)) e
 
-told_other : (x : Told) (told : List Told) (name : Node) → same_node x.node name ≡ false
+told_other : (x : Told) (told : List Told) (name : NodeId) → same_node x.node name ≡ false
     → told_at name (x ∷ told) ≡ told_at name told
 told_other x told name e = ap (λ b. cond b (x ∷ told_at name told) (told_at name told)) e
 
@@ -69,63 +69,63 @@ nothing_told made (p ∷ way) is = absurd (let e = is.steps_are in cc)
 
 ------ all nodes
 
-module _ (IsKnown : Node → Type 0) where
+module _ (IsKnown : NodeId → Type 0) where
   abbrev AreKnown : List Told → Type 0
   AreKnown [] = Unit {0}
   AreKnown (x ∷ told) = IsKnown x.node × AreKnown told
 
-  abbrev AllTold : List Told → (Node → NodeState) → (Node → List Passed) → Type 0
+  abbrev AllTold : List Told → (NodeId → NodeState) → (NodeId → List Passed) → Type 0
   AllTold told made ways =
-      (n : Node) → IsKnown n → IsTold (made n) (told_at n told) (ways n)
+      (n : NodeId) → IsKnown n → IsTold (made n) (told_at n told) (ways n)
 
-  record IsMixed (told : List Told) (made : Node → NodeState) (ways : Node → List Passed)
+  record IsMixed (told : List Told) (made : NodeId → NodeState) (ways : NodeId → List Passed)
       : Type 0 where
     merged : List Passed
     told_is : told_in merged ≡ told
-    goes : (n : Node) → IsKnown n → GoesOn (made n) (at_node n merged)
-    leads : (n : Node) → IsKnown n → led_to (made n) (at_node n merged) ≡ led_to (made n) (ways n)
+    goes : (n : NodeId) → IsKnown n → GoesOn (made n) (at_node n merged)
+    leads : (n : NodeId) → IsKnown n → led_to (made n) (at_node n merged) ≡ led_to (made n) (ways n)
 
-  module _ (x : Told) (told : List Told) (made : Node → NodeState) (ways : Node → List Passed)
+  module _ (x : Told) (told : List Told) (made : NodeId → NodeState) (ways : NodeId → List Passed)
       (first : First (made x.node) x (told_at x.node told) (ways x.node)) where
     abbrev p : Passed
     p = record { node = x.node; step = x.step; taken = x.taken; after = first.after }
 
     -- behind the step
-    abbrev made_then : Node → NodeState
+    abbrev made_then : NodeId → NodeState
     made_then n = cond (same_node x.node n) first.after (made n)
 
-    abbrev ways_then : Node → List Passed
+    abbrev ways_then : NodeId → List Passed
     ways_then n = cond (same_node x.node n) first.rest (ways n)
 
-    told_then : (n : Node) (b : Bool) → same_node x.node n ≡ b
+    told_then : (n : NodeId) (b : Bool) → same_node x.node n ≡ b
         → IsTold (made n) (told_at n (x ∷ told)) (ways n)
         → IsTold (cond b first.after (made n)) (told_at n told) (cond b first.rest (ways n))
     told_then n true e is =
-        subst (λ (m : Node). IsTold first.after (told_at m told) first.rest) (same_is x.node n e)
+        subst (λ (m : NodeId). IsTold first.after (told_at m told) first.rest) (same_is x.node n e)
         first.told_is
     told_then n false e is =
         subst (λ (xs : List Told). IsTold (made n) xs (ways n)) (told_other x told n e) is
 
-    goes_then : (n : Node) (merged : List Passed) (b : Bool) → same_node x.node n ≡ b
+    goes_then : (n : NodeId) (merged : List Passed) (b : Bool) → same_node x.node n ≡ b
         → GoesOn (cond b first.after (made n)) (at_node n merged)
         → GoesOn (made n) (at_node n (p ∷ merged))
     goes_then n merged true e goes =
         subst (GoesOn (made n)) (sym (at_own p merged n e)) (
-          subst (λ (m : Node). Takes (made m) x.step x.taken first.after) (same_is x.node n e)
+          subst (λ (m : NodeId). Takes (made m) x.step x.taken first.after) (same_is x.node n e)
               first.takes,
           goes,
         )
     goes_then n merged false e goes =
         subst (GoesOn (made n)) (sym (at_other p merged n e)) goes
 
-    leads_then : (n : Node) (merged : List Passed) (b : Bool) → same_node x.node n ≡ b
+    leads_then : (n : NodeId) (merged : List Passed) (b : Bool) → same_node x.node n ≡ b
         → led_to (cond b first.after (made n)) (at_node n merged)
         ≡ led_to (cond b first.after (made n)) (cond b first.rest (ways n))
         → led_to (made n) (at_node n (p ∷ merged)) ≡ led_to (made n) (ways n)
     leads_then n merged true e leads =
         ap (led_to (made n)) (at_own p merged n e)
         ∙ leads
-        ∙ subst (λ (m : Node). led_to first.after first.rest ≡ led_to (made m) (ways m))
+        ∙ subst (λ (m : NodeId). led_to first.after first.rest ≡ led_to (made m) (ways m))
         (same_is x.node n e) (sym first.leads)
     leads_then n merged false e leads =
         ap (led_to (made n)) (at_other p merged n e) ∙ leads
@@ -138,7 +138,7 @@ module _ (IsKnown : Node → Type 0) where
       leads = λ n known. leads_then n rest.merged (same_node x.node n) refl (rest.leads n known);
     }
 
-  mixed : (told : List Told) (made : Node → NodeState) (ways : Node → List Passed)
+  mixed : (told : List Told) (made : NodeId → NodeState) (ways : NodeId → List Passed)
       → AreKnown told → AllTold told made ways → IsMixed told made ways
   mixed [] made ways known all = record {
     merged = [];
@@ -159,7 +159,7 @@ module _ (IsKnown : Node → Type 0) where
 abbrev Stand : Type 1
 Stand = ℕ → NodeState → Type 0
 
-abbrev made_at : List Trail → Node → NodeState
+abbrev made_at : List Trail → NodeId → NodeState
 made_at [] name = node_of OfCoordinator
 made_at (t ∷ trails) name =
     cond (same_node (named t.made) name) (node_of t.made) (made_at trails name)
@@ -169,7 +169,7 @@ later_answers : (t : Trail) (trails : List Trail) (told : List Told) (Stands : S
 later_answers t trails told Stands all = λ k u at. all (suc k) u at
 
 ways_at : (trails : List Trail) (told : List Told) (Stands : Stand)
-    → AllAnswer trails told Stands → Node → List Passed
+    → AllAnswer trails told Stands → NodeId → List Passed
 ways_at [] told Stands all name = []
 ways_at (t ∷ trails) told Stands all name =
     cond (same_node (named t.made) name) (all 0 t refl).way
@@ -227,7 +227,7 @@ found_at (u ∷ trails) told Stands all far (suc k) t at =
 
 ------ steps that are joined
 
-steps_at : (merged : List Passed) (n : Node)
+steps_at : (merged : List Passed) (n : NodeId)
     → steps_in (at_node n merged) ≡ told_steps (told_at n (told_in merged))
 steps_at [] n = refl
 steps_at (p ∷ merged) n = by (same_node p.node n) (steps_at merged n)
@@ -244,9 +244,9 @@ order_of [] sent order = tt
 order_of (p ∷ merged) sent order =
     (order.0, order_of merged (sent ++ p.taken.messages) order.1)
 
-module _ (trails : List Trail) (told : List Told) (Stands : Stand) (are : AreMerged trails told)
-    (all : AllAnswer trails told Stands) where
-  abbrev IsName : Node → Type 0
+module _ (arrived : List Message) (trails : List Trail) (told : List Told) (Stands : Stand)
+    (are : AreMerged arrived trails told) (all : AllAnswer trails told Stands) where
+  abbrev IsName : NodeId → Type 0
   IsName name = (k : ℕ) × (t : Trail) × (slice_get trails k ≡ Some t) × (name ≡ named t.made)
 
   all_known : (xs : List Told) → ((j : ℕ) (x : Told) → slice_get xs j ≡ Some x → IsToldOf trails x)
@@ -254,10 +254,10 @@ module _ (trails : List Trail) (told : List Told) (Stands : Stand) (are : AreMer
   all_known [] known = tt
   all_known (x ∷ xs) known = (known 0 x refl, all_known xs (λ j y at. known (suc j) y at))
 
-  abbrev made : Node → NodeState
+  abbrev made : NodeId → NodeState
   made = made_at trails
 
-  abbrev ways : Node → List Passed
+  abbrev ways : NodeId → List Passed
   ways = ways_at trails told Stands all
 
   found : (k : ℕ) (t : Trail) → slice_get trails k ≡ Some t
@@ -266,13 +266,13 @@ module _ (trails : List Trail) (told : List Told) (Stands : Stand) (are : AreMer
 
   all_told : AllTold IsName told made ways
   all_told n known =
-      subst (λ (m : Node). IsTold (made m) (told_at m told) (ways m)) (sym known.3)
+      subst (λ (m : NodeId). IsTold (made m) (told_at m told) (ways m)) (sym known.3)
       (found known.0 known.1 known.2).told_is
 
   together : IsMixed IsName told made ways
   together = mixed IsName told made ways (all_known told are.no_others) all_told
 
-  pub are_found : AreFound trails told Stands
+  pub are_found : AreFound arrived trails told Stands
   are_found =
       let m = together in
       record {
@@ -290,8 +290,8 @@ module _ (trails : List Trail) (told : List Told) (Stands : Stand) (are : AreMer
               are.no_others k (told_of p)
               (sym (ap (λ (xs : List Told). slice_get xs k) m.told_is)
               ∙ slice_get-map told_of m.merged k ∙ ap (option_map told_of) at);
-          in_order = order_of m.merged []
-              (subst (AreToldInOrder []) (sym m.told_is) are.in_order);
+          in_order = order_of m.merged arrived
+              (subst (AreToldInOrder arrived) (sym m.told_is) are.in_order);
         };
         told_is = m.told_is;
         stand = λ k t at.

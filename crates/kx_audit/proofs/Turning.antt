@@ -2,20 +2,24 @@
 use Rattle.std.proofs.Common.{◌≡◌, ◌≢◌, ◌⊎◌, ◌<◌, ◌+◌, ℕ, zero}
 use Rattle.std.proofs.Common.{suc, List, [], ◌∷◌, ◌++◌, length, take}
 use Rattle.std.proofs.Common.{map, Some, refl, sym, ap, ◌∙◌, subst, inl, inr, ⊎_elim, arith}
-use Rattle.std.proofs.Common.{length-append}
+use Rattle.std.proofs.Common.{append-nil, length-append}
+use Rattle.std.proofs.lemmas.List.{append_assoc}
 use Rattle.std.specs.Prelude.{slice_get, slice_set, sum_by, slice_index_or}
 use Rattle.std.proofs.lemmas.List.Sums.{sum_by-set, sum_by-cons}
 use Rattle.std.proofs.lemmas.Option.{get_or_from_slice_get, same_Some, slice_get_within}
+use Rattle.kx_audit.specs.Arrivals.{arrivals}
 use Rattle.kx_audit.specs.Joined.{AreApart, WasHandedOut}
 use Rattle.kx_audit.specs.Making.{NodeMaking}
-use Rattle.kx_audit.specs.Merged.{AreFresh, AreThere, IsMerging, IsThere, Merged}
+use Rattle.kx_audit.specs.Merged.{AreFresh, AreThere, IsMerging, IsThere, Merged, arrived_at}
 use Rattle.kx_audit.specs.Merged.{lines_of, told_along, told_so_far, told_there}
 use Rattle.kx_audit.specs.Replayed.{AreReplayed, Progress, left, line_of, name_at, progressed}
 use Rattle.kx_audit.specs.Replayed.{IsReplayed, steps_of, traces_of, trails_of}
 use Rattle.kx_audit.specs.Told.{AreToldInOrder, IsToldOf, Told, told_at, told_messages}
+use Rattle.kx_audit.specs.declared.clients.Clients.{Clients}
 use Rattle.kx_audit.specs.declared.turn.Turn.{Turn}
 use Rattle.kx_machine.specs.Meaning.{NodeState}
 use Rattle.kx_machine.specs.declared.taken.Taken.{Taken}
+use Rattle.kx_message.specs.declared.message.Message.{Message}
 use Rattle.kx_nodes.specs.Replay.{Traced}
 use Rattle.kx_nodes.specs.declared.trace.Step.{Step}
 use Rattle.kx_audit.proofs.Along.{along_push, there_is}
@@ -82,12 +86,13 @@ module _ {B M : Type 0} (making : B → NodeMaking) (stands : NodeState → M �
   abbrev Is : Merged B M → Type 0
   Is m = IsMerging making stands m
 
-  pub merging_starts : (nodes : List (Progress B M)) → AreFresh nodes
+  pub merging_starts : (clients : Clients) (nodes : List (Progress B M)) (sent : List Message)
+      → sent ≡ arrived_at making clients nodes → AreFresh nodes
       → AreReplayed making stands nodes → AreApart (trails_of making (traces_of nodes))
-      → Is (record { nodes = nodes; turns = []; sent = [] })
-  merging_starts nodes fresh replayed apart = record {
+      → Is (record { clients = clients; nodes = nodes; turns = []; sent = sent })
+  merging_starts clients nodes sent arrived fresh replayed apart = record {
     in_order = tt;
-    sent_is = refl;
+    sent_is = arrived ∙ sym (append-nil (arrived_at making clients nodes));
     no_others = λ j x at. absurd cc;
     turns_there = λ j turn at. absurd cc;
     fits = λ k p at. ap (λ n. take n (line_of making p)) (sym (fresh k p at));
@@ -108,6 +113,7 @@ module _ {B M : Type 0} (making : B → NodeMaking) (stands : NodeState → M �
 
     abbrev then_merged : Merged B M
     then_merged = record {
+      clients = m.clients;
       nodes = then_nodes;
       turns = m.turns ++ record { trace = k; step = p.done } ∷ [];
       sent = m.sent ++ taken.messages;
@@ -141,8 +147,16 @@ module _ {B M : Type 0} (making : B → NodeMaking) (stands : NodeState → M �
         (λ same. subst (IsThere (lines_of making m.nodes)) same (x, turn_there))
         (get_more m.turns turn j other there_too))
 
-    order_then : AreToldInOrder [] (told_so_far making m ++ x ∷ [])
-    order_then = order_push (told_so_far making m) x is.in_order
+    -- what had arrived stays the same
+    abbrev arrived : List Message
+    arrived = arrived_at making m.clients m.nodes
+
+    arrived_are : arrived_at making m.clients then_nodes ≡ arrived
+    arrived_are =
+        ap (λ (ts : List (Traced B)). arrivals m.clients (trails_of making ts)) traces_are
+
+    order_then : AreToldInOrder arrived (told_so_far making m ++ x ∷ [])
+    order_then = order_push arrived (told_so_far making m) x is.in_order
         (subst (λ (l : List _). WasHandedOut l step.input) is.sent_is was)
 
     known : (j : ℕ) (y : Told) → slice_get (told_so_far making m ++ x ∷ []) j ≡ Some y
@@ -187,10 +201,15 @@ module _ {B M : Type 0} (making : B → NodeMaking) (stands : NodeState → M �
 
     pub merging_goes : Is then_merged
     merging_goes = record {
-      in_order = subst (AreToldInOrder []) (sym told_is) order_then;
-      sent_is = ap (λ (l : List _). l ++ taken.messages) is.sent_is
-          ∙ sym (messages_push (told_so_far making m) x)
-          ∙ ap told_messages (sym told_is);
+      in_order = subst (λ (ms : List Message).
+          AreToldInOrder ms (told_so_far making then_merged)) (sym arrived_are)
+          (subst (AreToldInOrder arrived) (sym told_is) order_then);
+      sent_is = ap (λ (l : List Message). l ++ taken.messages) is.sent_is
+          ∙ append_assoc arrived (told_messages (told_so_far making m)) taken.messages
+          ∙ ap (λ (l : List Message). arrived ++ l)
+          (sym (messages_push (told_so_far making m) x) ∙ ap told_messages (sym told_is))
+          ∙ ap (λ (l : List Message). l ++ told_messages (told_so_far making then_merged))
+          (sym arrived_are);
       no_others = λ j y there_too.
           subst (λ (ts : List (Traced B)). IsToldOf (trails_of making ts) y) (sym traces_are)
           (known j y (ap (λ (l : List Told). slice_get l j) (sym told_is) ∙ there_too));

@@ -6,7 +6,7 @@ use Rattle.kx_audit.specs.Joined.{GoesOn, IsWay, Passed}
 use Rattle.kx_audit.specs.Joined.{led_to, steps_in}
 use Rattle.kx_audit.specs.Making.{Trail, node_of}
 use Rattle.kx_machine.specs.Meaning.{NodeState}
-use Rattle.kx_message.specs.declared.message.Node.{Node}
+use Rattle.kx_message.specs.declared.message.NodeId.{NodeId}
 use Rattle.kx_nodes.specs.Replay.{AsMade, OneMore, Replays, Takes}
 use Rattle.kx_nodes.specs.declared.trace.Step.{Step}
 
@@ -54,7 +54,7 @@ pub record LeadsTo (made : NodeState) (steps : List Step) (node : NodeState) : T
   pub leads : led_to made way ≡ node
 
 -- a trace that leads to a node has one, for a node of any name
-pub leads_to : (name : Node) (made : NodeState) (steps : List Step) (node : NodeState)
+pub leads_to : (name : NodeId) (made : NodeState) (steps : List Step) (node : NodeState)
     → Replays made steps node → LeadsTo made steps node
 leads_to name made [] node AsMade =
     record { way = []; goes = tt; steps_are = refl; leads = refl }

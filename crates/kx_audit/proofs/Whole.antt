@@ -10,10 +10,11 @@ use Rattle.kx_audit.specs.Making.{Trail, clients_of, in_order, making_event, mak
 use Rattle.kx_audit.specs.Making.{node_of}
 use Rattle.kx_audit.specs.Nodes.{node_in, same_node}
 use Rattle.kx_audit.specs.Schedule.{AllFit, IsNodeMaking, IsStep, IsUntraced, IsWhole, made_system}
+use Rattle.kx_audit.specs.Schedule.{start_with}
 use Rattle.kx_message.specs.Ranges.{data_partitions, offsets_partition}
 use Rattle.kx_message.specs.declared.message.Message.{Message}
-use Rattle.kx_message.specs.declared.message.Node.{Node}
-use Rattle.kx_system.specs.System.{IsSystemEvent, System, SystemEvent, run_system, start_system}
+use Rattle.kx_message.specs.declared.message.NodeId.{NodeId}
+use Rattle.kx_system.specs.System.{IsSystemEvent, System, SystemEvent, run_system}
 use Rattle.kx_system.specs.System.{system_step}
 use Rattle.kx_audit.proofs.Beginning.{IsThere, begins, begun_others, begun_sent}
 use Rattle.kx_audit.proofs.Merging.{AreKnown, Merges, Stands, at_other, at_own, led_in}
@@ -40,49 +41,49 @@ makings_fit (c ∷ cs) each =
     All-cons IsSystemEvent (making_event c) (map making_event cs) (each c (inl refl))
     (makings_fit cs (λ d is. each d (inr is)))
 
-module _ (trails : List Trail) (merged : List Passed) (fit : AllFit trails)
-    (joined : AreJoined trails merged) where
+module _ (arrived : List Message) (trails : List Trail) (merged : List Passed)
+    (fit : AllFit trails) (joined : AreJoined arrived trails merged) where
   client_fits : (c : ClientMaking) → IsIn c (in_order (clients_of trails))
       → IsSystemEvent (making_event c)
   client_fits c is =
       let t = trail_of trails c (order_only (clients_of trails) c is) in
       subst IsNodeMaking t.made (fit t.place t.trail t.at).made
 
-  there_by : (m : NodeMaking) → IsNodeMaking m → IsThere data_partitions few_data m
+  there_by : (m : NodeMaking) → IsNodeMaking m → IsThere arrived data_partitions few_data m
   there_by OfCoordinator h = tt
   there_by (OfPartition n) h = h
   there_by (OfClient c) h = tt
 
   ------ names of traces
 
-  abbrev IsKnown : Node → Type 0
+  abbrev IsKnown : NodeId → Type 0
   IsKnown name = (k : ℕ) × (t : Trail) × (slice_get trails k ≡ Some t) × (name ≡ named t.made)
 
-  stands : (name : Node) → IsKnown name → Stands IsKnown (made_system trails) merged name
+  stands : (name : NodeId) → IsKnown name → Stands IsKnown (made_system arrived trails) merged name
   stands name known =
       let way = joined.each known.0 known.1 known.2 in
-      let there = begins data_partitions few_data trails joined.apart known.0 known.1 known.2
+      let there = begins arrived data_partitions few_data trails joined.apart known.0 known.1 known.2
       (there_by known.1.made (fit known.0 known.1 known.2).made) in
       record {
         before = node_of known.1.made;
-        there = subst (λ (n : Node). node_in (made_system trails) n ≡ Some (node_of known.1.made))
-            (sym known.3) there;
-        goes_on = subst (λ (n : Node). GoesOn (node_of known.1.made) (at_node n merged))
+        there = subst (λ (n : NodeId). node_in (made_system arrived trails) n
+            ≡ Some (node_of known.1.made)) (sym known.3) there;
+        goes_on = subst (λ (n : NodeId). GoesOn (node_of known.1.made) (at_node n merged))
             (sym known.3) way.goes;
       }
 
   ------ each step is in range
 
   abbrev AreSteps : List Passed → Type 0
-  AreSteps ps = (name : Node) → IsKnown name → All IsStep (steps_in (at_node name ps))
+  AreSteps ps = (name : NodeId) → IsKnown name → All IsStep (steps_in (at_node name ps))
 
   steps_fit : AreSteps merged
   steps_fit name known =
       let way = joined.each known.0 known.1 known.2 in
-      subst (λ (n : Node). All IsStep (steps_in (at_node n merged))) (sym known.3)
+      subst (λ (n : NodeId). All IsStep (steps_in (at_node n merged))) (sym known.3)
       (subst (All IsStep) (sym way.steps_are) (fit known.0 known.1 known.2).steps)
 
-  fewer : (p : Passed) (ps : List Passed) (name : Node) (b : Bool) → same_node p.node name ≡ b
+  fewer : (p : Passed) (ps : List Passed) (name : NodeId) (b : Bool) → same_node p.node name ≡ b
       → All IsStep (steps_in (at_node name (p ∷ ps))) → All IsStep (steps_in (at_node name ps))
   fewer p ps name true e all =
       All-tail IsStep p.step (steps_in (at_node name ps))
@@ -108,7 +109,7 @@ module _ (trails : List Trail) (merged : List Passed) (fit : AllFit trails)
 
   ------ nodes of no trace
 
-  none_by : (name : Node) → IsUntraced trails name → (ps : List Passed)
+  none_by : (name : NodeId) → IsUntraced trails name → (ps : List Passed)
       → ((k : ℕ) (p : Passed) → slice_get ps k ≡ Some p → IsOfTrail trails p)
       → at_node name ps ≡ []
   none_by name none [] known = refl
@@ -117,25 +118,26 @@ module _ (trails : List Trail) (merged : List Passed) (fit : AllFit trails)
       at_other p ps name (apart p.node name (λ h. none own.0 own.1 own.2 (sym h ∙ own.3)))
       ∙ none_by name none ps (λ k q at. known (suc k) q at)
 
-  none_at : (name : Node) → IsUntraced trails name → at_node name merged ≡ []
+  none_at : (name : NodeId) → IsUntraced trails name → at_node name merged ≡ []
   none_at name none = none_by name none merged joined.no_others
 
   ------ all of it
 
-  merged_events : Merges IsKnown (made_system trails) merged
+  merged_events : Merges IsKnown (made_system arrived trails) merged
   merged_events =
-      merges IsKnown merged (made_system trails) (all_known merged joined.no_others steps_fit)
+      merges IsKnown merged (made_system arrived trails) (all_known merged joined.no_others steps_fit)
       (subst (λ (ms : List Message). TakesInOrder ms merged)
-      (sym (begun_sent data_partitions few_data trails joined.apart)) joined.in_order)
+      (sym (begun_sent arrived data_partitions few_data trails joined.apart)) joined.in_order)
       stands
 
-  pub is_whole : IsWhole trails merged
+  pub is_whole : IsWhole arrived trails merged
   is_whole =
       let m = merged_events in
-      let both = run_both (makings trails) m.events (start_system data_partitions) in
+      let begin = start_with arrived data_partitions in
+      let both = run_both (makings trails) m.events begin in
       record {
         events = m.events;
-        system = run_system (makings trails ++ m.events) (start_system data_partitions);
+        system = run_system (makings trails ++ m.events) begin;
         is = record {
           is_schedule = All-append IsSystemEvent (makings trails) m.events
               (makings_fit (in_order (clients_of trails)) client_fits) m.fit;
@@ -146,17 +148,17 @@ module _ (trails : List Trail) (merged : List Passed) (fit : AllFit trails)
             node_is = ap (λ (s : System). node_in s (named t.made)) both
                 ∙ m.stand (named t.made)
                 ∙ ap (λ o. led_in o (at_node (named t.made) merged))
-                (begins data_partitions few_data trails joined.apart k t at
+                (begins arrived data_partitions few_data trails joined.apart k t at
                 (there_by t.made (fit k t at).made));
             replays = way_replays t (at_node (named t.made) merged) (joined.each k t at);
           };
           rest = λ name none.
               ap (λ (s : System). node_in s name) both ∙ m.stand name
-              ∙ ap (led_in (node_in (made_system trails) name)) (none_at name none)
-              ∙ sym (led_nowhere (node_in (made_system trails) name))
-              ∙ begun_others data_partitions few_data trails joined.apart name none;
+              ∙ ap (led_in (node_in (made_system arrived trails) name)) (none_at name none)
+              ∙ sym (led_nowhere (node_in (made_system arrived trails) name))
+              ∙ begun_others arrived data_partitions few_data trails joined.apart name none;
           sent = ap (λ (s : System). s.world.sent) both ∙ m.sent
               ∙ ap (λ (ms : List Message). ms ++ handed_out merged)
-              (begun_sent data_partitions few_data trails joined.apart);
+              (begun_sent arrived data_partitions few_data trails joined.apart);
         };
       }

@@ -8,13 +8,13 @@ use Rattle.kx_machine.specs.declared.input.Input.{Input}
 use Rattle.kx_machine.specs.declared.input.Input.TheVariants as input
 use Rattle.kx_machine.specs.declared.taken.Taken.{Taken}
 use Rattle.kx_message.specs.declared.message.Message.{Message}
-use Rattle.kx_message.specs.declared.message.Node.{Node}
+use Rattle.kx_message.specs.declared.message.NodeId.{NodeId}
 use Rattle.kx_nodes.specs.Replay.{Takes}
 use Rattle.kx_nodes.specs.declared.trace.Step.{Step}
 
 -- a step that was taken: the node's name, the step, its answer, and the node after it
 pub record Passed : Type 0 where
-  pub node : Node
+  pub node : NodeId
   pub step : Step
   pub taken : Taken
   pub after : NodeState
@@ -35,7 +35,7 @@ abbrev pub steps_in : List Passed → List Step
 steps_in ps = map (λ p. p.step) ps
 
 -- those of the node of this name
-abbrev pub at_node : Node → List Passed → List Passed
+abbrev pub at_node : NodeId → List Passed → List Passed
 at_node name merged = filter (λ p. same_node p.node name) merged
 
 ------ messages
@@ -71,10 +71,12 @@ abbrev pub IsOfTrail : List Trail → Passed → Type 0
 IsOfTrail trails p =
     (k : ℕ) × (t : Trail) × (slice_get trails k ≡ Some t) × (p.node ≡ named t.made)
 
-pub record AreJoined (trails : List Trail) (merged : List Passed) : Type 0 where
+-- where these messages had arrived from outside
+pub record AreJoined (arrived : List Message) (trails : List Trail) (merged : List Passed)
+    : Type 0 where
   pub apart : AreApart trails
   -- those at the node of a trace are the trace's steps, in order, and there are no others
   pub each : (k : ℕ) (t : Trail) → slice_get trails k ≡ Some t
       → IsWay t (at_node (named t.made) merged)
   pub no_others : (k : ℕ) (p : Passed) → slice_get merged k ≡ Some p → IsOfTrail trails p
-  pub in_order : TakesInOrder [] merged
+  pub in_order : TakesInOrder arrived merged

@@ -6,10 +6,10 @@ use Rattle.kx_audit.specs.Replayed.{Progress, name_at}
 use Rattle.kx_audit.specs.contracts.key.NodeKeyPartialEq.TheImpl as compared
 use Rattle.kx_audit.specs.declared.key.NodeKey.{NodeKey}
 use Rattle.kx_audit.specs.declared.key.NodeKey.TheVariants as key
-use Rattle.kx_message.specs.declared.message.Node.{Node}
-use Rattle.kx_message.specs.declared.message.Node.TheVariants as node
+use Rattle.kx_message.specs.declared.message.NodeId.{NodeId}
+use Rattle.kx_message.specs.declared.message.NodeId.TheVariants as node
 
-abbrev pub key_of : Node → NodeKey
+abbrev pub key_of : NodeId → NodeKey
 key_of node.Coordinator = key.Coordinator
 key_of (node.Partition number) = key.Partition number
 key_of (node.Client number) = key.Client number

@@ -1,3 +1,4 @@
+pub mod Arrivals
 pub mod Audited
 pub mod Joined
 pub mod Keys

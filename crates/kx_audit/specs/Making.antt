@@ -4,8 +4,8 @@ use Rattle.std.specs.List.{flat_map}
 use Rattle.kx_machine.specs.Meaning.{NodeState, AtClient, AtCoordinator, AtPartition, AtProcessor}
 use Rattle.kx_machine.specs.declared.machine.Making.{Making}
 use Rattle.kx_machine.specs.declared.machine.Making.TheVariants as making
-use Rattle.kx_message.specs.declared.message.Node.{Node}
-use Rattle.kx_message.specs.declared.message.Node.TheVariants as node
+use Rattle.kx_message.specs.declared.message.NodeId.{NodeId}
+use Rattle.kx_message.specs.declared.message.NodeId.TheVariants as node
 use Rattle.kx_model.specs.Client.{Client, new_client}
 use Rattle.kx_model.specs.CoordinatorNode.{new_coordinator}
 use Rattle.kx_model.specs.PartitionNode.{empty_partition}
@@ -78,7 +78,7 @@ node_of (OfPartition number) = AtPartition number empty_partition
 node_of (OfClient c) = client_with (client_by c) (processing_by c.number c.processes)
 
 -- its name
-abbrev pub named : NodeMaking → Node
+abbrev pub named : NodeMaking → NodeId
 named OfCoordinator = node.Coordinator
 named (OfPartition number) = node.Partition number
 named (OfClient c) = node.Client c.number

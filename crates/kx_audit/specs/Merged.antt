@@ -1,12 +1,15 @@
 -- Steps of traces that were run again, put into one order.
-use Rattle.std.specs.Prelude.{◌≡◌, ◌<◌, ◌+◌, ℕ, List, [], ◌∷◌, length, map, sum_by, take, slice_get}
+use Rattle.std.specs.Prelude.{◌≡◌, ◌<◌, ◌+◌, ◌++◌, ℕ, List, [], ◌∷◌, length, map, sum_by, take}
+use Rattle.std.specs.Prelude.{slice_get}
 use Rattle.std.specs.Prelude.{Option, Some, None, option_to_list}
 use Rattle.std.specs.List.{flat_map}
+use Rattle.kx_audit.specs.Arrivals.{arrivals}
 use Rattle.kx_audit.specs.Joined.{AreApart, WasHandedOut}
 use Rattle.kx_audit.specs.Making.{NodeMaking}
 use Rattle.kx_audit.specs.Replayed.{AreReplayed, Progress, left, line_of, name_at, steps_of}
 use Rattle.kx_audit.specs.Replayed.{traces_of, trails_of}
 use Rattle.kx_audit.specs.Told.{AreToldInOrder, IsToldOf, Told, told_at, told_messages}
+use Rattle.kx_audit.specs.declared.clients.Clients.{Clients}
 use Rattle.kx_audit.specs.declared.turn.Turn.{Turn}
 use Rattle.kx_machine.specs.Meaning.{NodeState}
 use Rattle.kx_message.specs.declared.message.Message.{Message}
@@ -34,8 +37,10 @@ AreThere lines turns = (j : ℕ) (turn : Turn) → slice_get turns j ≡ Some tu
 
 ------ how far it has come
 
--- the traces, the steps that are merged, and what these handed out
+-- whose the clients are, the traces, the steps that are merged, and what had arrived and what these
+-- handed out
 pub record Merged (B M : Type 0) : Type 0 where
+  pub clients : Clients
   pub nodes : List (Progress B M)
   pub turns : List Turn
   pub sent : List Message
@@ -78,10 +83,14 @@ module _ {B M : Type 0} (making : B → NodeMaking) where
   abbrev pub told_so_far : Merged B M → List Told
   told_so_far m = told_along (lines_of m.nodes) m.turns
 
+  -- what had arrived from outside
+  abbrev pub arrived_at : Clients → List (Progress B M) → List Message
+  arrived_at clients nodes = arrivals clients (trails_of making (traces_of nodes))
+
   -- they are the done steps of each trace, and no others
   pub record IsMerging (stands : NodeState → M → Type 0) (m : Merged B M) : Type 0 where
-    pub in_order : AreToldInOrder [] (told_so_far m)
-    pub sent_is : m.sent ≡ told_messages (told_so_far m)
+    pub in_order : AreToldInOrder (arrived_at m.clients m.nodes) (told_so_far m)
+    pub sent_is : m.sent ≡ arrived_at m.clients m.nodes ++ told_messages (told_so_far m)
     pub no_others : (j : ℕ) (x : Told) → slice_get (told_so_far m) j ≡ Some x
         → IsToldOf (trails_of making (traces_of m.nodes)) x
     pub fits : (k : ℕ) (p : Progress B M) → slice_get m.nodes k ≡ Some p

@@ -6,8 +6,8 @@ use Rattle.kx_audit.specs.Replayed.{IsOfLine, Progress}
 use Rattle.kx_audit.specs.Schedule.{IsEventOf}
 use Rattle.kx_audit.specs.Told.{Told, told_at}
 use Rattle.kx_machine.specs.Meaning.{note_of}
-use Rattle.kx_message.specs.declared.message.Node.{Node}
-use Rattle.kx_message.specs.declared.message.Node.TheVariants as node
+use Rattle.kx_message.specs.declared.message.NodeId.{NodeId}
+use Rattle.kx_message.specs.declared.message.NodeId.TheVariants as node
 use Rattle.kx_model.specs.Disk.{Store}
 use Rattle.kx_model.specs.World as world
 use Rattle.kx_model.specs.World.{Deliver, Hand, Make}
@@ -62,16 +62,16 @@ module _ {B M : Type 0} (making : B → NodeMaking) (nodes : List (Progress B M)
 ------ the event of a receipt
 
 -- the node at which an event is
-abbrev pub place_in : world.Event → Node
+abbrev pub place_in : world.Event → NodeId
 place_in (Make client txn timeout) = node.Client client
 place_in (Deliver which to store) = to
 place_in (Hand to input store) = to
 
-abbrev pub place_of : SystemEvent → Node
+abbrev pub place_of : SystemEvent → NodeId
 place_of (MakeProcessor client txn timeout group inputs image) = node.Client client
 place_of (Happens event) = place_in event
 
-abbrev pub events_at : Node → List SystemEvent → List SystemEvent
+abbrev pub events_at : NodeId → List SystemEvent → List SystemEvent
 events_at name events = filter (λ event. same_node (place_of event) name) events
 
 -- the node is handed the receipt's input, and answers what the receipt holds

@@ -1,5 +1,7 @@
 -- When an audit refuses traces and receipts.
-use Rattle.std.specs.Prelude.{◌≡◌, ◌⊎◌, ◌<◌, ℕ, List, [], length, take, slice_get, Some, Contains}
+use Rattle.std.specs.Prelude.{◌≡◌, ◌⊎◌, ◌<◌, ◌++◌, ℕ, List, [], length, take, slice_get, Some}
+use Rattle.std.specs.Prelude.{Contains}
+use Rattle.kx_audit.specs.Arrivals.{requests_of}
 use Rattle.kx_audit.specs.Joined.{AreApart, IsWay, Passed, WasHandedOut, handed_out}
 use Rattle.kx_audit.specs.Making.{Trail, named, node_of}
 use Rattle.kx_audit.specs.Replayed.{steps_of}
@@ -21,9 +23,11 @@ fault_number fault.Memory = 5
 
 ------ order
 
--- the first steps of each trace, with answers, were put into one order
-pub record ArePartlyMerged (trails : List Trail) (told : List Told) : Type 0 where
-  pub in_order : AreToldInOrder [] told
+-- the first steps of each trace, with answers, were put into one order, where these messages had
+-- arrived from outside
+pub record ArePartlyMerged (arrived : List Message) (trails : List Trail) (told : List Told)
+    : Type 0 where
+  pub in_order : AreToldInOrder arrived told
   pub no_others : (j : ℕ) (x : Told) → slice_get told j ≡ Some x → IsToldOf trails x
   pub each : (k : ℕ) (t : Trail) → slice_get trails k ≡ Some t
       → told_steps (told_at (named t.made) told)
@@ -32,10 +36,10 @@ pub record ArePartlyMerged (trails : List Trail) (told : List Told) : Type 0 whe
       → AnswersSo (node_of t.made) (told_at (named t.made) told) (λ node. Unit {0})
 
 -- behind these no node can go on
-abbrev pub NoneGoesOn : List Trail → List Told → Type 0
-NoneGoesOn trails told = (k : ℕ) (t : Trail) (step : Step) → slice_get trails k ≡ Some t
+abbrev pub NoneGoesOn : List Message → List Trail → List Told → Type 0
+NoneGoesOn arrived trails told = (k : ℕ) (t : Trail) (step : Step) → slice_get trails k ≡ Some t
     → slice_get t.steps (length (told_at (named t.made) told)) ≡ Some step
-    → WasHandedOut (told_messages told) step.input → ⊥
+    → WasHandedOut (arrived ++ told_messages told) step.input → ⊥
 
 -- a trace isn't done
 pub record IsUndone (trails : List Trail) (told : List Told) : Type 0 where
@@ -44,10 +48,10 @@ pub record IsUndone (trails : List Trail) (told : List Told) : Type 0 where
   pub there : slice_get trails place ≡ Some trail
   pub less : length (told_at (named trail.made) told) < length trail.steps
 
-pub record AreStuck (trails : List Trail) : Type 0 where
+pub record AreStuck (arrived : List Message) (trails : List Trail) : Type 0 where
   pub told : List Told
-  pub partly : ArePartlyMerged trails told
-  pub none : NoneGoesOn trails told
+  pub partly : ArePartlyMerged arrived trails told
+  pub none : NoneGoesOn arrived trails told
   pub undone : IsUndone trails told
 
 ------ origin
@@ -77,8 +81,9 @@ pub record TakesStranger (sent : List Message) (steps : List Step) : Type 0 wher
   pub takes : step.input ≡ Deliver message
   pub unsent : Contains sent message → ⊥
 
--- a step takes in a message that no step of any trace hands out
-pub record HaveStranger (trails : List Trail) : Type 0 where
+-- a step takes in a message that no step of any trace hands out, and that didn't arrive from
+-- outside
+pub record HaveStranger (arrived : List Message) (trails : List Trail) : Type 0 where
   pub number : ℕ
   pub trail : Trail
   pub place : ℕ
@@ -88,19 +93,20 @@ pub record HaveStranger (trails : List Trail) : Type 0 where
   pub there : slice_get trail.steps place ≡ Some step
   pub takes : step.input ≡ Deliver message
   pub none : NoneHandsOut trails message
+  pub inside : Contains arrived message → ⊥
 
 -- no two traces are of one node, and each message that is taken in was handed out by some step; yet
 -- they can't be put into one order
-pub record HaveNoOrder (trails : List Trail) : Type 0 where
+pub record HaveNoOrder (arrived : List Message) (trails : List Trail) : Type 0 where
   pub apart : AreApart trails
-  pub origins : HaveStranger trails → ⊥
-  pub stuck : AreStuck trails
+  pub origins : HaveStranger arrived trails → ⊥
+  pub stuck : AreStuck arrived trails
 
 -- the steps were put into one order, in which each message that is taken in was handed out before,
 -- and each trace that is run again answers so
-pub record HaveOrder (trails : List Trail) : Type 0 where
+pub record HaveOrder (arrived : List Message) (trails : List Trail) : Type 0 where
   pub told : List Told
-  pub merged : AreMerged trails told
+  pub merged : AreMerged arrived trails told
   pub answers : AllAnswer trails told (λ k node. Unit {0})
 
 ------ receipts
@@ -145,10 +151,22 @@ pub record HaveAlike (receipts : List Receipt) : Type 0 where
 ------ each refusal comes only in its case, and where none before it fits: the origin, the order,
 -- the receipt, the count
 
-abbrev pub IsRefused : List Trail → List Receipt → AuditFault → Type 0
-IsRefused trails receipts fault.Order = HaveNoOrder trails
-IsRefused trails receipts fault.Origin = HaveTwins trails ⊎ HaveStranger trails
-IsRefused trails receipts fault.Receipt = HaveOrder trails × HaveWrong trails receipts
-IsRefused trails receipts fault.Count = HaveOrder trails × AreAllOfTraces trails receipts
+abbrev pub IsRefusedWith : List Message → List Trail → List Receipt → AuditFault → Type 0
+IsRefusedWith arrived trails receipts fault.Order = HaveNoOrder arrived trails
+IsRefusedWith arrived trails receipts fault.Origin =
+    HaveTwins trails ⊎ HaveStranger arrived trails
+IsRefusedWith arrived trails receipts fault.Receipt =
+    HaveOrder arrived trails × HaveWrong trails receipts
+IsRefusedWith arrived trails receipts fault.Count =
+    HaveOrder arrived trails × AreAllOfTraces trails receipts
     × ((length receipts ≡ steps_of trails → ⊥) ⊎ HaveAlike receipts)
-IsRefused trails receipts fault.Memory = Unit {0}
+IsRefusedWith arrived trails receipts fault.Memory = Unit {0}
+
+-- of traces that are of all clients too: nothing arrived from outside
+abbrev pub IsRefused : List Trail → List Receipt → AuditFault → Type 0
+IsRefused trails receipts fault = IsRefusedWith [] trails receipts fault
+
+-- of traces of servers: what arrived are the requests that they take in
+abbrev pub AreServersRefused : List Trail → List Receipt → AuditFault → Type 0
+AreServersRefused trails receipts fault =
+    IsRefusedWith (requests_of trails) trails receipts fault

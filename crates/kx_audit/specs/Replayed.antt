@@ -7,7 +7,7 @@ use Rattle.kx_audit.specs.Told.{AnswersSo, Told}
 use Rattle.kx_machine.specs.Meaning.{NodeState}
 use Rattle.kx_machine.specs.declared.taken.Taken.{Taken}
 use Rattle.kx_message.specs.declared.message.Message.{Message}
-use Rattle.kx_message.specs.declared.message.Node.{Node}
+use Rattle.kx_message.specs.declared.message.NodeId.{NodeId}
 use Rattle.kx_nodes.specs.Again.{RunsOn}
 use Rattle.kx_nodes.specs.Replay.{Traced}
 use Rattle.kx_nodes.specs.declared.receipt.Receipt.{Receipt}
@@ -21,14 +21,14 @@ pub record Progress (B M : Type 0) : Type 0 where
   pub machine : M
 
 -- steps of the node of this name, with their answers
-abbrev pub told_by : Node → List Step → List Taken → List Told
+abbrev pub told_by : NodeId → List Step → List Taken → List Told
 told_by name [] takens = []
 told_by name (step ∷ steps) [] = []
 told_by name (step ∷ steps) (taken ∷ takens) =
     record { node = name; step = step; taken = taken } ∷ told_by name steps takens
 
 -- so many steps of a node that was made so are taken again, and the machine can go on with the rest
-pub record IsRunTo {M : Type 0} (stands : NodeState → M → Type 0) (name : Node)
+pub record IsRunTo {M : Type 0} (stands : NodeState → M → Type 0) (name : NodeId)
     (made : NodeState) (steps : List Step) (count : ℕ) (takens : List Taken) (machine : M)
     : Type 0 where
   pub answers : AnswersSo made (told_by name (take count steps) takens)
@@ -60,7 +60,7 @@ module _ {B : Type 0} (making : B → NodeMaking) where
   trails_of traces = map (trail_of making) traces
 
   module _ {M : Type 0} where
-    abbrev pub name_at : Progress B M → Node
+    abbrev pub name_at : Progress B M → NodeId
     name_at p = named (making p.trace.made)
 
     -- all that the trace tells

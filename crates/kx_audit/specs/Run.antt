@@ -1,19 +1,25 @@
 -- A run of the whole system that an audit found, and what its yes says of it.
-use Rattle.std.specs.Prelude.{◌≡◌, ℕ, List, length, slice_get, Option, Some, None}
+use Rattle.std.specs.Prelude.{◌≡◌, ◌++◌, ℕ, List, [], length, map, slice_get, Option, Some, None}
+use Rattle.kx_audit.specs.Arrivals.{requests_of}
 use Rattle.kx_audit.specs.Audited.{IsAudited}
 use Rattle.kx_audit.specs.Joined.{AreApart}
-use Rattle.kx_audit.specs.Making.{NodeMaking, Trail, named}
+use Rattle.kx_audit.specs.Making.{NodeMaking, Trail, makings, named}
 use Rattle.kx_audit.specs.Receipts.{AreReceipts, IsAnswered}
 use Rattle.kx_audit.specs.Replayed.{trails_of}
 use Rattle.kx_audit.specs.Schedule.{made_system}
 use Rattle.kx_audit.specs.Told.{Told}
 use Rattle.kx_audit.specs.declared.turn.Turn.{Turn}
 use Rattle.kx_machine.specs.Meaning.{NodeState}
+use Rattle.kx_message.specs.Ranges.{data_partitions}
+use Rattle.kx_message.specs.declared.message.Message.{Message}
+use Rattle.kx_model.specs.OpenHeadline.{KeepsOpenPromises}
 use Rattle.kx_nodes.specs.Replay.{Traced}
 use Rattle.kx_nodes.specs.declared.receipt.Receipt.{Receipt}
 use Rattle.kx_nodes.specs.declared.trace.Step.{Step}
+use Rattle.kx_pipeline.specs.OpenSystems.{Arrives, Inside, IsOpenSystemSchedule, OpenSystemEvent}
+use Rattle.kx_pipeline.specs.OpenSystems.{run_open_system}
 use Rattle.kx_pipeline.specs.Promises.{KeepsAll}
-use Rattle.kx_system.specs.System.{System}
+use Rattle.kx_system.specs.System.{System, SystemEvent, start_system}
 
 -- the traces, their steps in one order, by their places and as they are told, and the machines to
 -- which the traces led
@@ -50,15 +56,49 @@ pub record StandsAt {M : Type 0} (stands : NodeState → M → Type 0) (machines
   pub there : slice_get machines number ≡ Some machine
   pub stands_so : stands node machine
 
+-- what an audit finds, where these messages had arrived from outside: no two traces are of one node;
+-- the steps of the traces are a schedule of the whole system, which led to the nodes for which the
+-- machines stand; there is a receipt for each step, which is what the schedule answers
+pub record IsFound {B M : Type 0} (arrived : List Message) (making : B → NodeMaking)
+    (stands : NodeState → M → Type 0) (run : Ran B M) (given : List Receipt) (s : System)
+    : Type 0 where
+  pub apart : AreApart (trails_of making run.traces)
+  pub audited : IsAudited arrived (trails_of making run.traces) run.told
+      (StandsAt stands run.machines) s
+  pub turns : AreTurns (trails_of making run.traces) run.turns run.told
+  pub receipts : AreReceipts run.told given
+  pub answered : (j : ℕ) (receipt : Receipt) → slice_get given j ≡ Some receipt
+      → IsAnswered (made_system arrived (trails_of making run.traces)) audited.events receipt
+
 -- an audit's yes: no two traces are of one node; the steps of the traces are a schedule of the whole
 -- system, which led to the nodes for which the machines stand, and so keeps its promises; there is a
 -- receipt for each step, which is what the schedule answers
 pub record IsYes {B M : Type 0} (making : B → NodeMaking) (stands : NodeState → M → Type 0)
     (run : Ran B M) (given : List Receipt) (s : System) : Type 0 where
   pub apart : AreApart (trails_of making run.traces)
-  pub audited : IsAudited (trails_of making run.traces) run.told (StandsAt stands run.machines) s
+  pub audited : IsAudited [] (trails_of making run.traces) run.told
+      (StandsAt stands run.machines) s
   pub promises : KeepsAll s
   pub turns : AreTurns (trails_of making run.traces) run.turns run.told
   pub receipts : AreReceipts run.told given
   pub answered : (j : ℕ) (receipt : Receipt) → slice_get given j ≡ Some receipt
-      → IsAnswered (made_system (trails_of making run.traces)) audited.events receipt
+      → IsAnswered (made_system [] (trails_of making run.traces)) audited.events receipt
+
+------ where the clients are outside
+
+-- these requests arrive, the clients of the traces are made, and these events happen
+abbrev pub open_events : List Message → List Trail → List SystemEvent → List OpenSystemEvent
+open_events arrived trails events = map Arrives arrived ++ map Inside (makings trails ++ events)
+
+-- the yes of an audit of servers: what it finds, where all requests that the traces take in had
+-- arrived from outside, is an open schedule, which so keeps the promises that need no trust in
+-- clients
+pub record AreServersYes {B M : Type 0} (making : B → NodeMaking)
+    (stands : NodeState → M → Type 0) (run : Ran B M) (given : List Receipt) (s : System)
+    : Type 0 where
+  pub found : IsFound (requests_of (trails_of making run.traces)) making stands run given s
+  pub scheduled : IsOpenSystemSchedule (open_events (requests_of (trails_of making run.traces))
+      (trails_of making run.traces) found.audited.events)
+  pub is_run : s ≡ run_open_system (open_events (requests_of (trails_of making run.traces))
+      (trails_of making run.traces) found.audited.events) (start_system data_partitions)
+  pub promises : KeepsOpenPromises s.world

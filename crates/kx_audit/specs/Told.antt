@@ -8,12 +8,12 @@ use Rattle.kx_audit.specs.Nodes.{same_node}
 use Rattle.kx_machine.specs.Meaning.{NodeState}
 use Rattle.kx_machine.specs.declared.taken.Taken.{Taken}
 use Rattle.kx_message.specs.declared.message.Message.{Message}
-use Rattle.kx_message.specs.declared.message.Node.{Node}
+use Rattle.kx_message.specs.declared.message.NodeId.{NodeId}
 use Rattle.kx_nodes.specs.declared.trace.Step.{Step}
 
 -- a step in the merged order: the node's name, the step, and its answer
 pub record Told : Type 0 where
-  pub node : Node
+  pub node : NodeId
   pub step : Step
   pub taken : Taken
 
@@ -37,7 +37,7 @@ abbrev pub told_messages : List Told → List Message
 told_messages told = flat_map (λ x. x.taken.messages) told
 
 -- those at the node of this name
-abbrev pub told_at : Node → List Told → List Told
+abbrev pub told_at : NodeId → List Told → List Told
 told_at name told = filter (λ x. same_node x.node name) told
 
 ------ one order
@@ -53,13 +53,15 @@ abbrev pub IsToldOf : List Trail → Told → Type 0
 IsToldOf trails x =
     (k : ℕ) × (t : Trail) × (slice_get trails k ≡ Some t) × (x.node ≡ named t.made)
 
--- the steps of traces, with answers, were put into one order
-pub record AreMerged (trails : List Trail) (told : List Told) : Type 0 where
+-- the steps of traces, with answers, were put into one order, where these messages had arrived from
+-- outside
+pub record AreMerged (arrived : List Message) (trails : List Trail) (told : List Told)
+    : Type 0 where
   pub apart : AreApart trails
   pub each : (k : ℕ) (t : Trail) → slice_get trails k ≡ Some t
       → told_steps (told_at (named t.made) told) ≡ t.steps
   pub no_others : (j : ℕ) (x : Told) → slice_get told j ≡ Some x → IsToldOf trails x
-  pub in_order : AreToldInOrder [] told
+  pub in_order : AreToldInOrder arrived told
 
 ------ a trace that is run again
 
@@ -78,10 +80,10 @@ AllAnswer trails told Stands = (k : ℕ) (t : Trail) → slice_get trails k ≡ 
     → AnswersSo (node_of t.made) (told_at (named t.made) told) (Stands k)
 
 -- so they are joined, and the node of each trace comes to be such
-pub record AreFound (trails : List Trail) (told : List Told) (Stands : ℕ → NodeState → Type 0)
-    : Type 0 where
+pub record AreFound (arrived : List Message) (trails : List Trail) (told : List Told)
+    (Stands : ℕ → NodeState → Type 0) : Type 0 where
   pub merged : List Passed
-  pub joined : AreJoined trails merged
+  pub joined : AreJoined arrived trails merged
   pub told_is : told_in merged ≡ told
   pub stand : (k : ℕ) (t : Trail) → slice_get trails k ≡ Some t
       → Stands k (led_to (node_of t.made) (at_node (named t.made) merged))

@@ -3,8 +3,10 @@ ghost use Rattle.std.specs.Prelude.{◌≡◌, ◌<◌, ℕ, [], length, slice_g
 ghost use Rattle.std.specs.Prelude.{IfNone, IsFalse, IsTrue};
 ghost use Rattle.kx_audit.specs.Joined.{AreApart};
 ghost use Rattle.kx_audit.specs.Merged.{AreDone, AreFresh, HasUndone, IsMerging, MayGo, NoneMayGo};
+ghost use Rattle.kx_audit.specs.Merged.{arrived_at};
 ghost use Rattle.kx_audit.specs.Replayed.{AreReplayed, Progress, left, traces_of, trails_of};
 
+use crate::clients::Clients;
 use crate::remade::Remade;
 use crate::replayer::Replayer;
 use crate::sent::Sent;
@@ -12,9 +14,11 @@ use crate::turn::Turn;
 use std::alloc::{AllocError, Global};
 use std::marker::Model;
 
-/// The traces, the steps that are merged, and what these handed out.
+/// Whose the clients are, the traces, the steps that are merged, and what had arrived and what
+/// these sent.
 #[derive(Drop)]
 pub(crate) struct Auditor<B: Remade> {
+    clients: Clients,
     nodes: Vec<Replayer<B>>,
     turns: Vec<Turn>,
     sent: Sent,
@@ -27,13 +31,22 @@ impl<B: Remade> Model for Auditor<B> {
 
     ghost use Rattle.kx_audit.specs.Merged.{IsMerging};
 
-    ghost view = { λ a. record { nodes = a.nodes.items; turns = a.turns.items; sent = a.sent } };
+    ghost view = { λ a. record {
+      clients = a.clients;
+      nodes = a.nodes.items;
+      turns = a.turns.items;
+      sent = a.sent;
+    } };
 
-    ghost invariant = { λ a. IsMerging B.making B.Machine.stands
-        (record { nodes = a.nodes.items; turns = a.turns.items; sent = a.sent }) };
+    ghost invariant = { λ a. IsMerging B.making B.Machine.stands (record {
+      clients = a.clients;
+      nodes = a.nodes.items;
+      turns = a.turns.items;
+      sent = a.sent;
+    }) };
 }
 
-// Whether a step of the trace is left that may come behind these messages.
+// Whether a step of the trace is left that may come after these messages.
 fn may_go<B: Remade>(sent: &Sent, node: &Replayer<B>) -> Result<bool, AllocError>
     ensures yes { IfOk result (λ b. IsTrue b → MayGo sent.now node.now) }
     ensures no { IfOk result (λ b. IsFalse b → MayGo sent.now node.now → ⊥) }
@@ -45,17 +58,29 @@ fn may_go<B: Remade>(sent: &Sent, node: &Replayer<B>) -> Result<bool, AllocError
 }
 
 impl<B: Remade> Auditor<B> {
-    /// Nothing is merged.
-    pub(crate) fn start(alloc: Global, nodes: Vec<Replayer<B>>) -> Auditor<B>
+    /// An auditor that has merged nothing, where these messages had arrived from outside.
+    pub(crate) fn start(
+        alloc: Global,
+        clients: Clients,
+        nodes: Vec<Replayer<B>>,
+        arrived: Sent,
+    ) -> Auditor<B>
+        requires arrived { arrived ≡ arrived_at B.making clients nodes.items }
         requires fresh { AreFresh nodes.items }
         requires replayed { AreReplayed B.making B.Machine.stands nodes.items }
         requires apart { AreApart (trails_of B.making (traces_of nodes.items)) }
-        ensures { result ≡ record { nodes = nodes.items; turns = []; sent = [] } }
+        ensures { result ≡ record {
+          clients = clients;
+          nodes = nodes.items;
+          turns = [];
+          sent = arrived;
+        } }
     {
         Auditor {
+            clients,
             nodes,
             turns: Vec::new(alloc),
-            sent: Sent::new(alloc),
+            sent: arrived,
         }
     }
 
@@ -64,10 +89,12 @@ impl<B: Remade> Auditor<B> {
         requires within { k < length self.nodes }
         requires may { (p : Progress B B.Machine) → slice_get self.nodes k ≡ Some p
             → MayGo self.sent p }
+        ensures clients { IfOk result (λ a. a.clients ≡ self.clients) }
         ensures traces { IfOk result (λ a. traces_of a.nodes ≡ traces_of self.nodes) }
         ensures fewer { IfOk result (λ a. sum_by left a.nodes < sum_by left self.nodes) }
     {
         let Auditor {
+            clients,
             mut nodes,
             mut turns,
             mut sent,
@@ -77,7 +104,12 @@ impl<B: Remade> Auditor<B> {
         sent.add_all(replayer.taken(step).messages.as_slice())?;
         turns.push(Turn { trace: k, step })?;
         replayer.advance();
-        Ok(Auditor { nodes, turns, sent })
+        Ok(Auditor {
+            clients,
+            nodes,
+            turns,
+            sent,
+        })
     }
 
     // A trace whose next step may come now: the one that went last, where it can go on.
@@ -102,8 +134,9 @@ impl<B: Remade> Auditor<B> {
     ///
     /// # Errors
     ///
-    /// Only for want of memory.
+    /// Only where memory runs out.
     pub(crate) fn run(self) -> Result<Auditor<B>, AllocError>
+        ensures clients { IfOk result (λ a. a.clients ≡ self.clients) }
         ensures traces { IfOk result (λ a. traces_of a.nodes ≡ traces_of self.nodes) }
         ensures none { IfOk result (λ a. NoneMayGo a.sent a.nodes) }
     {
@@ -139,6 +172,7 @@ impl<B: Remade> Auditor<B> {
         ensures merging { IsMerging B.making B.Machine.stands self }
     {
         let Auditor {
+            clients: _,
             nodes,
             turns,
             sent: _,

@@ -9,11 +9,10 @@ use thiserror::Error;
 /// Why an audit refuses.
 #[derive(Clone, Copy, Debug, PartialEq, Eq, Drop, Error)]
 pub enum AuditFault {
-    /// Behind what is merged no node can go on, and a trace isn't done.
+    /// After what is merged no node can go on, and a trace isn't done.
     #[error("no node can go on")]
     Order = 1,
-    /// A step takes in a message that no step of any trace handed out, or two traces are of one
-    /// node.
+    /// A step takes in a message that no step of any trace sent, or two traces are of one node.
     #[error("a message has no origin, or a node two traces")]
     Origin = 2,
     /// A receipt's place doesn't exist, or the input or the answer of the step there aren't those
@@ -38,7 +37,7 @@ impl AuditFault {
     }
 }
 
-/// Want of memory.
+/// Out of memory.
 impl From<AllocError> for AuditFault {
     ghost from_gives = { λ refused fault. fault ≡ Memory };
 

@@ -59,7 +59,7 @@ pub fn trace_fits<B: Tells>(trace: &Trace<B>)
     steps_fit(trace.steps());
 }
 
-/// The same of each of these.
+/// Whatever these traces hold is in its range. This does nothing when it runs.
 pub(crate) fn traces_fit<B: Tells>(traces: &[Trace<B>])
     ensures { AllFit (trails_of B.making traces.now) }
 {

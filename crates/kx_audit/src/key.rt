@@ -1,5 +1,5 @@
 //! Names of nodes as keys of hash tables.
-use kx_message::{ClientId, Node, PartitionId};
+use kx_message::{ClientId, NodeId, PartitionId};
 
 /// A node's name, by which hash tables find it.
 #[derive(Clone, Copy, PartialEq, Eq, Hash)]
@@ -13,17 +13,17 @@ pub(crate) enum NodeKey {
 }
 
 /// The key of a name.
-impl From<Node> for NodeKey {
+impl From<NodeId> for NodeKey {
     ghost use Rattle.std.specs.Prelude.{◌≡◌};
     ghost use Rattle.kx_audit.specs.Keys.{key_of};
 
     ghost from_gives = { λ node key. key ≡ key_of node };
 
-    fn from(node: Node) -> Self {
+    fn from(node: NodeId) -> Self {
         match node {
-            Node::Coordinator => NodeKey::Coordinator,
-            Node::Partition(number) => NodeKey::Partition(number),
-            Node::Client(number) => NodeKey::Client(number),
+            NodeId::Coordinator => NodeKey::Coordinator,
+            NodeId::Partition(number) => NodeKey::Partition(number),
+            NodeId::Client(number) => NodeKey::Client(number),
         }
     }
 }

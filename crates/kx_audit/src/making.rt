@@ -14,8 +14,8 @@ pub trait Tells: Made {
     // the making of the definitions
     ghost making: { Self → NodeMaking };
 
-    /// It makes the same node, and its names, numbers and bytes are in their ranges. This does
-    /// nothing when it runs.
+    /// The making makes the same node, and its names, numbers and bytes are in their ranges. This
+    /// does nothing when it runs.
     fn tells(&self)
         ensures node { node_of (making self.now) ≡ Self.state self.now }
         ensures name { named (making self.now) ≡ name_of (Self.state self.now) }

@@ -32,7 +32,7 @@ fn next_read(behind: &[Step]) -> Option<Mark>
     None
 }
 
-// Whether an append that fails in front of these steps leaves its whole entry behind.
+// Whether an append that fails in front of these steps leaves its whole entry after.
 fn leaves_whole(behind: &[Step]) -> bool
     ensures { result ≡ leaves_whole behind.now }
 {
@@ -43,7 +43,7 @@ fn leaves_whole(behind: &[Step]) -> bool
     }
 }
 
-/// What the store is to do in a step, by its mark and by the steps behind it.
+/// What the store is to do in a step, by its mark and by the steps after it.
 pub(crate) fn mode_for(step: &Step, behind: &[Step]) -> StoreMode
     ensures { result ≡ mode_for step.now behind.now }
 {

@@ -8,11 +8,11 @@ ghost use Rattle.kx_audit.specs.Replayed.{messages_in, traces_of, trails_of};
 use crate::remade::Remade;
 use crate::replayer::Replayer;
 use crate::sent::Sent;
-use kx_message::Node;
-use std::alloc::{AllocError, Global};
+use kx_message::NodeId;
+use std::alloc::AllocError;
 
 // Whether one of these is the node of this name.
-fn has_name<B: Remade>(nodes: &[Replayer<B>], name: Node) -> bool
+fn has_name<B: Remade>(nodes: &[Replayer<B>], name: NodeId) -> bool
     ensures some { IsTrue result → HasName B.making nodes.now name }
     ensures none { IsFalse result → HasName B.making nodes.now name → ⊥ }
 {
@@ -37,7 +37,7 @@ pub(crate) fn have_twins<B: Remade>(nodes: &[Replayer<B>]) -> bool
     false
 }
 
-// Adds all that the steps of a trace hand out.
+// Adds all that the steps of a trace send.
 fn add_sent<B: Remade>(all: &mut Sent, node: &Replayer<B>) -> Result<(), AllocError>
     ensures { OnOk result (all.new ≡ all.old ++ messages_in node.now.takens) }
 {
@@ -47,15 +47,14 @@ fn add_sent<B: Remade>(all: &mut Sent, node: &Replayer<B>) -> Result<(), AllocEr
     Ok(())
 }
 
-// All that the steps of these traces hand out.
-fn gather<B: Remade>(alloc: Global, nodes: &[Replayer<B>]) -> Result<Sent, AllocError>
-    ensures { IfOk result (λ all. all ≡ sent_by nodes.now) }
+// Adds all that the steps of these traces send.
+fn gather<B: Remade>(all: &mut Sent, nodes: &[Replayer<B>]) -> Result<(), AllocError>
+    ensures { OnOk result (all.new ≡ all.old ++ sent_by nodes.now) }
 {
-    let mut all = Sent::new(alloc);
     for node in nodes {
-        add_sent(&mut all, node)?;
+        add_sent(all, node)?;
     }
-    Ok(all)
+    Ok(())
 }
 
 // Whether a trace takes in a message that isn't among these.
@@ -71,19 +70,21 @@ fn takes_stranger<B: Remade>(all: &Sent, node: &Replayer<B>) -> Result<bool, All
     Ok(false)
 }
 
-/// Whether a trace takes in a message that no step of any trace hands out.
+/// Whether a trace takes in a message that no step of any trace sends, and that isn't among those
+/// that arrived from outside.
 ///
 /// # Errors
 ///
-/// Only for want of memory.
+/// Only where memory runs out.
 pub(crate) fn have_stranger<B: Remade>(
-    alloc: Global,
+    arrived: Sent,
     nodes: &[Replayer<B>],
 ) -> Result<bool, AllocError>
-    ensures some { IfOk result (λ b. IsTrue b → HasStranger nodes.now) }
-    ensures none { IfOk result (λ b. IsFalse b → HasStranger nodes.now → ⊥) }
+    ensures some { IfOk result (λ b. IsTrue b → HasStranger arrived nodes.now) }
+    ensures none { IfOk result (λ b. IsFalse b → HasStranger arrived nodes.now → ⊥) }
 {
-    let all = gather(alloc, nodes)?;
+    let mut all = arrived;
+    gather(&mut all, nodes)?;
     for node in nodes {
         if takes_stranger(&all, node)? {
             return Ok(true);

@@ -12,13 +12,13 @@ use crate::key::NodeKey;
 use crate::remade::Remade;
 use crate::replayer::Replayer;
 use kx_machine::{Input, Taken};
-use kx_message::Node;
+use kx_message::NodeId;
 use kx_nodes::Receipt;
 use std::alloc::{AllocError, Global};
 use std::collections::{HashMap, HashSet};
 
 // Whether the receipt holds this name, this input and this answer.
-fn holds(receipt: &Receipt, name: Node, input: &Input, taken: &Taken) -> bool
+fn holds(receipt: &Receipt, name: NodeId, input: &Input, taken: &Taken) -> bool
     ensures { Decides result ((receipt.now.node ≡ name) × (receipt.now.input ≡ input.now)
         × (receipt.now.taken ≡ taken.now)) }
 {
@@ -74,7 +74,7 @@ fn is_named<B: Remade>(
 ///
 /// # Errors
 ///
-/// Only for want of memory.
+/// Only where memory runs out.
 pub(crate) fn are_named<B: Remade>(
     alloc: Global,
     nodes: &[Replayer<B>],
@@ -98,7 +98,7 @@ pub(crate) fn are_named<B: Remade>(
 ///
 /// # Errors
 ///
-/// Only for want of memory.
+/// Only where memory runs out.
 pub(crate) fn are_distinct(alloc: Global, receipts: &[Receipt]) -> Result<bool, AllocError>
     ensures distinct { IfOk result (λ b. IsTrue b → AreDistinct receipts.now) }
     ensures alike { IfOk result (λ b. IsFalse b → HaveAlike receipts.now) }

@@ -6,7 +6,7 @@ use std::alloc::{AllocError, Global};
 /// How a node was made, of which a fresh machine can be made again, on a store in memory that is
 /// made to fail. A client and a processor keep no log, and so have no store.
 pub trait Remade: Tells {
-    ghost use Rattle.std.specs.Prelude.{IfOk};
+    ghost use Rattle.std.specs.Prelude.{ℕ, IfOk, Option};
     ghost use Rattle.kx_machine.specs.Meaning.{NodeState};
     ghost use Rattle.kx_model.specs.Disk.{Store};
     ghost use Rattle.kx_nodes.specs.Again.{MayMeet};
@@ -18,7 +18,7 @@ pub trait Remade: Tells {
     ///
     /// # Errors
     ///
-    /// Only for want of memory.
+    /// Only where memory runs out.
     fn make(&self, alloc: Global) -> Result<Self::Machine, AllocError>
         ensures { IfOk result (λ machine. Self.Machine.stands (Self.state self.now) machine) };
 
@@ -26,6 +26,7 @@ pub trait Remade: Tells {
     fn prepare(machine: &mut Self::Machine, mode: StoreMode)
         ensures stands { (node : NodeState) → Self.Machine.stands node machine.old
             → Self.Machine.stands node machine.new }
-        ensures meets { (node : NodeState) (store : Store) → Self.Machine.stands node machine.new
-            → Self.Machine.allows machine.new store → MayMeet node mode store };
+        ensures meets { (node : NodeState) (size : Option ℕ) (store : Store)
+            → Self.Machine.stands node machine.new → Self.Machine.allows machine.new size store
+            → MayMeet node mode store };
 }

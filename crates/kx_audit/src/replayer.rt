@@ -10,12 +10,12 @@ ghost use Rattle.kx_nodes.specs.Again.{MayMeet, mode_for};
 use crate::mode::mode_for;
 use crate::remade::Remade;
 use kx_machine::{Machine, Taken};
-use kx_message::Node;
+use kx_message::NodeId;
 use kx_nodes::{Step, Trace, traces_run_again};
 use std::alloc::{AllocError, Global};
 use std::marker::Model;
 
-/// A trace that was run again, what each of its steps answered, and the machine behind all of them.
+/// A trace that was run again, what each of its steps answered, and the machine after all of them.
 #[derive(Drop)]
 pub(crate) struct Replayer<B: Remade> {
     trace: Trace<B>,
@@ -46,7 +46,7 @@ impl<B: Remade> Model for Replayer<B> {
     }) };
 }
 
-// The steps behind a place.
+// The steps after a place.
 fn behind(steps: &[Step], place: usize) -> &[Step]
     requires { place < length steps.now }
     ensures { result.now ≡ drop (place + 1) steps.now }
@@ -54,7 +54,7 @@ fn behind(steps: &[Step], place: usize) -> &[Step]
     &steps[place + 1..]
 }
 
-// Takes a step again, on a store that does what its mark and the steps behind tell.
+// Takes a step again, on a store that does what its mark and the steps after tell.
 fn take_again<B: Remade>(
     machine: &mut B::Machine,
     step: &Step,
@@ -62,7 +62,7 @@ fn take_again<B: Remade>(
 ) -> Result<Taken, AllocError>
     ensures { IfOk result (λ taken. (node : NodeState) → B.Machine.stands node machine.old
         → IsTaken node (input_of step.now.input)
-        (MayMeet node (mode_for step.now behind.now))
+        (λ size. MayMeet node (mode_for step.now behind.now))
         (λ after. B.Machine.stands after machine.new) taken) }
 {
     B::prepare(machine, mode_for(step, behind));
@@ -74,7 +74,7 @@ impl<B: Remade> Replayer<B> {
     ///
     /// # Errors
     ///
-    /// Only for want of memory.
+    /// Only where memory runs out.
     pub(crate) fn new(alloc: Global, trace: Trace<B>) -> Result<Replayer<B>, AllocError>
         ensures { IfOk result (IsBegun B.making B.Machine.stands trace) }
     {
@@ -96,14 +96,14 @@ impl<B: Remade> Replayer<B> {
     }
 
     /// The node's name.
-    pub(crate) fn node(&self) -> Node
+    pub(crate) fn node(&self) -> NodeId
         ensures { result ≡ named (B.making self.now.trace.made) }
     {
         self.trace.made().tells();
         self.trace.node()
     }
 
-    /// The steps, lent.
+    /// The steps, borrowed.
     pub(crate) fn steps(&self) -> &[Step]
         ensures { result.now ≡ self.now.trace.steps }
     {
@@ -156,7 +156,7 @@ impl<B: Remade> Replayer<B> {
         &self.takens[place]
     }
 
-    /// One more step is done.
+    /// Counts one more step that is done.
     pub(crate) fn advance(&mut self)
         requires { self.old.done < length self.old.trace.steps }
         ensures { self.new ≡ progressed self.old }
@@ -164,14 +164,14 @@ impl<B: Remade> Replayer<B> {
         self.done += 1;
     }
 
-    /// The trace, lent.
+    /// The trace, borrowed.
     pub(crate) fn trace(&self) -> &Trace<B>
         ensures { result.now ≡ self.now.trace }
     {
         &self.trace
     }
 
-    /// The machine behind all steps.
+    /// The machine after all steps.
     pub(crate) fn machine(&self) -> &B::Machine
         ensures value { result.now ≡ self.now.machine }
         ensures replayed { IsReplayed B.making B.Machine.stands self.now }
@@ -184,7 +184,7 @@ impl<B: Remade> Replayer<B> {
 ///
 /// # Errors
 ///
-/// Only for want of memory.
+/// Only where memory runs out.
 pub(crate) fn replay_all<B: Remade>(
     alloc: Global,
     traces: Vec<Trace<B>>,

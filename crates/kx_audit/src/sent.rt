@@ -1,4 +1,4 @@
-//! The messages that steps handed out, with an index of them.
+//! The messages that steps sent, with an index of them.
 ghost use Rattle.std.specs.Prelude.{◌≡◌, ◌++◌, ◌∷◌, [], Contains, IfOk, OnOk};
 ghost use Rattle.std.specs.Bool.{Decides};
 ghost use Rattle.kx_audit.specs.Joined.{WasHandedOut};
@@ -11,8 +11,8 @@ use std::alloc::{AllocError, Global};
 use std::collections::HashSet;
 use std::marker::Model;
 
-/// Messages in the order in which they were handed out. One is looked up by its frame; one that is
-/// too long for a frame, as none that was sent is, is compared with each.
+/// Messages in the order in which they were sent. One is looked up by its frame; one that is too
+/// long for a frame, as none that was sent is, is compared with each.
 #[derive(Drop)]
 pub(crate) struct Sent {
     alloc: Global,
@@ -34,7 +34,7 @@ impl Model for Sent {
 }
 
 impl Sent {
-    /// None. Takes no memory.
+    /// An empty list. Takes no memory.
     pub(crate) fn new(alloc: Global) -> Sent
         ensures { result ≡ [] }
     {
@@ -59,11 +59,11 @@ impl Sent {
         Ok(())
     }
 
-    /// One more.
+    /// Adds a message.
     ///
     /// # Errors
     ///
-    /// Only for want of memory.
+    /// Only where memory runs out.
     pub(crate) fn add(&mut self, message: Message) -> Result<(), AllocError>
         ensures { OnOk result (self.new ≡ self.old ++ message ∷ []) }
     {
@@ -78,7 +78,7 @@ impl Sent {
     ///
     /// # Errors
     ///
-    /// Only for want of memory.
+    /// Only where memory runs out.
     pub(crate) fn add_all(&mut self, messages: &[Message]) -> Result<(), AllocError>
         ensures { OnOk result (self.new ≡ self.old ++ messages.now) }
     {
@@ -104,7 +104,7 @@ impl Sent {
     ///
     /// # Errors
     ///
-    /// Only for want of memory.
+    /// Only where memory runs out.
     pub(crate) fn has(&self, message: &Message) -> Result<bool, AllocError>
         ensures { IfOk result (λ found. Decides found (Contains self.now message.now)) }
     {
@@ -115,11 +115,11 @@ impl Sent {
         Ok(self.frames.contains(&frame))
     }
 
-    /// Whether the input may come behind them: a message only if it is among them.
+    /// Whether the input may come after them: a message only if it is among them.
     ///
     /// # Errors
     ///
-    /// Only for want of memory.
+    /// Only where memory runs out.
     pub(crate) fn may_take(&self, input: &Input) -> Result<bool, AllocError>
         ensures { IfOk result (λ b. Decides b (WasHandedOut self.now input.now)) }
     {

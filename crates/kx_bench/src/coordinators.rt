@@ -31,7 +31,7 @@ fn empty(alloc: Global) -> Option<Coordinator<MemStore>> {
     Some(coordinator)
 }
 
-// How many messages are handed out, where the first is a reply of code 0.
+// How many messages are sent, where the first is a reply of code 0.
 fn count_of(messages: &[Message]) -> Option<i64> {
     let code = match messages.first()? {
         Message::InitReply(reply) => reply.code,
@@ -114,8 +114,8 @@ fn turn(alloc: Global, coordinator: &mut Coordinator<MemStore>, number: u64) -> 
     count.checked_add(begins(coordinator, txn, held)?)
 }
 
-// A coordinator of so many transactional ids, each with a transaction under way, and how many
-// messages it handed out.
+// A coordinator of this many transactional ids, each with a transaction under way, and how many
+// messages it sent.
 fn filled(alloc: Global, txns: u64) -> Option<(Coordinator<MemStore>, i64)> {
     let mut coordinator = empty(alloc)?;
     let mut total = 0i64;
@@ -135,7 +135,7 @@ fn next_number(number: u64, txns: u64) -> u64 {
     number.wrapping_add(7_919) % txns
 }
 
-// How many messages so many turns hand out, with those of the beginning.
+// How many messages this many turns send, with those of the beginning.
 fn handed_out(alloc: Global, txns: u64, turns: u64) -> Option<i64> {
     let (coordinator, total) = filled(alloc, txns)?;
     let mut coordinator = coordinator;
@@ -149,9 +149,9 @@ fn handed_out(alloc: Global, txns: u64, turns: u64) -> Option<i64> {
     Some(total)
 }
 
-/// Begins a transaction of each of so many transactional ids, and so often commits one of them, of
-/// an id anywhere among them, takes the answer to its marker, and begins the next: how many
-/// messages were handed out, or -1 where a request was refused.
+/// Begins a transaction of each of this many transactional ids, and so often commits one of them,
+/// of an id anywhere among them, takes the answer to its marker, and begins the next: how many
+/// messages were sent, or -1 where a request was refused.
 #[unsafe(no_mangle)]
 pub extern "C" fn kx_bench_transactions(alloc: Global, txns: u64, turns: u64) -> i64
     ensures { negsuc 0 ≤ℤ result }

@@ -81,7 +81,7 @@ fn append_txn(alloc: Global, partition: &mut Partition<MemStore>, txn: u64) -> O
     Some(())
 }
 
-// A log of so many transactions.
+// A log of this many transactions.
 fn transactions(alloc: Global, count: u64) -> Option<Partition<MemStore>> {
     let mut partition = empty(alloc)?;
     for txn in 0..count {
@@ -115,7 +115,7 @@ fn next_offset(offset: i64, end: i64) -> i64 {
     offset.max(0).wrapping_add(7_919_003).max(0) % end
 }
 
-// How many committed records so many pages of a log have.
+// How many committed records this many pages of a log have.
 fn page_records(alloc: Global, partition: &Partition<MemStore>, pages: u64) -> Option<i64> {
     let end = partition.end();
     let mut offset = 0;
@@ -128,9 +128,9 @@ fn page_records(alloc: Global, partition: &Partition<MemStore>, pages: u64) -> O
     Some(total)
 }
 
-/// Makes a log of so many transactions, each a batch and its marker, and reads so many committed
-/// pages of 64 KiB of it, from offsets all over it: how many records they have, or -1 where
-/// something isn't appended or read.
+/// Makes a log of this many transactions, each a batch and its marker, and reads this many
+/// committed pages of 64 KiB of it, from offsets all over it: how many records they have, or -1
+/// where something isn't appended or read.
 #[unsafe(no_mangle)]
 pub extern "C" fn kx_bench_pages(alloc: Global, transactions_count: u64, pages: u64) -> i64
     ensures { negsuc 0 ≤ℤ result }

@@ -49,7 +49,7 @@ pub extern "C" fn kx_bench_read(bytes: &[u8]) -> usize
 // The value of each record that is built.
 const VALUE: [u8; 100] = [b'x'; 100];
 
-// How many bytes a batch of so many records has.
+// How many bytes a batch of this many records has.
 fn built_size(alloc: Global, records: u64) -> Result<usize, BuildFault>
     ensures { IfOk result (λ size. size ≤ batch_limit) }
 {
@@ -61,8 +61,8 @@ fn built_size(alloc: Global, records: u64) -> Result<usize, BuildFault>
     Ok(text.len())
 }
 
-/// Builds a plain batch of so many records of 100 bytes so often: how many bytes it has, or 0 where
-/// it isn't built.
+/// Builds a plain batch of this many records of 100 bytes so often: how many bytes it has, or 0
+/// where it isn't built.
 #[unsafe(no_mangle)]
 pub extern "C" fn kx_bench_build(alloc: Global, records: u64, count: u64) -> usize
     ensures { result ≤ batch_limit }

@@ -8,11 +8,13 @@ use Rattle.std.proofs.lemmas.Bool.Decides.{nat_tests}
 use Rattle.kx_broker.specs.Serving.{IsDisk, offset_of}
 use Rattle.kx_broker.proofs.Disks.{Grows, appended_closed, appended_disk, appended_fails}
 use Rattle.kx_broker.proofs.Disks.{appended_works, broken_disk, next_in}
-use Rattle.kx_broker.proofs.Stores.{any_allowed, failing, working}
+use Rattle.kx_broker.proofs.Stores.{any_allowed, failing, none_appended, working}
+use Rattle.kx_broker.specs.Serving.{bytes_in}
 use Rattle.kx_log.proofs.Segments.{long}
 use Rattle.kx_log.specs.Log.{texts}
 use Rattle.kx_log.specs.LogState.{AppendBreaks, IsAppendedTo, LogState, placed_text}
 use Rattle.kx_log.specs.Store.{MayLeave, StoreState}
+use Rattle.kx_machine.specs.Meaning.{appended_bytes, batch_bytes}
 use Rattle.kx_machine.specs.Stores.{Allows}
 use Rattle.kx_message.specs.declared.code.ErrorCode.{ErrorCode}
 use Rattle.kx_message.specs.declared.code.ErrorCode.TheVariants as code
@@ -36,7 +38,8 @@ use Rattle.kx_partition.specs.declared.answer.Produced.TheVariants as produced
 pub record Comes (Fits : List Stored → Type 0) (p : Partition) (old new : LogState)
     (step : Store → Taken) (code : ErrorCode) (offset : ℤ) : Type 0 where
   pub store : Store
-  pub allowed : Allows old.store.appends old.store.loads store
+  pub allowed : Allows old.store.appends old.store.loads
+      (bytes_in (λ at. (step at).partition)) store
   pub disk : IsDisk Fits (step store).partition.disk new
   pub parked : (step store).partition.parked ≡ p.parked
   pub code_is : code ≡ (step store).code
@@ -81,7 +84,9 @@ module _ (Fits : List Stored → Type 0) (p : Partition) (old new : LogState)
       → ((store : Store) → code ≡ (step store).code)
       → ((store : Store) → offset ≡ (step store).offset) → Comes Fits p old new step code offset
   stays step code offset same rests codes offsets =
-      let any = any_allowed old.store.appends old.store.loads in
+      let after = λ (store : Store). (step store).partition in
+      let any = any_allowed old.store.appends old.store.loads (bytes_in after)
+      (none_appended after p rests) in
       let at = rests any.store in
       record {
         store = any.store;
@@ -101,6 +106,14 @@ module _ (Fits : List Stored → Type 0) (p : Partition) (old new : LogState)
     abbrev step : Store → Taken
     step store = appends p store text
 
+    -- the entry of an append that fails
+    entry_is : p.disk.closed ≡ false → bytes_in (λ store. (step store).partition)
+        ≡ Some (length (next_in text p.disk.kept).text)
+    entry_is still =
+        let item = next_in text p.disk.kept in
+        λ i. appended_bytes (batch_bytes (appended_fails p.disk item false still i).hidden)
+        (batch_bytes (appended_fails p.disk item true still i).hidden)
+
     -- a closed log appends nothing
     pub closed_comes : p.disk.closed ≡ true → new ≡ old
         → Comes Fits p old new step code.KafkaStorageError (negsuc 0)
@@ -118,7 +131,8 @@ module _ (Fits : List Stored → Type 0) (p : Partition) (old new : LogState)
       pub appended_comes : (offset : ℤ) → IsAppendedTo text old new offset
           → Comes Fits p old new step code.NoError offset
       appended_comes offset h =
-          let w = working old.store.appends old.store.loads h.store.may in
+          let w = working old.store.appends old.store.loads
+          (bytes_in (λ store. (step store).partition)) h.store.may in
           let still : p.disk.closed ≡ false = sym is.closed ∙ h.not_closed in
           let written : is_written p.disk w.store ≡ true =
           ap (λ b. not b && works w.store) still ∙ w.is in
@@ -156,8 +170,10 @@ module _ (Fits : List Stored → Type 0) (p : Partition) (old new : LogState)
           subst (λ (n : ℕ). MayLeave old.store.appends n h.store.kept) size h.store.may in
           record {
             store = store;
-            allowed = failing old.store.appends old.store.loads (length item.text) h.store.kept
-                (omega (arith, long item grows.stored)) grows.stored.spells.limit leaves;
+            allowed = failing old.store.appends old.store.loads
+                (bytes_in (λ at. (step at).partition)) (length item.text) h.store.kept
+                (entry_is still) (omega (arith, long item grows.stored)) grows.stored.spells.limit
+                leaves;
             disk = broken_disk Fits p.disk old new text is grows holds h;
             parked = refl;
             code_is = ap (λ b. cond b code.NoError code.KafkaStorageError) (sym written);

@@ -11,7 +11,7 @@ use Rattle.kx_batch.proofs.Whole.{batch_again}
 use Rattle.kx_batch.specs.Batch.{Batch, Spelled, SpellsBatch, batch_at, batch_limit, batch_of}
 use Rattle.kx_batch.specs.declared.fault.BatchFault.{BatchFault}
 use Rattle.kx_broker.specs.Serving.{BeginsBy, GoesTo, IsServed, Puts, RunAgain, Serves, Serving}
-use Rattle.kx_broker.specs.Serving.{Waits, closes, offset_of, plain_batch}
+use Rattle.kx_broker.specs.Serving.{Waits, bytes_in, closes, offset_of, plain_batch}
 use Rattle.kx_broker.proofs.Appending.{Comes, marker_comes, stays, verdict_comes}
 use Rattle.kx_broker.proofs.Appending.{verdict_next}
 use Rattle.kx_broker.proofs.Disks.{Grows}
@@ -21,7 +21,7 @@ use Rattle.kx_broker.proofs.Parked.{same_full, same_without}
 use Rattle.kx_broker.proofs.Resuming.{answered, request_next, resumes_as}
 use Rattle.kx_broker.proofs.Served.{as_step, rests_with, served_parking, served_with}
 use Rattle.kx_broker.proofs.Served.{puts_by, serves_by, serving}
-use Rattle.kx_broker.proofs.Stores.{any_allowed}
+use Rattle.kx_broker.proofs.Stores.{any_allowed, none_appended}
 use Rattle.kx_laws.specs.Grown.{IsGrown}
 use Rattle.kx_laws.proofs.GrownLogs.{grown_by_batch, grown_by_marker}
 use Rattle.kx_laws.proofs.LogRules.{in_order, unverified_tells}
@@ -39,6 +39,7 @@ use Rattle.kx_message.specs.declared.requests.Fetch.{Fetch}
 use Rattle.kx_message.specs.declared.requests.Produce.{Produce}
 use Rattle.kx_message.specs.declared.requests.WriteMarker.{WriteMarker}
 use Rattle.kx_machine.specs.Meaning.{produced_of}
+use Rattle.kx_machine.specs.Stores.{Allows}
 use Rattle.kx_model.specs.Client.{value_records}
 use Rattle.kx_model.specs.Disk.{Store}
 use Rattle.kx_model.specs.Log.{Entry, Plain, Data, Control, Marker, MarkerFits, Sequenced, Stored}
@@ -340,7 +341,11 @@ module _ (number : ℕ) (p : Partition) (old : Serving) (is : IsServed number p 
               (the.AddPartition txn r.held number)
               → Serves (IsServed number) p old (serving old.number old.log given) step (m ∷ [])
           parks_by full m e is_it =
-              let any = any_allowed old.log.store.appends old.log.store.loads in
+              let after = λ (store : Store). (step store).0 in
+              let parks_to = parks number p r.request (Some txn) (Some r.held) in
+              let any = any_allowed old.log.store.appends old.log.store.loads (bytes_in after)
+              (none_appended after parks_to.0
+              (λ store. ap (λ (s : Served). s.0) (parks_here store))) in
               let at = parks_here any.store in
               let handed : m ∷ [] ≡ (parks number p r.request (Some txn) (Some r.held)).1 =
               ap (λ (x : Message). x ∷ []) (is_it ∙ ap (λ b.
@@ -400,7 +405,10 @@ module _ (number : ℕ) (p : Partition) (old : Serving) (is : IsServed number p 
           (λ store. on_add_reply number p store held c)
           (map (λ q. reply_to q.request (passed_on c) (negsuc 0)) requests)
       refused_each c requests other own =
-          let any = any_allowed old.log.store.appends old.log.store.loads in
+          let after = λ (store : Store). (on_add_reply number p store held c).0 in
+          let any = any_allowed old.log.store.appends old.log.store.loads (bytes_in after)
+          (none_appended after left (λ store. ap (λ (s : Served). s.0)
+          (refused_all number p store held c other))) in
           let at = refused_all number p any.store held c other in
           let same : requests ≡ parked_for p.parked held = own ∙ is.parked held in
           record {
@@ -443,7 +451,8 @@ module _ (number : ℕ) (p : Partition) (old : Serving) (is : IsServed number p 
           r.disk r.parked r.later in
           record {
             store = r.store;
-            allowed = r.allowed;
+            allowed = subst (λ (l : List Parked). Allows old.log.store.appends old.log.store.loads
+                (bytes_in (λ store. (resumes number left store l).0)) r.store) same r.allowed;
             stands = subst (λ (s : Served). IsServed number s.0 (serving old.number log given)) at
                 stands;
             answers = (

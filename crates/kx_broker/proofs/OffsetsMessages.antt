@@ -11,7 +11,8 @@ use Rattle.std.proofs.lemmas.Option.{same_Some}
 use Rattle.kx_batch.specs.Batch.{batch_limit, batch_of}
 use Rattle.kx_broker.specs.Offsets.{CommitsAt0, DropsMember, IsKept, IsOffsetsLog}
 use Rattle.kx_broker.specs.Offsets.{KeepsOffsets}
-use Rattle.kx_broker.specs.Serving.{BeginsBy, Serves, Serving, Waits, closes, offset_of, told_each}
+use Rattle.kx_broker.specs.Serving.{BeginsBy, Serves, Serving, Waits, bytes_in, closes, offset_of}
+use Rattle.kx_broker.specs.Serving.{told_each}
 use Rattle.kx_broker.proofs.Disks.{with_next}
 use Rattle.kx_broker.proofs.Messages.{asked_then, full_is_full, no_failure, parked_not_full}
 use Rattle.kx_broker.proofs.Messages.{refused_all}
@@ -22,13 +23,14 @@ use Rattle.kx_broker.proofs.Parked.{same_full, same_without}
 use Rattle.kx_broker.proofs.Resuming.{answered, request_next, resumes_as}
 use Rattle.kx_broker.proofs.Served.{as_step, rests_with, served_parking, served_with, serves_by}
 use Rattle.kx_broker.proofs.Served.{serving}
-use Rattle.kx_broker.proofs.Stores.{any_allowed}
+use Rattle.kx_broker.proofs.Stores.{any_allowed, none_appended}
 use Rattle.kx_group.specs.Calls.{IsChanged, IsCommitted, IsResumed, text_of}
 use Rattle.kx_group.specs.Log.{IsGroupLog}
 use Rattle.kx_group.proofs.Changing.{drops_only, joins_only, leaves_only}
 use Rattle.kx_group.proofs.Growing.{with_change}
 use Rattle.kx_group.proofs.Unverified.{begins_at_0}
 use Rattle.kx_log.specs.LogState.{LogState}
+use Rattle.kx_machine.specs.Stores.{Allows}
 use Rattle.kx_message.specs.Message.{IsU32}
 use Rattle.kx_message.specs.Messages as the
 use Rattle.kx_message.specs.Ranges.{IsName, offsets_partition}
@@ -259,7 +261,11 @@ module _ (p : Partition) (old : Serving) (is : KeepsOffsets p old) (it : TxnOffs
             (the.AddPartition it.txn r.held offsets_partition)
             → Serves KeepsOffsets p old (serving old.number old.log given) step (m ∷ [])
         parks_by full m e is_it =
-            let any = any_allowed old.log.store.appends old.log.store.loads in
+            let after = λ (store : Store). (step store).0 in
+            let parks_to = parks offsets_partition p r.request (Some it.txn) (Some r.held) in
+            let any = any_allowed old.log.store.appends old.log.store.loads (bytes_in after)
+            (none_appended after parks_to.0 (λ store. ap (λ (s : Served). s.0) (parks_here store)))
+            in
             let at = parks_here any.store in
             let handed : m ∷ []
             ≡ (parks offsets_partition p r.request (Some it.txn) (Some r.held)).1 =
@@ -320,7 +326,10 @@ module _ (p : Partition) (old : Serving) (is : KeepsOffsets p old) (held : Held)
         (λ store. on_add_reply offsets_partition p store held c)
         (map (λ q. reply_to q.request (passed_on c) (negsuc 0)) requests)
     commits_refused c requests other own =
-        let any = any_allowed old.log.store.appends old.log.store.loads in
+        let after = λ (store : Store). (on_add_reply offsets_partition p store held c).0 in
+        let any = any_allowed old.log.store.appends old.log.store.loads (bytes_in after)
+        (none_appended after left (λ store. ap (λ (s : Served). s.0)
+        (refused_all offsets_partition p store held c other))) in
         let at = refused_all offsets_partition p any.store held c other in
         let same : requests ≡ parked_for p.parked held = own ∙ is.parked held in
         record {
@@ -367,7 +376,9 @@ module _ (p : Partition) (old : Serving) (is : KeepsOffsets p old) (held : Held)
         (resumes offsets_partition left r.store requests).0 log r.disk r.parked r.later in
         record {
           store = r.store;
-          allowed = r.allowed;
+          allowed = subst (λ (l : List Parked). Allows old.log.store.appends old.log.store.loads
+              (bytes_in (λ store. (resumes offsets_partition left store l).0)) r.store) same
+              r.allowed;
           stands = subst (λ (s : Served). KeepsOffsets s.0 (serving old.number log given)) at
               stands;
           answers = (

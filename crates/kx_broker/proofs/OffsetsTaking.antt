@@ -6,11 +6,12 @@ use Rattle.std.specs.Prelude.{not, ◌&&◌}
 use Rattle.kx_broker.specs.Offsets.{DropsMember, KeepsOffsets, StandsForGroups}
 use Rattle.kx_broker.specs.Serving.{MayDo, Restarts, Serves, Serving, has_failed}
 use Rattle.kx_broker.specs.declared.restart.Restarted.TheVariants as restarted
-use Rattle.kx_broker.proofs.Stores.{any_allowed}
+use Rattle.kx_broker.proofs.Stores.{any_allowed, none_taken}
 use Rattle.kx_client.specs.declared.values.Values.{Values}
 use Rattle.kx_machine.specs.Meaning.{AtClient, AtCoordinator, AtPartition, AtProcessor, IsTaken}
 use Rattle.kx_machine.specs.Meaning.{NodeState}
-use Rattle.kx_machine.specs.Meaning.{command_of, finds, input_of, node_step, taken_of}
+use Rattle.kx_machine.specs.Meaning.{command_of, entry_bytes, finds, input_of, node_step}
+use Rattle.kx_machine.specs.Meaning.{taken_of}
 use Rattle.kx_machine.specs.declared.input.Command as running
 use Rattle.kx_machine.specs.declared.input.Input as given
 use Rattle.kx_machine.specs.declared.input.Input.TheVariants as input
@@ -138,7 +139,9 @@ module _ (p : Partition) (old : Serving) (is : KeepsOffsets p old) where
       → IsTaken (here p) asked (MayDo old) (λ s. StandsForGroups s old)
       (record { messages = []; note = note.Done; failed = false; found = false })
   rests_at asked rests never =
-      let any = any_allowed old.log.store.appends old.log.store.loads in
+      let any = any_allowed old.log.store.appends old.log.store.loads (entry_bytes (here p) asked)
+      (none_taken (here p) (here p) asked
+      (λ store. ap (λ (s : step.NodeStep NodeState). s.state) (rests store))) in
       let at = rests any.store in
       let stays = no_change p.disk.closed in
       record {

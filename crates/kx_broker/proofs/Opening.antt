@@ -140,7 +140,7 @@ module _ (Fits : List Stored → Type 0) (grows : (log : List Stored) → Fits l
   restarts content between new found h installed is_found =
       let opened = h.reloads.opened in
       let store : new.store ≡ between.store = ap (λ (l : LogState). l.store) installed in
-      let l = loaded old.log.store.appends old.log.store.loads opened.may in
+      let l = loaded old.log.store.appends old.log.store.loads None refl opened.may in
       let can = can_load p l.store l.is in
       let disk = read_disk Fits p.disk old.log is.disk content between.store opened new
       (ap (λ (l : LogState). l.batches) installed) (ap (λ (l : LogState). l.closed) installed)
@@ -180,7 +180,7 @@ module _ (Fits : List Stored → Type 0) (grows : (log : List Stored) → Fits l
       let closed : new.closed ≡ true = ap (λ (l : LogState). l.closed) h.1 in
       record {
         store = CannotLoad;
-        allowed = unloaded old.log.store.appends old.log.store.loads failed.may;
+        allowed = unloaded old.log.store.appends old.log.store.loads None failed.may;
         stands = record {
           number_is = is.number_is;
           disk = record {

@@ -8,7 +8,7 @@ use Rattle.std.specs.Int.{w8, w32, w64}
 use Rattle.std.specs.Int.RustNames.{FitsSigned}
 use Rattle.std.proofs.lemmas.Bool.{cases_lt}
 use Rattle.std.proofs.lemmas.List.Elements.{All-head, All-tail}
-use Rattle.kx_batch.proofs.Making.{FieldsFit, body_short, passes_long, spells_written, zero_fits}
+use Rattle.kx_batch.proofs.Making.{FieldsFit, body_short, record_long, spells_written, zero_fits}
 use Rattle.kx_batch.proofs.Making.{passes as passes_over, pushes as holds_more}
 use Rattle.kx_batch.specs.Batch.{Batch, SpellsBatch, batch_limit}
 use Rattle.kx_batch.specs.Build.{Holds, body_text, bytes_len, fields_text}
@@ -115,7 +115,8 @@ carries [] count text h all bytes each e = record {
 }
 carries (value ∷ values) count text h all bytes each e =
     elim (cases_lt batch_limit (bytes_len None + bytes_len (Some value) + weights [])) [
-      | inl long ↦ absurd (never (passes_long count text None (Some value) [] h long))
+      | inl long ↦ absurd (never (passes_over count text None (Some value) [] h
+          (omega (arith, long, record_long count None (Some value) []))))
       | inr short ↦
           elim (cases_lt batch_limit (61 + (length text
           + length (record_text (pushed count None (Some value) []))))) [

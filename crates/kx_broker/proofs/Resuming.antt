@@ -2,7 +2,7 @@
 -- answered is what the definitions say.
 use Rattle.std.proofs.Common.{◌≡◌, ◌⊎◌, inl, inr, ⊎_elim, ◌≤◌, ◌<◌, ◌+◌, ◌==◌, ℕ, pos, negsuc, Bool}
 use Rattle.std.proofs.Common.{true, false, cond, List, [], ◌∷◌, ◌++◌, length, take, get_or}
-use Rattle.std.proofs.Common.{Some, refl, sym}
+use Rattle.std.proofs.Common.{Option, Some, None, refl, sym}
 use Rattle.std.proofs.Common.{ap, ◌∙◌, subst, arith}
 use Rattle.std.specs.Prelude.{not, ◌&&◌, nat_lt}
 use Rattle.std.specs.List.{All}
@@ -11,33 +11,34 @@ use Rattle.std.proofs.lemmas.Bool.{and_from, eq-eqb}
 use Rattle.std.proofs.lemmas.List.Elements.{All-get_or, All-head, All-tail}
 use Rattle.std.proofs.lemmas.List.{take_all, take_more}
 use Rattle.kx_batch.specs.Batch.{batch_of}
-use Rattle.kx_broker.specs.Serving.{BeginsBy, IsDisk, RunAgain, Waits, offset_of, told}
+use Rattle.kx_broker.specs.Serving.{BeginsBy, IsDisk, RunAgain, Waits, bytes_in, offset_of, told}
 use Rattle.kx_broker.specs.Serving.{told_each}
 use Rattle.kx_broker.proofs.Appending.{Comes, quiet, stays, verdict_comes, verdict_next}
-use Rattle.kx_broker.proofs.Disks.{Grows, next_in, with_next}
+use Rattle.kx_broker.proofs.Disks.{Grows, appended_closed, appended_fails, next_in, with_next}
 use Rattle.kx_broker.proofs.Growing.{batch_grows}
-use Rattle.kx_broker.proofs.Stores.{any_allowed}
+use Rattle.kx_broker.proofs.Stores.{any_allowed, as_allowed, none_appended}
 use Rattle.kx_group.specs.Calls.{IsResumed, NoneLeft, OneMore, verdict_again}
 use Rattle.kx_laws.proofs.GrownLogs.{batch_is}
 use Rattle.kx_laws.proofs.LogRules.{batch_tells, in_order, unverified_tells}
 use Rattle.kx_laws.proofs.StoredTexts.{judged_as, judged_text, refused_else, refused_next}
 use Rattle.kx_log.specs.Log.{IsLog, texts}
 use Rattle.kx_log.specs.LogState.{LogState}
+use Rattle.kx_machine.specs.Meaning.{appended_bytes, batch_bytes}
 use Rattle.kx_machine.specs.Stores.{Allows}
 use Rattle.kx_message.specs.declared.code.ErrorCode.TheVariants as code
 use Rattle.kx_message.specs.declared.message.Held.{Held}
 use Rattle.kx_message.specs.declared.message.Message.{Message}
-use Rattle.kx_model.specs.Disk.{Store}
+use Rattle.kx_model.specs.Disk.{Disk, Store, Fails}
 use Rattle.kx_model.specs.Groups.{generation, is_member}
 use Rattle.kx_model.specs.Log.{Entry, Plain, Data, Control, Sequenced, Stored, entries}
 use Rattle.kx_model.specs.Log.{entry_in, last_sequence, width}
 use Rattle.kx_model.specs.PartitionNode.{Partition, Served, answers_request, entries_of}
-use Rattle.kx_model.specs.PartitionNode.{refused, replied, resumes, taken}
+use Rattle.kx_model.specs.PartitionNode.{parks, refused, replied, resumes, taken}
 use Rattle.kx_model.specs.Produce.{Verdict, Next, Duplicate, Unverified, Refused, if_room, judge}
 use Rattle.kx_model.specs.Produce.{judge_entry, judge_text, opens}
 use Rattle.kx_model.specs.Producers.{expected, is_of}
 use Rattle.kx_model.specs.Verification.{Parked, Request, Target, ToGroup, ToPartition}
-use Rattle.kx_model.specs.Verification.{judge_request, judge_target, reply_to}
+use Rattle.kx_model.specs.Verification.{judge_request, judge_target, pair_of, reply_to}
 use Rattle.kx_model.proofs.Growth.{expected-push}
 use Rattle.kx_model.proofs.Logs.{entries-push, width-entry_in}
 use Rattle.kx_partition.specs.Answer.{Breaks, FollowsVerdict, IsAnswered, IsAppended, answer_of}
@@ -308,11 +309,44 @@ module _ (Here : Request → Type 0) (held : Held) (requests : List Parked) (sta
 
 ------ as the definitions have it
 
+parks_disk : (number : ℕ) (p : Partition) (r : Request) (txn : Option (List ℕ))
+    (held : Option Held) → (parks number p r txn held).0.disk ≡ p.disk
+parks_disk number p r None held = refl
+parks_disk number p r (Some txn) None = refl
+parks_disk number p r (Some txn) (Some held) = refl
+
+-- a log that is closed stays as it is
+answer_closed : (number : ℕ) (p : Partition) (store : Store) (r : Request) (v : Verdict)
+    → p.disk.closed ≡ true → (answers_request number p store r v).0.disk ≡ p.disk
+answer_closed number p store r Next closed =
+    appended_closed p.disk (next_in r.text p.disk.kept) store closed
+answer_closed number p store r (Duplicate offset) closed = refl
+answer_closed number p store r Unverified closed = parks_disk number p r r.txn (pair_of r)
+answer_closed number p store r (Refused code) closed = refl
+
+resumes_closed : (number : ℕ) (requests : List Parked) (p : Partition) (store : Store)
+    → p.disk.closed ≡ true → (resumes number p store requests).0.disk ≡ p.disk
+resumes_closed number [] p store closed = refl
+resumes_closed number (q ∷ rest) p store closed =
+    let r = q.request in
+    let verdict = judge_request (entries_of p) true r in
+    let one = (answers_request number p store r verdict).0 in
+    let same = answer_closed number p store r verdict closed in
+    resumes_closed number rest one store (ap (λ (d : Disk Stored). d.closed) same ∙ closed) ∙ same
+
+taken_closes : (p : Partition) (text : List ℕ) (v : Verdict) (whole : Bool) → v ≡ Next
+    → p.disk.closed ≡ false → (taken p (Fails whole) text v).partition.disk.closed ≡ true
+taken_closes p text v whole next still =
+    ap (λ (w : Verdict). (taken p (Fails whole) text w).partition.disk.closed) next
+    ∙ ap (λ (d : Disk Stored). d.closed)
+    (appended_fails p.disk (next_in text p.disk.kept) whole still)
+
 -- by some store that is allowed, running the requests again leads to the log, and has these replies
 pub record Resumed (Fits : List Stored → Type 0) (number : ℕ) (p : Partition) (old new : LogState)
     (requests : List Parked) (answers : List Produced) : Type 0 where
   pub store : Store
-  pub allowed : Allows old.store.appends old.store.loads store
+  pub allowed : Allows old.store.appends old.store.loads
+      (bytes_in (λ at. (resumes number p at requests).0)) store
   pub disk : IsDisk Fits (resumes number p store requests).0.disk new
   pub parked : (resumes number p store requests).0.parked ≡ p.parked
   pub messages : told_each requests answers ≡ (resumes number p store requests).1
@@ -425,7 +459,9 @@ pub resumes_as : (Fits : List Stored → Type 0) (Here : Request → Type 0) (nu
     → Resumed Fits number p old new requests answers
 resumes_as Fits Here number held requests p old new answers (NoneLeft same) is all placed grown
     holds =
-    let any = any_allowed old.store.appends old.store.loads in
+    let any = any_allowed old.store.appends old.store.loads
+    (bytes_in (λ store. (resumes number p store []).0))
+    (none_appended (λ store. (resumes number p store []).0) p (λ store. refl)) in
     let stay = stays Fits p old old is (λ store. refused p code.NoError) code.NoError (negsuc 0)
     refl
     (λ store. refl) (λ store. refl) (λ store. refl) in
@@ -494,9 +530,26 @@ resumes_as Fits Here number held requests p old new answers
           s.1 ++ (resumes number s.0 c.store rest).1,
         )) first
         ∙ ap (λ (s : Served). (s.0, told q.request a ∷ s.1)) (behind.all c.store) in
+        let r = q.request in
+        let now = judge_request (entries_of p) true r in
+        let ready = verdict_next old.closed now
+        (sym (same_verdict Fits Here number log held p old is q) ∙ next) in
+        let still : p.disk.closed ≡ false = sym is.closed ∙ ready.0 in
+        let fails_as : (w : Bool) → (resumes number p (Fails w) (q ∷ rest)).0.disk
+        ≡ (taken p (Fails w) r.text now).partition.disk =
+        λ w. let first_is = as_batch Fits Here number log held p old is q (Fails w) in
+        resumes_closed number rest (answers_request number p (Fails w) r now).0 (Fails w)
+        (ap (λ (s : Served). s.0.disk.closed) first_is
+        ∙ taken_closes p r.text now w ready.1 still)
+        ∙ ap (λ (s : Served). s.0.disk) first_is in
+        let entry_is : bytes_in (λ store. (resumes number p store (q ∷ rest)).0)
+        ≡ bytes_in (λ store. (taken p store r.text now).partition) =
+        λ i. appended_bytes (batch_bytes (fails_as false i).hidden)
+        (batch_bytes (fails_as true i).hidden) in
         record {
           store = c.store;
-          allowed = c.allowed;
+          allowed = subst (λ (z : Option ℕ). Allows old.store.appends old.store.loads z c.store)
+              (sym entry_is) c.allowed;
           disk = subst (λ (s : Served). IsDisk Fits s.0.disk n) (sym whole)
               (subst (IsDisk Fits t.partition.disk) (sym behind.same) c.disk);
           parked = ap (λ (s : Served). s.0.parked) whole ∙ c.parked;
@@ -520,20 +573,25 @@ resumes_as Fits Here number held requests p old new answers
         changed a next (Breaks next h) (inl (ap (λ (l : LogState). l.closed) h.rest))
     by_answer a (IsAnswered given says same) more_of =
         let behind = more_of same in
-        let first = quiet_step Fits Here number log held p old is q a says behind.store in
-        let whole : resumes number p behind.store (q ∷ rest)
+        let each : (store : Store) → resumes number p store (q ∷ rest)
         ≡ (
-          (resumes number p behind.store rest).0,
-          told q.request a ∷ (resumes number p behind.store rest).1,
+          (resumes number p store rest).0,
+          told q.request a ∷ (resumes number p store rest).1,
         ) =
-        ap (λ (s : Served). (
-          (resumes number s.0 behind.store rest).0,
-          s.1 ++ (resumes number s.0 behind.store rest).1,
-        )) first in
+        λ store. ap (λ (s : Served). (
+          (resumes number s.0 store rest).0,
+          s.1 ++ (resumes number s.0 store rest).1,
+        )) (quiet_step Fits Here number log held p old is q a says store) in
+        let whole = each behind.store in
         record {
           store = behind.store;
-          allowed = subst (λ (l : LogState). Allows l.store.appends l.store.loads behind.store) same
-              behind.allowed;
+          allowed = as_allowed old.store.appends old.store.loads behind.store
+              (λ store. (resumes number p store rest).0)
+              (λ store. (resumes number p store (q ∷ rest)).0)
+              (λ store. ap (λ (s : Served). s.0) (each store))
+              (subst (λ (l : LogState). Allows l.store.appends l.store.loads
+              (bytes_in (λ store. (resumes number p store rest).0)) behind.store) same
+              behind.allowed);
           disk = subst (λ (s : Served). IsDisk Fits s.0.disk n) (sym whole) behind.disk;
           parked = ap (λ (s : Served). s.0.parked) whole ∙ behind.parked;
           messages = ap (λ (l : List Message). told q.request a ∷ l) behind.messages

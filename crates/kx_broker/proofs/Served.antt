@@ -4,11 +4,11 @@ use Rattle.std.proofs.Common.{refl, sym, ap, ◌∙◌, subst, arith}
 use Rattle.std.specs.Prelude.{nat_lt, not, ◌&&◌}
 use Rattle.std.proofs.lemmas.Bool.Decides.{nat_tests}
 use Rattle.kx_broker.specs.Serving.{AllWait, IsDisk, IsServedBy, Puts, Restarts, Serves}
-use Rattle.kx_broker.specs.Serving.{Serving, closes}
+use Rattle.kx_broker.specs.Serving.{Serving, bytes_in, closes}
 use Rattle.kx_broker.specs.declared.restart.Restarted.{Restarted}
 use Rattle.kx_broker.proofs.Appending.{Comes}
 use Rattle.kx_broker.proofs.Parked.{all_later}
-use Rattle.kx_broker.proofs.Stores.{any_allowed}
+use Rattle.kx_broker.proofs.Stores.{any_allowed, as_allowed, none_appended}
 use Rattle.kx_log.specs.LogState.{LogState}
 use Rattle.kx_machine.specs.Meaning.{produced_of}
 use Rattle.kx_message.specs.declared.code.ErrorCode.{ErrorCode}
@@ -64,7 +64,9 @@ module _ (Fits : List Stored → Type 0) (Here : Request → Type 0) (number : �
   pub rests_with : (step : Store → Served) (messages : List Message)
       → ((store : Store) → step store ≡ (p, messages)) → Serves Stands p old old step messages
   rests_with step messages rests =
-      let any = any_allowed old.log.store.appends old.log.store.loads in
+      let after = λ (store : Store). (step store).0 in
+      let any = any_allowed old.log.store.appends old.log.store.loads (bytes_in after)
+      (none_appended after p (λ store. ap (λ (s : Served). s.0) (rests store))) in
       let at = rests any.store in
       record {
         store = any.store;
@@ -88,7 +90,9 @@ module _ (Fits : List Stored → Type 0) (Here : Request → Type 0) (number : �
         let at = is_given c.store in
         record {
           store = c.store;
-          allowed = c.allowed;
+          allowed = as_allowed old.log.store.appends old.log.store.loads c.store
+              (λ store. (step store).partition) (λ store. (given store).0)
+              (λ store. ap (λ (s : Served). s.0) (is_given store)) c.allowed;
           stands = subst (λ (s : Served). Stands s.0 (serving old.number log old.parked)) (sym at)
               (served_with (step c.store).partition log c.disk c.parked c.later);
           answers = (
@@ -118,7 +122,9 @@ module _ (Stands : Partition → Serving → Type 0) (p : Partition) where
       let at = sym (same s.store) in
       record {
         store = s.store;
-        allowed = s.allowed;
+        allowed = as_allowed old.log.store.appends old.log.store.loads s.store
+            (λ store. (step store).0) (λ store. (other store).0)
+            (λ store. ap (λ (x : Served). x.0) (same store)) s.allowed;
         stands = subst (λ (x : Served). Stands x.0 new) at s.stands;
         answers = (
           s.answers.0 ∙ ap (λ (x : Served). x.1) at,

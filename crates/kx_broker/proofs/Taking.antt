@@ -1,15 +1,15 @@
 -- A step of the server as one that a machine makes.
 use Rattle.std.proofs.Common.{◌≡◌, ◌⊎◌, inl, inr, ◌==◌, ℕ, Bool, true, false, cond, List, [], ◌∷◌}
-use Rattle.std.proofs.Common.{refl, sym, ap}
+use Rattle.std.proofs.Common.{refl, sym, ap, Option}
 use Rattle.std.proofs.Common.{◌∙◌, subst}
 use Rattle.std.specs.Prelude.{not, ◌&&◌}
 use Rattle.kx_broker.specs.Serving.{IsServed, MayDo, Puts, Restarts, Serves, Serving, StandsFor}
 use Rattle.kx_broker.specs.Serving.{closes, has_failed}
 use Rattle.kx_broker.specs.declared.restart.Restarted.TheVariants as restarted
-use Rattle.kx_broker.proofs.Stores.{any_allowed}
+use Rattle.kx_broker.proofs.Stores.{any_allowed, as_allowed, none_taken}
 use Rattle.kx_machine.specs.Meaning.{AtClient, AtCoordinator, AtPartition, AtProcessor, IsTaken}
 use Rattle.kx_machine.specs.Meaning.{NodeState}
-use Rattle.kx_machine.specs.Meaning.{finds, node_step}
+use Rattle.kx_machine.specs.Meaning.{entry_bytes, finds, node_step}
 use Rattle.kx_machine.specs.Meaning.{command_of, input_of, taken_of}
 use Rattle.kx_machine.specs.declared.input.Command as running
 use Rattle.kx_machine.specs.declared.input.Input as given
@@ -45,13 +45,16 @@ module _ (number : ℕ) (p : Partition) (old new : Serving)
       → IsTaken before (Comes m) (MayDo old) (λ s. StandsFor s new)
       (record { messages = messages; note = note.Done; failed = failed; found = false })
   delivered m messages failed s is_failed =
-      let at : node_takes number p s.store m ≡ data_takes number p s.store m =
-      ap (λ b. cond b (offsets_takes p s.store m) (data_takes number p s.store m)) own in
+      let each : (store : Store) → node_takes number p store m ≡ data_takes number p store m =
+      λ store. ap (λ b. cond b (offsets_takes p store m) (data_takes number p store m)) own in
+      let at : node_takes number p s.store m ≡ data_takes number p s.store m = each s.store in
       let handed = s.answers.0 ∙ ap (λ (x : Served). x.1) (sym at) in
       let fails = is_failed ∙ s.answers.1 ∙ ap (λ (x : Served). closes p x.0) (sym at) in
       record {
         store = s.store;
-        allowed = s.allowed;
+        allowed = as_allowed old.log.store.appends old.log.store.loads s.store
+            (λ store. (data_takes number p store m).0) (λ store. (node_takes number p store m).0)
+            (λ store. ap (λ (x : Served). x.0) (each store)) s.allowed;
         stands = (own, subst (λ (x : Served). IsServed number x.0 new) (sym at) s.stands);
         answer = λ i. record {
           messages = handed i;
@@ -76,7 +79,12 @@ module _ (number : ℕ) (p : Partition) (old new : Serving)
       let fails = is_failed ∙ s.answers.1 in
       record {
         store = s.store;
-        allowed = s.allowed;
+        allowed = as_allowed old.log.store.appends old.log.store.loads s.store
+            (λ store. (puts p store (plain_text (value ∷ more))).partition)
+            (λ store. cond (number == offsets_partition) p
+            (puts p store (plain_text (value ∷ more))).partition)
+            (λ store. ap (λ b. cond b p (puts p store (plain_text (value ∷ more))).partition) own)
+            s.allowed;
         stands = (own, subst (λ (q : Partition). IsServed number q new) (sym state) s.stands);
         answer = (λ i. record {
           messages = [];
@@ -147,7 +155,10 @@ module _ (number : ℕ) (p : Partition) (old : Serving)
       → IsTaken (AtPartition number p) asked (MayDo old) (λ s. StandsFor s old)
       (record { messages = []; note = note.Done; failed = false; found = false })
   rests_at asked rests never =
-      let any = any_allowed old.log.store.appends old.log.store.loads in
+      let here = AtPartition number p in
+      let any = any_allowed old.log.store.appends old.log.store.loads (entry_bytes here asked)
+      (none_taken here here asked (λ store. ap (λ (s : NodeStep NodeState). s.state) (rests store)))
+      in
       let at = rests any.store in
       let stays = no_change p.disk.closed in
       record {
@@ -284,7 +295,7 @@ is_other i (inr (inr (inr h))) =
     subst (λ (j : given.Input). IsOther (input_of j)) (sym h.2) (OtherDrop h.0 h.1)
 
 -- the same of what is seen
-pub taken_as : (state : NodeState) (May : Store → Type 0) (Stands : NodeState → Type 0)
+pub taken_as : (state : NodeState) (May : Option ℕ → Store → Type 0) (Stands : NodeState → Type 0)
     (asked seen : Input) (taken told : Taken) → seen ≡ asked → told ≡ taken
     → IsTaken state asked May Stands taken → IsTaken state seen May Stands told
 taken_as state May Stands asked seen taken told e f h =

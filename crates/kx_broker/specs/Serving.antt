@@ -1,6 +1,9 @@
 -- The running server of a partition, and the node of the definitions for which it stands.
+-- What is parked begins no later than the sequence that comes next; so of one id and epoch at most
+-- one request is appended when they run again, and memory runs out before anything is appended or
+-- not at all.
 use Rattle.std.specs.Prelude.{◌≡◌, ◌≤◌, ◌==◌, ◌&&◌, ℕ, ℤ, pos, negsuc, Bool, true, false, not}
-use Rattle.std.specs.Prelude.{List, [], ◌∷◌, All, nat_lt, None, is_some}
+use Rattle.std.specs.Prelude.{List, [], ◌∷◌, All, nat_lt, Option, None, is_some}
 use Rattle.kx_batch.specs.Batch.{Batch, batch_of}
 use Rattle.kx_batch.specs.Build.{made}
 use Rattle.kx_broker.specs.declared.restart.Restarted.{Restarted}
@@ -11,14 +14,14 @@ use Rattle.kx_log.specs.Log.{IsLog, log_in}
 use Rattle.kx_log.specs.LogState.{LogState}
 use Rattle.kx_log.specs.Opening.{IsRight}
 use Rattle.kx_machine.specs.Meaning.{NodeState, AtCoordinator, AtPartition, AtClient}
-use Rattle.kx_machine.specs.Meaning.{AtProcessor, produced_of}
+use Rattle.kx_machine.specs.Meaning.{AtProcessor, appended_bytes, batch_bytes, produced_of}
 use Rattle.kx_machine.specs.Stores.{Allows}
 use Rattle.kx_message.specs.Ranges.{offsets_partition}
 use Rattle.kx_message.specs.declared.message.Held.{Held}
 use Rattle.kx_message.specs.declared.message.Message.{Message}
 use Rattle.kx_model.specs.Client.{value_records}
 use Rattle.kx_model.specs.Disk as disks
-use Rattle.kx_model.specs.Disk.{Disk, Store, reopening, reread}
+use Rattle.kx_model.specs.Disk.{Disk, Store, Fails, reopening, reread}
 use Rattle.kx_model.specs.Log.{Entry, Data, Sequenced, Stored, entry_in}
 use Rattle.kx_model.specs.PartitionNode.{Partition, Served, Taken, entries_of, partition_restarts}
 use Rattle.kx_model.specs.Producers.{expected}
@@ -101,17 +104,22 @@ StandsFor (AtPartition number p) server =
 StandsFor (AtClient c) server = ⊥
 StandsFor (AtProcessor p) server = ⊥
 
--- what its store may do in the next step
-abbrev pub MayDo : Serving → Store → Type 0
+-- what its store may do in the next step, with an entry of this length, if one is appended
+abbrev pub MayDo : Serving → Option ℕ → Store → Type 0
 MayDo server = Allows server.log.store.appends server.log.store.loads
 
 ------ a step
+
+-- the length of the batch that a step appends, if it appends one
+abbrev pub bytes_in : (Store → Partition) → Option ℕ
+bytes_in after = appended_bytes (batch_bytes (after (Fails false)).disk.hidden)
+    (batch_bytes (after (Fails true)).disk.hidden)
 
 -- a step of the definitions that the server made, in which its store did what it may
 pub record Steps (Stands : Partition → Serving → Type 0) (old new : Serving)
     (after : Store → Partition) (Answers : Store → Type 0) : Type 0 where
   pub store : Store
-  pub allowed : MayDo old store
+  pub allowed : MayDo old (bytes_in after) store
   pub stands : Stands (after store) new
   pub answers : Answers store
 

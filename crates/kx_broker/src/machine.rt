@@ -77,7 +77,7 @@ impl<S: Store> PartitionMachine<S> {
         self.number
     }
 
-    /// The partition, lent.
+    /// The partition, borrowed.
     pub fn partition(&self) -> &Partition<S>
         ensures value { result.now ≡ self.now.log }
         // Its batches are those of the node for which it stands.
@@ -110,7 +110,7 @@ impl<S: Store> PartitionMachine<S> {
         Ok(Messages::one(reply))
     }
 
-    // Takes a message, and hands out what it does for it.
+    // Takes a message: the messages that the step sends.
     fn serve(&mut self, message: &Message) -> Result<Messages, AllocError>
         ensures ok { (number : ℕ) (p : node.Partition) → IsServed number p self.old
             → IfOk result (Serves (IsServed number) p self.old self.new
@@ -128,7 +128,7 @@ impl<S: Store> PartitionMachine<S> {
         }
     }
 
-    // What it answers with this note to what hands out nothing.
+    // The answer of a step that sends nothing, with this note.
     fn answer(&self, note: Note, failed: bool, found: bool) -> Taken
         ensures { result ≡ record {
           messages = [];
@@ -145,7 +145,7 @@ impl<S: Store> PartitionMachine<S> {
         }
     }
 
-    /// Takes a message that is lent, as [`Machine::deliver`] has it.
+    /// Takes a message that is borrowed, as [`Machine::deliver`] has it.
     ///
     /// # Errors
     ///

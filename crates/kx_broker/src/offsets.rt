@@ -90,7 +90,7 @@ impl<S: Store> OffsetsMachine<S> {
         }
     }
 
-    /// The groups, lent.
+    /// The groups, borrowed.
     pub fn groups(&self) -> &Groups<S>
         ensures value { result.now ≡ self.now.log }
         // Its batches are those of the node for which it stands.
@@ -107,7 +107,7 @@ impl<S: Store> OffsetsMachine<S> {
         self.groups.failures()
     }
 
-    // Takes a message, and hands out what it does for it.
+    // Takes a message: the messages that the step sends.
     fn serve(&mut self, message: &Message) -> Result<Messages, AllocError>
         ensures ok { (p : node.Partition) → KeepsOffsets p self.old
             → IfOk result (Serves KeepsOffsets p self.old self.new
@@ -129,7 +129,7 @@ impl<S: Store> OffsetsMachine<S> {
         }
     }
 
-    // What it answers with this note to what hands out nothing.
+    // The answer of a step that sends nothing, with this note.
     fn answer(&self, note: Note, failed: bool, found: bool) -> Taken
         ensures { result ≡ record {
           messages = [];
@@ -146,7 +146,7 @@ impl<S: Store> OffsetsMachine<S> {
         }
     }
 
-    /// Takes a message that is lent, as [`Machine::deliver`] has it.
+    /// Takes a message that is borrowed, as [`Machine::deliver`] has it.
     ///
     /// # Errors
     ///

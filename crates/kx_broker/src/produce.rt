@@ -1,4 +1,7 @@
 //! Batches that come.
+//!
+//! Room for replies is made before the store is touched, so out of memory leaves the node as it
+//! was.
 ghost use Rattle.std.specs.Prelude.{◌≡◌, ◌∷◌, [], false, IfOk, IsErr, MatchResult, OnErr, negsuc};
 ghost use Rattle.std.specs.Prelude.{ℕ, Some, None, true};
 ghost use Rattle.kx_batch.specs.Batch.{batch_at};

@@ -37,7 +37,7 @@ impl Model for ParkedCommits {
 }
 
 impl ParkedCommits {
-    /// None is parked. It takes memory from `alloc` as they come.
+    /// A list with no parked request. It takes memory from `alloc` as they come.
     pub(crate) fn new(alloc: Global) -> ParkedCommits
         ensures { result ≡ [] }
     {
@@ -74,7 +74,7 @@ impl ParkedCommits {
         }
     }
 
-    /// Those of an id and epoch, in order of arrival.
+    /// The parked requests of an id and epoch, in order of arrival.
     pub(crate) fn of_held(&self, held: Held) -> &[Request]
         ensures value { result.now ≡ parked_for self.now held }
         ensures alike { AreAlike result.now }

@@ -4,7 +4,7 @@ ghost use Rattle.kx_cases.specs.Lines.{Says};
 /// What a line says.
 #[derive(Clone, Copy)]
 pub enum Line<'a> {
-    /// Nothing: it is empty, or a comment.
+    /// An empty line, or a comment.
     Nothing,
     /// A case begins.
     Case(&'a str),
@@ -12,7 +12,7 @@ pub enum Line<'a> {
     Bytes { name: &'a str, bytes: &'a str },
     /// A step, and the answer that it has to give.
     Step { step: &'a str, answer: &'a str },
-    /// It has none of these forms.
+    /// The line has none of these forms.
     Bad,
 }
 

@@ -32,7 +32,7 @@ impl Model for Runs {
 }
 
 impl Runs {
-    /// No answer yet.
+    /// A run without answers.
     pub fn new(alloc: Global) -> Self
         ensures { result ≡ no_runs }
     {
@@ -61,8 +61,8 @@ impl Runs {
         }
     }
 
-    /// The answer to the input of this number, which comes behind those before it. Without memory
-    /// it isn't kept, and what was written of those before it isn't known.
+    /// The answer to the input of this number, which comes after those before it. Without memory it
+    /// isn't kept, and what was written of those before it isn't known.
     pub fn push(&mut self, number: usize, answer: String) -> Result<(), AllocError>
         ensures ok { OnOk result (self.new ≡
             pushed self.old.text self.old.run number (string_bytes answer)) }

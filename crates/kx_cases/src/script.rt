@@ -22,7 +22,7 @@ impl Script {
     ///
     /// # Errors
     ///
-    /// Where one of the files can't be read, or for want of memory.
+    /// Where one of the files can't be read, or where memory runs out.
     pub fn read(rt: &(impl Files + AllocGlobal), name: &str, kind: &str) -> io::Result<Script> {
         let alloc = rt.alloc();
         let text = fs::read_to_string(rt, format!(in alloc; "{name}.{kind}")?)?;

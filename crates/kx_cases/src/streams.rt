@@ -2,7 +2,7 @@
 use std::io;
 use std::io::{BufRead, ErrorKind, Read, Write};
 
-/// A reader that gives at most so many bytes at once, and fails behind so many reads. It reads
+/// A reader that gives at most this many bytes at once, and fails after this many reads. It reads
 /// where what the last read gave is used up.
 #[derive(Drop)]
 pub struct Giving<'a> {
@@ -55,7 +55,7 @@ impl<'a> BufRead for Giving<'a> {
     }
 }
 
-/// A writer that takes one byte at once, and has room for so many.
+/// A writer that takes one byte at once, and has room for this many.
 #[derive(Drop)]
 pub struct Taking {
     /// What it took.

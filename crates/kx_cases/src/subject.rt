@@ -12,7 +12,7 @@ pub trait Subject: Drop {
     // nothing is said of it. So that a step is judged by such an answer is proved for all subjects.
     ghost answers: { Self → Option (List ℕ) → Type 0 } = { λ _ _. ⊤ };
 
-    /// One on which no step was taken, as each case begins with it.
+    /// A subject on which no step was taken, as each case begins with it.
     fn new(alloc: Global) -> Self;
 
     /// Takes the step that these words are, and gives its answer as a file of cases has it.

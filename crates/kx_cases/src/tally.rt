@@ -17,14 +17,14 @@ use std::process::ExitCode;
 /// How many cases were tried, and how many of them failed.
 #[derive(Clone, Copy)]
 pub struct Tally {
-    /// Those that were tried.
+    /// The cases that were tried.
     pub tried: u64,
-    /// Those in which a step gave another answer, or none.
+    /// The cases in which a step gave another answer, or none.
     pub failed: u64,
 }
 
 impl Tally {
-    /// No case was tried.
+    /// A tally of no case.
     pub fn none() -> Self
         ensures tried { result.tried ≡ 0 }
         ensures failed { result.failed ≡ 0 }
@@ -147,7 +147,7 @@ impl<'a> Trial<'a> {
         Ok(other_answer(self.alloc, given, want)?)
     }
 
-    // A case fails at the first step whose answer doesn't come; those behind it aren't taken.
+    // A case fails at the first step whose answer doesn't come; those after it aren't taken.
     fn take_step<S: Subject>(
         &mut self,
         rt: &impl Print,

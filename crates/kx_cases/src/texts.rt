@@ -7,7 +7,7 @@ use std::collections::BTreeMap;
 use std::marker::Model;
 
 /// The bytes that have a name. Bytes are written as parts that are joined by `+`; a part is
-/// hexadecimal digits, or `$NAME` of bytes with a name, or `-` for none, and behind it changes, of
+/// hexadecimal digits, or `$NAME` of bytes with a name, or `-` for none, and after it changes, of
 /// which each begins with a `,`: `,..N` cuts it to N bytes, `,xN` repeats it N times, and `,P:HEX`
 /// puts these bytes at place P.
 #[derive(Drop)]
@@ -25,7 +25,7 @@ impl Model for Texts {
 }
 
 impl Texts {
-    /// No bytes have a name.
+    /// A table in which no bytes have a name.
     pub fn new(alloc: Global) -> Self
         ensures { result ≡ [] }
     {
@@ -87,7 +87,7 @@ impl Texts {
         }
     }
 
-    // Makes one of the changes that stand behind a part.
+    // Makes one of the changes that stand after a part.
     fn change(&self, bytes: &mut Vec<u8>, change: &str) -> Result<(), StepFault> {
         if let Some(len) = change.strip_prefix("..") {
             bytes.truncate(number(len)?);

@@ -58,7 +58,7 @@ fn told_request(alloc: Global, request: &Message) -> Result<String, StepFault> {
     Ok(text)
 }
 
-// The requests that are handed out, `-` where there are none.
+// The requests that are sent, `-` where there are none.
 fn told_all(alloc: Global, requests: &[Message]) -> Result<String, StepFault> {
     let mut text = String::new(alloc);
     for request in requests {
@@ -73,7 +73,7 @@ fn told_all(alloc: Global, requests: &[Message]) -> Result<String, StepFault> {
     Ok(text)
 }
 
-// The request that a command hands out, or why it doesn't.
+// The request that a command sends, or why it doesn't.
 fn told_one(alloc: Global, sent: Result<Message, ClientFault>) -> Result<String, StepFault> {
     match sent {
         Ok(request) => told_request(alloc, &request),

@@ -11,7 +11,7 @@ use std::io;
 ///
 /// # Errors
 ///
-/// Where what came can't be printed, or for want of memory.
+/// Where what came can't be printed, or where memory runs out.
 pub fn try_clients(
     rt: &(impl Print + AllocGlobal),
     front: &str,

@@ -30,7 +30,7 @@ fn view(bytes: &[u8]) -> Result<BatchView<'_>, StepFault> {
     }
 }
 
-// How many bytes the batch at the front has, and the bytes behind it, or the fault.
+// How many bytes the batch at the front has, and the bytes after it, or the fault.
 fn read(alloc: Global, bytes: &[u8]) -> Result<String, StepFault> {
     match BatchView::read(bytes) {
         Ok((batch, behind)) => {
@@ -80,7 +80,7 @@ fn told_text(alloc: Global, text: Option<&[u8]>) -> Result<String, StepFault> {
     }
 }
 
-// A header, behind what is told before it.
+// A header, after what is told before it.
 fn push_header(alloc: Global, text: &mut String, header: &HeaderView<'_>) -> Result<(), StepFault> {
     let key = told_text(alloc, Some(header.key()))?;
     let value = told_text(alloc, header.value())?;

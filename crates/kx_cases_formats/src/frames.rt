@@ -155,7 +155,7 @@ fn has_failed(frames: &mut Frames, piece: &[u8]) -> bool {
     matches!(frames.feed(piece), Err(FrameFault::Failed))
 }
 
-// Feeds a piece: whether the stream goes on behind it, or what is wrong with what it brings.
+// Feeds a piece: whether the stream goes on after it, or what is wrong with what it brings.
 fn fed(frames: &mut Frames, piece: &[u8]) -> Result<bool, &'static str> {
     match frames.feed(piece) {
         Ok(messages) if messages.iter().all(|message| message.fits()) => Ok(true),
@@ -165,8 +165,8 @@ fn fed(frames: &mut Frames, piece: &[u8]) -> Result<bool, &'static str> {
     }
 }
 
-// Random pieces bring messages that fit, or faults of the bytes, behind which the stream failed
-// and another begins.
+// Random pieces bring messages that fit, or faults of the bytes, after which the stream failed and
+// another begins.
 fn random(alloc: Global, seed: u64, count: u32, stream: &[u8]) -> Result<&'static str, StepFault> {
     let mut state = seed;
     let mut frames = Frames::new(alloc);

@@ -44,7 +44,7 @@ fn put_signed(out: &mut Vec<u8>, kind: &str, number: &str) -> Result<(), StepFau
     Ok(())
 }
 
-// A number of fixed width and the bytes behind it.
+// A number of fixed width and the bytes after it.
 fn told_field<T: Display + Drop>(
     alloc: Global,
     field: Result<(T, &[u8]), VarFault>,
@@ -85,7 +85,7 @@ fn read(alloc: Global, kind: &str, bytes: &[u8]) -> Result<String, StepFault> {
     }
 }
 
-// The number at a place that has eight bytes behind it.
+// The number at a place that has eight bytes after it.
 fn at(bytes: &[u8], kind: &str, place: usize) -> Result<i64, StepFault> {
     let last = bytes.len().checked_sub(8).ok_or(StepFault::Unknown)?;
     if last < place {

@@ -201,7 +201,7 @@ impl ValueCases {
         told_value(self.alloc, number)
     }
 
-    // A step of two words behind its name.
+    // A step of two words after its name.
     fn pair_step(&self, texts: &Texts, name: &str, a: &str, b: &str) -> Result<String, StepFault> {
         match name {
             "parse" => parsed(self.alloc, a, texts.bytes(b)?.as_slice()),
@@ -212,7 +212,7 @@ impl ValueCases {
     }
 }
 
-// A step of one word behind its name.
+// A step of one word after its name.
 fn word_step(alloc: Global, texts: &Texts, kind: &str, word: &str) -> Result<String, StepFault> {
     match kind {
         "name" => name(alloc, texts.bytes(word)?.as_slice()),

@@ -66,7 +66,7 @@ fn made(groups: &mut Kept, commit: &TxnOffsetCommit, call: &Call<'_>) -> Result<
 }
 
 // Whether a call is answered, if need be when it is made again, and leaves all as it was where it
-// is refused for want of memory.
+// is refused since memory ran out.
 fn goes(groups: &mut Kept, commit: &TxnOffsetCommit, call: &Call<'_>) -> bool {
     let before = told_of(groups, commit);
     for _ in 0..2 {

@@ -1,6 +1,19 @@
-//! Responses as cases write them: `response NAME` tells the frame of the response of this name,
-//! whose values stand here.
-use kx_cases::{StepFault, known};
+//! Responses as cases write them: `response API VERSION CORRELATION WORD.. BYTES` tells the frame
+//! of a response whose values are the words; those that no word says stand here.
+//!
+//! - ApiVersions: the error; the versions are those that all clients work with.
+//! - Metadata: none, or a topic and how many partitions it has.
+//! - FindCoordinator: none.
+//! - InitProducerId: id, epoch.
+//! - Produce: topic, and of each partition `INDEX:ERROR:BASE`.
+//! - Fetch: topic; aborted transactions, as `null`, `-` for none, or one as `ID:FIRST`; and of each
+//!   partition `INDEX:END:STABLE`. The bytes are the records of each.
+//! - ListOffsets, OffsetFetch: topic, and of each partition `INDEX:ERROR:OFFSET`.
+//! - AddPartitionsToTxn, TxnOffsetCommit, OffsetCommit: topic, and of each partition `INDEX:ERROR`.
+//! - AddOffsetsToTxn, EndTxn, Heartbeat, LeaveGroup: the error.
+//! - JoinGroup: the member, who leads; the bytes are its metadata.
+//! - SyncGroup: none; the bytes are the assignment.
+use kx_cases::{StepFault, known, value};
 use kx_kafka::{
     AbortedTransaction, AddOffsetsToTxnResponse, AddPartitionsToTxnResponse, ApiKey, ApiVersion,
     ApiVersionsResponse, EndTxnResponse, FetchPartitionResponse, FetchResponse,
@@ -14,18 +27,48 @@ use kx_kafka::{
 };
 use std::alloc::Global;
 
+/// What a case says of a response.
+#[derive(Clone, Copy)]
+pub(crate) struct Said<'a> {
+    pub(crate) alloc: Global,
+    pub(crate) version: i16,
+    pub(crate) correlation_id: i32,
+    pub(crate) words: &'a [&'a str],
+    pub(crate) bytes: &'a [u8],
+}
+
 type Written = Result<Vec<u8>, StepFault>;
 
-// The frame of a response in a version of its API.
-fn frame<T: Writes>(
-    alloc: Global,
-    api: ApiKey,
-    number: i16,
-    correlation_id: i32,
-    response: &T,
-) -> Written {
-    let version = api.version(number).ok_or(StepFault::Unknown)?;
-    known(response_frame(alloc, version, correlation_id, response))
+// The frame of a response of an API.
+fn frame<T: Writes>(said: Said<'_>, api: ApiKey, response: &T) -> Written {
+    let version = api.version(said.version).ok_or(StepFault::Unknown)?;
+    known(response_frame(said.alloc, version, said.correlation_id, response))
+}
+
+// A topic and the words of its partitions.
+fn topic<'a>(said: Said<'a>) -> Result<(&'a [u8], &'a [&'a str]), StepFault> {
+    let [name, partitions @ ..] = said.words else {
+        return Err(StepFault::Unknown);
+    };
+    Ok((name.as_bytes(), partitions))
+}
+
+// The error that is the only word.
+fn error_code(said: Said<'_>) -> Result<i16, StepFault> {
+    let [code] = said.words else {
+        return Err(StepFault::Unknown);
+    };
+    value(code)
+}
+
+fn two_parts(word: &str) -> Result<(&str, &str), StepFault> {
+    word.split_once(':').ok_or(StepFault::Unknown)
+}
+
+fn three_parts(word: &str) -> Result<(&str, &str, &str), StepFault> {
+    let (first, others) = two_parts(word)?;
+    let (second, third) = two_parts(others)?;
+    Ok((first, second, third))
 }
 
 // The versions that all clients work with.
@@ -49,8 +92,9 @@ const VERSIONS: [(i16, i16, i16); 17] = [
     (28, 0, 0),
 ];
 
-fn api_versions(alloc: Global, error_code: i16) -> Written {
-    let mut api_keys = Vec::new(alloc);
+fn api_versions(said: Said<'_>) -> Written {
+    let error_code = error_code(said)?;
+    let mut api_keys = Vec::new(said.alloc);
     for (api_key, min_version, max_version) in VERSIONS {
         if error_code == 0 || api_key == 18 {
             api_keys.push(ApiVersion {
@@ -64,23 +108,29 @@ fn api_versions(alloc: Global, error_code: i16) -> Written {
         error_code,
         api_keys: &api_keys,
     };
-    frame(alloc, ApiKey::ApiVersions, 0, 2, &response)
+    frame(said, ApiKey::ApiVersions, &response)
 }
 
-// One broker, and a topic with one partition where one is to be shown.
-fn metadata(alloc: Global, number: i16, with_topic: bool) -> Written {
-    let shown = if with_topic { 1 } else { 0 };
-    let partitions = [MetadataResponsePartition {
-        error_code: 0,
-        partition_index: 0,
-        leader_id: 0,
-        replica_nodes: &[0],
-        isr_nodes: &[0],
-        offline_replicas: &[],
-    }];
+// One broker, which leads the partitions of the topic, where there is one.
+fn metadata(said: Said<'_>) -> Written {
+    let (name, count, shown) = match said.words {
+        [name, count] => (*name, value(count)?, 1),
+        _ => ("", 0, 0),
+    };
+    let mut partitions = Vec::new(said.alloc);
+    for partition_index in 0..count {
+        partitions.push(MetadataResponsePartition {
+            error_code: 0,
+            partition_index,
+            leader_id: 0,
+            replica_nodes: &[0],
+            isr_nodes: &[0],
+            offline_replicas: &[],
+        })?;
+    }
     let topics = [MetadataResponseTopic {
         error_code: 0,
-        name: b"t",
+        name: name.as_bytes(),
         is_internal: false,
         partitions: &partitions,
     }];
@@ -96,10 +146,10 @@ fn metadata(alloc: Global, number: i16, with_topic: bool) -> Written {
         controller_id: 0,
         topics: &topics[..shown],
     };
-    frame(alloc, ApiKey::Metadata, number, 3, &response)
+    frame(said, ApiKey::Metadata, &response)
 }
 
-fn find_coordinator(alloc: Global, number: i16) -> Written {
+fn find_coordinator(said: Said<'_>) -> Written {
     let response = FindCoordinatorResponse {
         throttle_time_ms: 0,
         error_code: 0,
@@ -108,254 +158,264 @@ fn find_coordinator(alloc: Global, number: i16) -> Written {
         host: b"127.0.0.1",
         port: 9292,
     };
-    frame(alloc, ApiKey::FindCoordinator, number, 4, &response)
+    frame(said, ApiKey::FindCoordinator, &response)
 }
 
-fn init_producer_id(alloc: Global, number: i16, correlation_id: i32) -> Written {
+fn init_producer_id(said: Said<'_>) -> Written {
+    let [id, epoch] = said.words else {
+        return Err(StepFault::Unknown);
+    };
     let response = InitProducerIdResponse {
         throttle_time_ms: 0,
         error_code: 0,
-        producer_id: 0,
-        producer_epoch: 0,
+        producer_id: value(id)?,
+        producer_epoch: value(epoch)?,
     };
-    frame(
-        alloc,
-        ApiKey::InitProducerId,
-        number,
-        correlation_id,
-        &response,
-    )
+    frame(said, ApiKey::InitProducerId, &response)
 }
 
-fn produce(alloc: Global) -> Written {
-    let partitions = [PartitionProduceResponse {
-        index: 0,
-        error_code: 0,
-        base_offset: 0,
-        log_append_time_ms: -1,
-    }];
+fn produce(said: Said<'_>) -> Written {
+    let (name, words) = topic(said)?;
+    let mut partitions = Vec::new(said.alloc);
+    for word in words {
+        let (index, error, base) = three_parts(word)?;
+        partitions.push(PartitionProduceResponse {
+            index: value(index)?,
+            error_code: value(error)?,
+            base_offset: value(base)?,
+            log_append_time_ms: -1,
+        })?;
+    }
     let response = ProduceResponse {
         responses: &[TopicProduceResponse {
-            name: b"t",
+            name,
             partition_responses: &partitions,
         }],
         throttle_time_ms: 0,
     };
-    frame(alloc, ApiKey::Produce, 4, 7, &response)
+    frame(said, ApiKey::Produce, &response)
 }
 
-// A page of a partition: no aborted transactions, which is null, or one.
-fn fetch<'x>(
-    alloc: Global,
-    aborted: Option<&'x [AbortedTransaction]>,
-    records: &'x [u8],
-) -> Written {
-    let partitions = [FetchPartitionResponse {
-        partition_index: 0,
-        error_code: 0,
-        high_watermark: 8,
-        last_stable_offset: 8,
-        aborted_transactions: aborted,
-        records: Some(records),
-    }];
+fn fetch_of<'x>(said: Said<'x>, aborted: Option<&'x [AbortedTransaction]>) -> Written {
+    let [name, _, words @ ..] = said.words else {
+        return Err(StepFault::Unknown);
+    };
+    let mut partitions = Vec::new(said.alloc);
+    for word in words {
+        let (index, end, stable) = three_parts(word)?;
+        partitions.push(FetchPartitionResponse {
+            partition_index: value(index)?,
+            error_code: 0,
+            high_watermark: value(end)?,
+            last_stable_offset: value(stable)?,
+            aborted_transactions: aborted,
+            records: Some(said.bytes),
+        })?;
+    }
     let response = FetchResponse {
         throttle_time_ms: 0,
         responses: &[FetchableTopicResponse {
-            topic: b"t",
+            topic: name.as_bytes(),
             partitions: &partitions,
         }],
     };
-    frame(alloc, ApiKey::Fetch, 4, 5, &response)
+    frame(said, ApiKey::Fetch, &response)
 }
 
-fn list_offsets(alloc: Global, number: i16) -> Written {
-    let partitions = [ListOffsetsPartitionResponse {
-        partition_index: 0,
-        error_code: 0,
-        timestamp: -1,
-        offset: 0,
-    }];
+fn fetch(said: Said<'_>) -> Written {
+    match said.words.get(1) {
+        Some(&"null") => fetch_of(said, None),
+        Some(&"-") => fetch_of(said, Some(&[])),
+        Some(word) => {
+            let (id, first) = two_parts(word)?;
+            let aborted = AbortedTransaction {
+                producer_id: value(id)?,
+                first_offset: value(first)?,
+            };
+            fetch_of(said, Some(&[aborted]))
+        }
+        None => Err(StepFault::Unknown),
+    }
+}
+
+fn list_offsets(said: Said<'_>) -> Written {
+    let (name, words) = topic(said)?;
+    let mut partitions = Vec::new(said.alloc);
+    for word in words {
+        let (index, error, offset) = three_parts(word)?;
+        partitions.push(ListOffsetsPartitionResponse {
+            partition_index: value(index)?,
+            error_code: value(error)?,
+            timestamp: -1,
+            offset: value(offset)?,
+        })?;
+    }
     let response = ListOffsetsResponse {
         throttle_time_ms: 0,
         topics: &[ListOffsetsTopicResponse {
-            name: b"t",
+            name,
             partitions: &partitions,
         }],
     };
-    frame(alloc, ApiKey::ListOffsets, number, 6, &response)
+    frame(said, ApiKey::ListOffsets, &response)
 }
 
-// The topic `t` and its partition 0, without an error.
-const NO_ERROR: [PartitionError; 1] = [PartitionError {
-    partition_index: 0,
-    error_code: 0,
-}];
-
-fn add_partitions(alloc: Global) -> Written {
-    let response = AddPartitionsToTxnResponse {
-        throttle_time_ms: 0,
-        results: &[TopicErrors {
-            name: b"t",
-            partitions: &NO_ERROR,
-        }],
-    };
-    frame(alloc, ApiKey::AddPartitionsToTxn, 0, 5, &response)
-}
-
-fn add_offsets(alloc: Global) -> Written {
-    let response = AddOffsetsToTxnResponse {
-        throttle_time_ms: 0,
-        error_code: 0,
-    };
-    frame(alloc, ApiKey::AddOffsetsToTxn, 0, 6, &response)
-}
-
-fn end_txn(alloc: Global) -> Written {
-    let response = EndTxnResponse {
-        throttle_time_ms: 0,
-        error_code: 0,
-    };
-    frame(alloc, ApiKey::EndTxn, 1, 6, &response)
-}
-
-fn txn_offset_commit(alloc: Global, number: i16, correlation_id: i32) -> Written {
-    let response = TxnOffsetCommitResponse {
-        throttle_time_ms: 0,
-        topics: &[TopicErrors {
-            name: b"t",
-            partitions: &NO_ERROR,
-        }],
-    };
-    frame(
-        alloc,
-        ApiKey::TxnOffsetCommit,
-        number,
-        correlation_id,
-        &response,
-    )
-}
-
-fn offset_commit(alloc: Global) -> Written {
-    let response = OffsetCommitResponse {
-        topics: &[TopicErrors {
-            name: b"t",
-            partitions: &NO_ERROR,
-        }],
-    };
-    frame(alloc, ApiKey::OffsetCommit, 2, 9, &response)
-}
-
-// Two partitions, of which no offset is committed.
-fn offset_fetch(alloc: Global, number: i16, correlation_id: i32) -> Written {
-    let none = OffsetFetchPartition {
-        partition_index: 0,
-        committed_offset: -1,
-        committed_leader_epoch: -1,
-        metadata: Some(b""),
-        error_code: 0,
-    };
-    let second = OffsetFetchPartition {
-        partition_index: 1,
-        ..none
-    };
-    let partitions = [none, second];
+fn offset_fetch(said: Said<'_>) -> Written {
+    let (name, words) = topic(said)?;
+    let mut partitions = Vec::new(said.alloc);
+    for word in words {
+        let (index, error, offset) = three_parts(word)?;
+        partitions.push(OffsetFetchPartition {
+            partition_index: value(index)?,
+            committed_offset: value(offset)?,
+            committed_leader_epoch: -1,
+            metadata: Some(b""),
+            error_code: value(error)?,
+        })?;
+    }
     let response = OffsetFetchResponse {
         throttle_time_ms: 0,
         topics: &[OffsetFetchTopic {
-            name: b"t",
+            name,
             partitions: &partitions,
         }],
         error_code: 0,
     };
-    frame(
-        alloc,
-        ApiKey::OffsetFetch,
-        number,
-        correlation_id,
-        &response,
-    )
+    frame(said, ApiKey::OffsetFetch, &response)
 }
 
-fn join_group(alloc: Global, number: i16, metadata: &[u8]) -> Written {
+// The errors of the partitions of these words.
+fn errors(alloc: Global, words: &[&str]) -> Result<Vec<PartitionError>, StepFault> {
+    let mut partitions = Vec::new(alloc);
+    for word in words {
+        let (index, error) = two_parts(word)?;
+        partitions.push(PartitionError {
+            partition_index: value(index)?,
+            error_code: value(error)?,
+        })?;
+    }
+    Ok(partitions)
+}
+
+fn add_partitions(said: Said<'_>) -> Written {
+    let (name, words) = topic(said)?;
+    let partitions = errors(said.alloc, words)?;
+    let response = AddPartitionsToTxnResponse {
+        throttle_time_ms: 0,
+        results: &[TopicErrors {
+            name,
+            partitions: &partitions,
+        }],
+    };
+    frame(said, ApiKey::AddPartitionsToTxn, &response)
+}
+
+fn txn_offset_commit(said: Said<'_>) -> Written {
+    let (name, words) = topic(said)?;
+    let partitions = errors(said.alloc, words)?;
+    let response = TxnOffsetCommitResponse {
+        throttle_time_ms: 0,
+        topics: &[TopicErrors {
+            name,
+            partitions: &partitions,
+        }],
+    };
+    frame(said, ApiKey::TxnOffsetCommit, &response)
+}
+
+fn offset_commit(said: Said<'_>) -> Written {
+    let (name, words) = topic(said)?;
+    let partitions = errors(said.alloc, words)?;
+    let response = OffsetCommitResponse {
+        topics: &[TopicErrors {
+            name,
+            partitions: &partitions,
+        }],
+    };
+    frame(said, ApiKey::OffsetCommit, &response)
+}
+
+fn add_offsets(said: Said<'_>) -> Written {
+    let response = AddOffsetsToTxnResponse {
+        throttle_time_ms: 0,
+        error_code: error_code(said)?,
+    };
+    frame(said, ApiKey::AddOffsetsToTxn, &response)
+}
+
+fn end_txn(said: Said<'_>) -> Written {
+    let response = EndTxnResponse {
+        throttle_time_ms: 0,
+        error_code: error_code(said)?,
+    };
+    frame(said, ApiKey::EndTxn, &response)
+}
+
+fn heartbeat(said: Said<'_>) -> Written {
+    let response = HeartbeatResponse {
+        throttle_time_ms: 0,
+        error_code: error_code(said)?,
+    };
+    frame(said, ApiKey::Heartbeat, &response)
+}
+
+fn leave_group(said: Said<'_>) -> Written {
+    let response = LeaveGroupResponse {
+        throttle_time_ms: 0,
+        error_code: error_code(said)?,
+    };
+    frame(said, ApiKey::LeaveGroup, &response)
+}
+
+fn join_group(said: Said<'_>) -> Written {
+    let [member] = said.words else {
+        return Err(StepFault::Unknown);
+    };
+    let member_id = member.as_bytes();
     let response = JoinGroupResponse {
         throttle_time_ms: 0,
         error_code: 0,
         generation_id: 1,
         protocol_name: b"range",
-        leader: b"rdkafka-777648994",
-        member_id: b"rdkafka-777648994",
+        leader: member_id,
+        member_id,
         members: &[JoinGroupMember {
-            member_id: b"rdkafka-777648994",
-            metadata,
+            member_id,
+            metadata: said.bytes,
         }],
     };
-    frame(alloc, ApiKey::JoinGroup, number, 4, &response)
+    frame(said, ApiKey::JoinGroup, &response)
 }
 
-fn sync_group(alloc: Global, assignment: &[u8]) -> Written {
+fn sync_group(said: Said<'_>) -> Written {
     let response = SyncGroupResponse {
         throttle_time_ms: 0,
         error_code: 0,
-        assignment,
+        assignment: said.bytes,
     };
-    frame(alloc, ApiKey::SyncGroup, 1, 6, &response)
+    frame(said, ApiKey::SyncGroup, &response)
 }
 
-fn heartbeat(alloc: Global, number: i16) -> Written {
-    let response = HeartbeatResponse {
-        throttle_time_ms: 0,
-        error_code: 0,
-    };
-    frame(alloc, ApiKey::Heartbeat, number, 7, &response)
-}
-
-fn leave_group(alloc: Global) -> Written {
-    let response = LeaveGroupResponse {
-        throttle_time_ms: 0,
-        error_code: 0,
-    };
-    frame(alloc, ApiKey::LeaveGroup, 1, 11, &response)
-}
-
-/// The response of a name, with these bytes where it carries any.
-pub(crate) fn response(alloc: Global, name: &str, bytes: &[u8]) -> Written {
+/// The frame of a response of the API of this name.
+pub(crate) fn response(name: &str, said: Said<'_>) -> Written {
     match name {
-        "api-versions" => api_versions(alloc, 0),
-        "api-versions-unsupported" => api_versions(alloc, 35),
-        "metadata-0" => metadata(alloc, 0, true),
-        "metadata-1" => metadata(alloc, 1, true),
-        "metadata-4" => metadata(alloc, 4, false),
-        "metadata-5" => metadata(alloc, 5, true),
-        "find-coordinator-0" => find_coordinator(alloc, 0),
-        "find-coordinator-1" => find_coordinator(alloc, 1),
-        "init-producer-id-0" => init_producer_id(alloc, 0, 4),
-        "init-producer-id-4" => init_producer_id(alloc, 4, 3),
-        "produce-4" => produce(alloc),
-        "fetch-4" => fetch(alloc, Some(&[]), bytes),
-        "fetch-4-null" => fetch(alloc, None, bytes),
-        "fetch-4-aborted" => {
-            let aborted = AbortedTransaction {
-                producer_id: 7,
-                first_offset: 2,
-            };
-            fetch(alloc, Some(&[aborted]), bytes)
-        }
-        "list-offsets-1" => list_offsets(alloc, 1),
-        "list-offsets-2" => list_offsets(alloc, 2),
-        "add-partitions" => add_partitions(alloc),
-        "add-offsets" => add_offsets(alloc),
-        "end-txn-1" => end_txn(alloc),
-        "txn-offset-commit-0" => txn_offset_commit(alloc, 0, 9),
-        "txn-offset-commit-3" => txn_offset_commit(alloc, 3, 7),
-        "offset-commit-2" => offset_commit(alloc),
-        "offset-fetch-1" => offset_fetch(alloc, 1, 8),
-        "offset-fetch-7" => offset_fetch(alloc, 7, 7),
-        "join-group-1" => join_group(alloc, 1, bytes),
-        "join-group-2" => join_group(alloc, 2, bytes),
-        "sync-group-1" => sync_group(alloc, bytes),
-        "heartbeat-0" => heartbeat(alloc, 0),
-        "heartbeat-1" => heartbeat(alloc, 1),
-        "leave-group-1" => leave_group(alloc),
+        "ApiVersions" => api_versions(said),
+        "Metadata" => metadata(said),
+        "FindCoordinator" => find_coordinator(said),
+        "InitProducerId" => init_producer_id(said),
+        "Produce" => produce(said),
+        "Fetch" => fetch(said),
+        "ListOffsets" => list_offsets(said),
+        "OffsetFetch" => offset_fetch(said),
+        "AddPartitionsToTxn" => add_partitions(said),
+        "AddOffsetsToTxn" => add_offsets(said),
+        "EndTxn" => end_txn(said),
+        "TxnOffsetCommit" => txn_offset_commit(said),
+        "OffsetCommit" => offset_commit(said),
+        "JoinGroup" => join_group(said),
+        "SyncGroup" => sync_group(said),
+        "Heartbeat" => heartbeat(said),
+        "LeaveGroup" => leave_group(said),
         _ => Err(StepFault::Unknown),
     }
 }

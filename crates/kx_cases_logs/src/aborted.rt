@@ -1,7 +1,7 @@
 //! The aborted transactions of a partition. `index ID FIRST LAST STABLE` begins an index with one
 //! transaction, `named FROM UPPER` tells the ids and first offsets that a page names. `entry` with
 //! the same numbers tells the bytes of an entry, `read BYTES` the entry at the front and the bytes
-//! behind it, or the fault.
+//! after it, or the fault.
 use crate::words::id_of;
 use kx_aborted::{Aborted, AbortedIndex, put_entry, read_entry};
 use kx_cases::{StepFault, Subject, Texts, told_bytes, told_name, told_value, value};

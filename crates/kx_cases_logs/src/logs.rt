@@ -2,8 +2,8 @@
 //! hold, on a store whose NTH append fails and leaves KEEP bytes (0: none fails); `append BATCH`,
 //! `appends COUNT BATCH`, `arm KEEP`, `disarm`, `arm-load`, `disarm-load` and `reopen` go on with
 //! it; `end`, `failures`, `takes COUNT`, `first` and `slice FROM UPPER MAX` tell of it; `stored`
-//! tells how many bytes its store has, and opens it anew. The other steps are sweeps, each over logs
-//! of its own.
+//! tells how many bytes its store has, and opens it anew. The other steps are sweeps, each over
+//! logs of its own.
 use crate::stores::{FailingStore, failing};
 use crate::sweeps::{bits, cuts, failures, flips, grow};
 use kx_batch::BatchView;

@@ -4,7 +4,8 @@ use kx_log::{FaultStore, MemStore};
 /// A store in memory that fails where it is told to.
 pub type FailingStore = FaultStore<MemStore>;
 
-/// One that holds these bytes, and whose `nth` append fails and leaves `keep` bytes; none for 0.
+/// A store that holds these bytes, and whose `nth` append fails and leaves `keep` bytes; none for
+/// 0.
 pub fn failing(bytes: Vec<u8>, nth: u64, keep: u64) -> FailingStore {
     FaultStore::new(MemStore::new(bytes), nth, keep)
 }

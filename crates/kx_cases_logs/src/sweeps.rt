@@ -84,7 +84,7 @@ fn fails_third<S: Store>(log: &mut PartitionLog<S>, texts: [&[u8]; 3]) -> Result
     Ok(log.failures() == 1)
 }
 
-// The end after reopening, where the third append fails and leaves so many bytes.
+// The end after reopening, where the third append fails and leaves this many bytes.
 fn after_failure(alloc: Global, texts: [&[u8]; 3], keep: u64) -> Result<String, StepFault> {
     let Ok(mut log) = opened(alloc, failing(Vec::new(alloc), 3, keep)) else {
         return Err(StepFault::Unknown);
@@ -119,7 +119,7 @@ pub fn failures(
     Ok(runs.finish()?)
 }
 
-// Whether a batch was appended, or refused for want of memory and the log is as before.
+// Whether a batch was appended, or refused since memory ran out and the log is as before.
 fn grows<S: Store>(log: &mut PartitionLog<S>, text: &[u8]) -> Result<bool, StepFault> {
     let before = log.end();
     let appended = append(log, text)?;
@@ -137,7 +137,7 @@ fn grows<S: Store>(log: &mut PartitionLog<S>, text: &[u8]) -> Result<bool, StepF
     Ok(log.slice(0, i64::MAX, u32::MAX).is_empty() == (after == 0))
 }
 
-// Whether the log is read again, or that is refused for want of memory and it is as before.
+// Whether the log is read again, or that is refused since memory ran out and it is as before.
 fn rereads<S: Store>(log: &mut PartitionLog<S>) -> bool {
     let end = log.end();
     let again = reopened(log);

@@ -1,5 +1,5 @@
 //! Steps of the coordinator on a store that is made to fail. A step is answered with the messages
-//! that are handed out, each as `RECEIVER TEXT`.
+//! that are sent, each as `RECEIVER TEXT`.
 use crate::parts::{nothing, or_dash, told_messages};
 use crate::words::{caller, code, held, partition, raised};
 use kx_cases::{StepFault, Subject, Texts, known, told_name, told_value, value};
@@ -63,7 +63,7 @@ fn told_rows(alloc: Global, rows: &[Row]) -> Result<String, StepFault> {
     Ok(told)
 }
 
-// What was handed out.
+// What was sent.
 fn handed(alloc: Global, sent: Result<Vec<Message>, AllocError>) -> Result<String, StepFault> {
     told_messages(alloc, sent?.as_slice())
 }
@@ -182,7 +182,7 @@ fn bytes_of(alloc: Global, store: &mut FaultStore<MemStore>) -> Result<String, S
 }
 
 impl CoordinatorNode {
-    // Opens what a store holds, at moment 0. A store that is refused is left.
+    // Opens what a store holds, at time 0. A store that is refused is left.
     fn open(&mut self, store: FaultStore<MemStore>) -> Result<String, StepFault> {
         match Coordinator::open(self.alloc, store, 0) {
             Ok((running, messages)) => {
@@ -196,8 +196,8 @@ impl CoordinatorNode {
         }
     }
 
-    // Opens a store with these bytes, whose append of a number fails, if it isn't 0, and leaves so
-    // many bytes.
+    // Opens a store with these bytes, whose append of a number fails, if it isn't 0, and leaves
+    // this many bytes.
     fn open_bytes(&mut self, bytes: Vec<u8>, nth: u64, keep: u64) -> Result<String, StepFault> {
         self.open(FaultStore::new(MemStore::new(bytes), nth, keep))
     }

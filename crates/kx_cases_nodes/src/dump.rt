@@ -42,7 +42,7 @@ impl Dumps {
     }
 }
 
-// How a dump ends whose writer has room for so many bytes, where the front of what it writes is
+// How a dump ends whose writer has room for this many bytes, where the front of what it writes is
 // written.
 fn with_room(alloc: Global, room: usize, bytes: &[u8], whole: &[u8]) -> Result<String, StepFault> {
     let mut writer = Taking {
@@ -53,7 +53,7 @@ fn with_room(alloc: Global, room: usize, bytes: &[u8], whole: &[u8]) -> Result<S
     ended_in_front(alloc, ended, writer.taken.as_slice(), whole)
 }
 
-// The same of no room, of room for one byte, and so on up to so many.
+// How a dump ends whose writer has room for no byte, for one, and so on up to this many.
 fn full(
     alloc: Global,
     runs: &mut Runs,

@@ -2,17 +2,21 @@
 //! head of `events.cases`.
 use crate::lines::tell_on_one_line;
 use crate::parts::{nothing, or_dash, tell_message};
+use crate::shown::shown;
 use crate::words::{client, partition};
-use kx_cases::{StepFault, Subject, Texts, known, value};
+use kx_cases::{StepFault, Subject, Texts, known, told_value, value};
 use kx_client::{ValueList, Values};
 use kx_core::{Config, Event, LocalWorld, PartitionCount, RunFault};
 use kx_machine::{Command, Input, StoreMode};
 use kx_message::{
-    Bytes, ErrorCode, GroupId, Node, Offsets, Outcome, PartitionId, PartitionOffset, Timeout, TxnId,
+    Bytes, ErrorCode, GroupId, NodeId, Offsets, Outcome, PartitionId, PartitionOffset, Timeout,
+    TxnId,
 };
+use kx_outside::OutsideRequest;
 use kx_processor::Prefixed;
 use kx_script::write_rows;
 use kx_txnlog::Row;
+use kx_wire::Frames;
 use std::alloc::{AllocError, Global};
 use std::mem;
 
@@ -27,17 +31,17 @@ pub(crate) struct WorldEvents {
 }
 
 // A node, as scripts name it.
-fn node(word: &str) -> Result<Node, StepFault> {
+fn node(word: &str) -> Result<NodeId, StepFault> {
     match word {
-        "co" => return Ok(Node::Coordinator),
-        "po" => return Ok(Node::Partition(PartitionId::OFFSETS)),
+        "co" => return Ok(NodeId::Coordinator),
+        "po" => return Ok(NodeId::Partition(PartitionId::OFFSETS)),
         _ => {}
     }
     if let Some(number) = word.strip_prefix('p') {
-        return partition(number).map(Node::Partition);
+        return partition(number).map(NodeId::Partition);
     }
     match word.strip_prefix('c') {
-        Some(number) => client(number).map(Node::Client),
+        Some(number) => client(number).map(NodeId::Client),
         None => Err(StepFault::Unknown),
     }
 }
@@ -53,7 +57,7 @@ fn push_values(alloc: Global, values: &mut Vec<Bytes>, words: &[&str]) -> Result
     Ok(())
 }
 
-// The words behind the first one as the other values of a batch.
+// The words after the first one as the other values of a batch.
 fn values_behind(alloc: Global, first: Bytes, words: &[&str]) -> Result<Values, AllocError> {
     let mut more = Vec::new(alloc);
     push_values(alloc, &mut more, words)?;
@@ -132,7 +136,20 @@ fn hand(alloc: Global, to: &str, given: &[&str]) -> Result<Event<Prefixed>, Step
     })
 }
 
-// Tells the messages that were handed out, from a number on, each as RECEIVER TEXT.
+// A request arrives from outside, in this frame; none where no client may send the message.
+fn arrive(alloc: Global, frame: &[u8]) -> Result<Option<Event<Prefixed>>, StepFault> {
+    let mut frames = Frames::new(alloc);
+    let mut messages = frames.feed(frame).map_err(|_| StepFault::Unknown)?;
+    let Some(message) = messages.pop() else {
+        return Err(StepFault::Unknown);
+    };
+    let Some(request) = OutsideRequest::new(message) else {
+        return Ok(None);
+    };
+    Ok(Some(Event::Arrive { request }))
+}
+
+// Tells the messages that were sent, from a number on, each as RECEIVER TEXT.
 fn tell_sent(told: &mut String, world: &Local, first: usize) -> Result<(), AllocError> {
     let mut parted = "";
     for number in first..world.sent().len() {
@@ -193,6 +210,7 @@ fn tell_flag(told: &mut String, flag: bool) -> Result<(), AllocError> {
 fn read_size(told: &mut String, world: &Local, words: &[&str]) -> Result<(), StepFault> {
     let done = match words {
         ["clock"] => tell_number(told, world.clock()),
+        ["has_arrivals"] => tell_flag(told, world.has_arrivals()),
         ["partitions"] => tell_number(told, world.partitions() as u64),
         ["has_partition", number] => {
             tell_flag(told, world.partition(partition(number)?).is_some())
@@ -214,6 +232,22 @@ fn read(alloc: Global, told: &mut String, world: &Local, words: &[&str]) -> Resu
         _ => return read_size(told, world, words),
     };
     done.map_err(StepFault::Memory)
+}
+
+// What is shown of a data partition: `page` the numbers of a page of all records from an offset on,
+// `records` what a reader of committed records gets from there on.
+fn show(
+    alloc: Global,
+    world: &Local,
+    what: &str,
+    number: &str,
+    from: &str,
+) -> Result<String, StepFault> {
+    let (number, from) = (partition(number)?, value(from)?);
+    match world.fetch(number, from, u32::MAX, what == "records") {
+        Ok(page) => shown(alloc, what, page),
+        Err(_) => Err(StepFault::Unknown),
+    }
 }
 
 // Tells how events ended that happened all at once.
@@ -239,7 +273,7 @@ fn tell_each(
     or_dash(told)
 }
 
-// A world of so many partitions.
+// A world of this many partitions.
 fn world_of(alloc: Global, count: &str) -> Result<Local, StepFault> {
     let Some(partitions) = PartitionCount::new(value(count)?) else {
         return Err(StepFault::Unknown);
@@ -261,6 +295,23 @@ impl WorldEvents {
     ) -> Result<String, StepFault> {
         self.events.push(event?)?;
         nothing(self.alloc)
+    }
+
+    // Adds the event that the request in this frame arrives from outside, or tells `no request`
+    // where the frame brings none that can.
+    fn await_request(&mut self, texts: &Texts, frame: &str) -> Result<String, StepFault> {
+        let frame = texts.bytes(frame)?;
+        let Some(event) = arrive(self.alloc, frame.as_slice())? else {
+            return told_value(self.alloc, "no request");
+        };
+        self.await_event(Ok(event))
+    }
+
+    fn show(&self, what: &str, number: &str, from: &str) -> Result<String, StepFault> {
+        match &self.world {
+            Some(world) => show(self.alloc, world, what, number, from),
+            None => Err(StepFault::Unknown),
+        }
     }
 
     // Tells a step of a world that is made.
@@ -293,12 +344,14 @@ impl Subject for WorldEvents {
         }
     }
 
-    fn answer(&mut self, _texts: &Texts, words: &[&str]) -> Result<String, StepFault> {
+    fn answer(&mut self, texts: &Texts, words: &[&str]) -> Result<String, StepFault> {
         match words {
             ["world", count] => self.start(count),
             ["make", number, txn] => self.await_event(make(number, txn)),
             ["deliver", number, to] => self.await_event(deliver(number, to)),
             ["hand", to, given @ ..] => self.await_event(hand(self.alloc, to, given)),
+            ["arrive", frame] => self.await_request(texts, frame),
+            ["page" | "records", number, from] => self.show(words[0], number, from),
             _ => self.within(words),
         }
     }

@@ -17,7 +17,7 @@ use std::io;
 ///
 /// # Errors
 ///
-/// Where what came can't be printed, or for want of memory.
+/// Where what came can't be printed, or where memory runs out.
 pub fn try_nodes(
     rt: &(impl Print + AllocGlobal),
     front: &str,

@@ -19,7 +19,7 @@ pub(crate) struct ImageCases {
     processor: Option<Prefixing>,
 }
 
-// The requests that are handed out, or why they aren't.
+// The requests that are sent, or why they aren't.
 fn told_sent(alloc: Global, sent: Result<Vec<Message>, ClientFault>) -> Result<String, StepFault> {
     match sent {
         Ok(sent) => told_messages(alloc, sent.as_slice()),
@@ -27,14 +27,14 @@ fn told_sent(alloc: Global, sent: Result<Vec<Message>, ClientFault>) -> Result<S
     }
 }
 
-// The request that is handed out.
+// The request that is sent.
 fn told_last(alloc: Global, message: Message) -> Result<String, StepFault> {
     let told = format!(in alloc; "{} {message}", message.receiver());
     drop(message);
     told.map_err(StepFault::Memory)
 }
 
-// The request that is handed out, or why it isn't.
+// The request that is sent, or why it isn't.
 fn told_one(alloc: Global, sent: Result<Message, ClientFault>) -> Result<String, StepFault> {
     match sent {
         Ok(message) => told_last(alloc, message),

@@ -54,7 +54,7 @@ fn fetched(alloc: Global, kept: &Kept, words: &[&str]) -> Result<String, StepFau
     }
 }
 
-// Whether the batches of a page are these bytes, one behind the other.
+// Whether the batches of a page are these bytes, one after the other.
 fn are(page: &FetchPage<'_>, bytes: &[u8]) -> bool {
     let mut rest = bytes;
     for batch in page.batches() {
@@ -148,8 +148,8 @@ impl PartitionNode {
         }
     }
 
-    // Opens a store with these bytes, whose append of a number fails, if it isn't 0, and leaves so
-    // many bytes.
+    // Opens a store with these bytes, whose append of a number fails, if it isn't 0, and leaves
+    // this many bytes.
     fn open_bytes(&mut self, bytes: Vec<u8>, nth: u64, keep: u64) -> Result<String, StepFault> {
         self.open(FaultStore::new(MemStore::new(bytes), nth, keep))
     }

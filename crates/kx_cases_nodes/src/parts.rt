@@ -30,7 +30,7 @@ pub fn ended_in_front<E: Debug + Drop>(
     told_value(alloc, "another text")
 }
 
-/// Tells a message as `RECEIVER TEXT`, behind what parts it from the one before.
+/// Tells a message as `RECEIVER TEXT`, after what parts it from the one before.
 pub fn tell_message(told: &mut String, parted: &str, message: &Message) -> Result<(), AllocError> {
     write!(told, "{parted}{} {message}", message.receiver())
 }
@@ -45,7 +45,7 @@ fn tell_messages(told: &mut String, messages: &[Message]) -> Result<(), AllocErr
     or_dash(told)
 }
 
-/// The messages that were handed out, each as `RECEIVER TEXT`, or `-` for none.
+/// The messages that were sent, each as `RECEIVER TEXT`, or `-` for none.
 pub fn told_messages(alloc: Global, messages: &[Message]) -> Result<String, StepFault> {
     let mut told = String::new(alloc);
     tell_messages(&mut told, messages)?;

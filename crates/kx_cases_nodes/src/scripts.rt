@@ -1,5 +1,5 @@
 //! Steps that run scripts: as they stand, over streams that fail, with appends that fail, with each
-//! byte in a place, one of a long line, and behind many lines.
+//! byte in a place, one of a long line, and after many lines.
 use crate::lines::{script_of, tell_on_one_line};
 use crate::parts::ended_in_front;
 use crate::sweeps::sweep;
@@ -8,7 +8,7 @@ use kx_script::{ScriptWorld, run_script};
 use std::alloc::{AllocError, Global};
 use std::io::BufRead;
 
-/// Nothing is kept between two scripts.
+/// Each script begins anew.
 #[derive(Drop)]
 pub(crate) struct Scripts {
     alloc: Global,
@@ -40,8 +40,8 @@ fn whole(alloc: Global, script: &str) -> Vec<u8> {
     written
 }
 
-// How the script ends where its writer has room for so many bytes, and the front of what it writes
-// is written.
+// How the script ends where its writer has room for this many bytes, and the front of what it
+// writes is written.
 fn with_room(alloc: Global, room: usize, script: &str, whole: &[u8]) -> Result<String, StepFault> {
     let mut reader = script.as_bytes();
     let mut writer = Taking {
@@ -52,7 +52,7 @@ fn with_room(alloc: Global, room: usize, script: &str, whole: &[u8]) -> Result<S
     ended_in_front(alloc, ended, writer.taken.as_slice(), whole)
 }
 
-// The same of no room, of room for one byte, and so on up to so many.
+// How the script ends where its writer has room for no byte, for one, and so on up to this many.
 fn full(alloc: Global, runs: &mut Runs, most: usize, script: &str) -> Result<(), StepFault> {
     let whole = whole(alloc, script);
     for room in 0..=most {
@@ -62,8 +62,8 @@ fn full(alloc: Global, runs: &mut Runs, most: usize, script: &str) -> Result<(),
     Ok(())
 }
 
-// How the script ends, and how many bytes it writes, where its reader gives so many bytes at once
-// and fails behind so many reads.
+// How the script ends, and how many bytes it writes, where its reader gives this many bytes at once
+// and fails after this many reads.
 fn read_in(alloc: Global, once: usize, reads: usize, script: &str) -> Result<String, StepFault> {
     let mut reader = Giving::new(script.as_bytes(), once, reads);
     let mut written = Vec::new(alloc);
@@ -112,7 +112,7 @@ fn each_byte(alloc: Global, runs: &mut Runs, script: &str) -> Result<(), StepFau
     Ok(())
 }
 
-// A script that puts so many words at once, and then one.
+// A script that puts this many words at once, and then one.
 fn push_long_put(script: &mut String, words: usize) -> Result<(), AllocError> {
     script.push_str("world 1\nput 0")?;
     for _ in 0..words {
@@ -137,7 +137,7 @@ fn far_down(alloc: Global, lines: usize, script: &str) -> Result<String, StepFau
     run(alloc, &mut text.as_bytes())
 }
 
-// The number at the front of a text, and what stands behind it.
+// The number at the front of a text, and what stands after it.
 fn numbered(text: &str) -> Result<(usize, &str), StepFault> {
     let Some((number, rest)) = text.split_once(' ') else {
         return Err(StepFault::Unknown);
@@ -172,7 +172,7 @@ fn told_many(alloc: Global, name: &str, text: &str) -> Result<String, StepFault>
     runs.finish().map_err(StepFault::Memory)
 }
 
-// Takes a step of this name, with the text behind it.
+// Takes a step of this name, with the text after it.
 fn taken(alloc: Global, name: &str, text: &str) -> Result<String, StepFault> {
     match name {
         "run" => run(alloc, &mut text.as_bytes()),

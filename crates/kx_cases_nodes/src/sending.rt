@@ -42,7 +42,7 @@ fn fronts(alloc: Global, kept: &mut Kept, runs: &mut Runs, bytes: &[u8]) -> Resu
     Ok(())
 }
 
-// The answers to the same batch, so many times.
+// The answers to the same batch, this many times.
 fn repeat(
     alloc: Global,
     kept: &mut Kept,

@@ -42,7 +42,7 @@ fn tell_bases(told: &mut String, page: &FetchPage<'_>) -> Result<(), AllocError>
     or_dash(told)
 }
 
-// Tells a record as `OFFSET VALUE`, behind what parts it from the one before.
+// Tells a record as `OFFSET VALUE`, after what parts it from the one before.
 fn tell_record(
     told: &mut String,
     parted: &str,

@@ -3,7 +3,7 @@ use crate::lines::tell_on_one_line;
 use kx_cases::{Runs, StepFault, known, value};
 use kx_core::{Event, PartitionCount};
 use kx_machine::StoreMode;
-use kx_message::Node;
+use kx_message::NodeId;
 use kx_script::{
     Marks, Order, Running, Runs as World, fetch, happen, order_in, rows, write_dash, write_message,
 };
@@ -62,7 +62,7 @@ fn carry_out<N: World>(
 fn write_from<N: World>(
     world: &N,
     first: usize,
-    from: &Node,
+    from: &NodeId,
     writer: &mut Vec<u8>,
 ) -> Result<(), StepFault> {
     let sent = world.sent();
@@ -77,8 +77,9 @@ fn write_from<N: World>(
     Ok(())
 }
 
-// A message comes to its node, where an append that fails leaves so many bytes. Whether one failed.
-fn fails<N: World>(world: &mut N, number: usize, to: Node, keep: u64) -> Result<bool, StepFault> {
+// A message comes to its node, where an append that fails leaves this many bytes. Whether one
+// failed.
+fn fails<N: World>(world: &mut N, number: usize, to: NodeId, keep: u64) -> Result<bool, StepFault> {
     let store = StoreMode::Fails { keep };
     let event = Event::Deliver { number, to, store };
     let happened = world.happen(&event);
@@ -86,8 +87,8 @@ fn fails<N: World>(world: &mut N, number: usize, to: Node, keep: u64) -> Result<
     Ok(happened?.failed)
 }
 
-// A message comes to its node, which has to append something: that fails, and leaves so many bytes.
-// Writes what is handed out.
+// A message comes to its node, which has to append something: that fails, and leaves this many
+// bytes. Writes what is sent.
 fn tear<N: World>(
     world: &mut N,
     number: usize,
@@ -105,7 +106,7 @@ fn tear<N: World>(
     write_from(world, first, &to, writer)
 }
 
-// Carries lines out, the line `tear K` so that it leaves so many bytes; what was written before
+// Carries lines out, the line `tear K` so that it leaves this many bytes; what was written before
 // that one is dropped.
 fn tear_in<'a, N: World>(
     alloc: Global,
@@ -126,7 +127,7 @@ fn tear_in<'a, N: World>(
     Ok(())
 }
 
-// Writes what a script writes from its line `tear K` on, where that leaves so many bytes.
+// Writes what a script writes from its line `tear K` on, where that leaves this many bytes.
 fn torn<N: World>(
     alloc: Global,
     script: &str,
@@ -157,7 +158,7 @@ fn told_torn<N: World>(alloc: Global, script: &str, keep: u64) -> Result<String,
 }
 
 /// What a script writes from its line `tear K` on, which lets message K come to its node, while the
-/// append there fails and leaves none of its bytes, one, and so on up to so many.
+/// append there fails and leaves none of its bytes, one, and so on up to this many.
 pub fn sweep<N: World>(
     alloc: Global,
     runs: &mut Runs,

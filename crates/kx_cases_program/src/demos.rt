@@ -63,6 +63,7 @@ fn tell_trace(
 fn played<
     R: Net<Listener = TcpListener, Stream = TcpStream>
         + AllocGlobal
+        + Eprint
         + Threads
         + Wait
         + Clock
@@ -95,6 +96,7 @@ pub fn try_demo<
         + Files<File = File>
         + Print
         + AllocGlobal
+        + Eprint
         + Threads
         + Wait
         + Clock

@@ -48,7 +48,7 @@ fn arrived_in<'a>(action: &'a str) -> Option<Arrived<'a>> {
     }
 }
 
-// The message that a part tells behind `NODE>`, if it tells one.
+// The message that a part tells after `NODE>`, if it tells one.
 fn sent_in<'a>(node: &str, part: &'a str) -> Option<Sent<'a>> {
     let (to, text) = part.strip_prefix(node)?.strip_prefix('>')?.split_once(' ')?;
     Some(Sent {

@@ -6,7 +6,7 @@ use std::alloc::Global;
 // After how many looks without a frame a client sends again.
 const LOOKS: usize = 100;
 
-/// The events of a trace, and the lines of the logs behind them.
+/// The events of a trace, and the lines of the logs after them.
 #[derive(Drop)]
 pub(crate) struct Happened<'a> {
     events: Vec<Event<'a>>,

@@ -2,18 +2,18 @@
 //!
 //! - `bytes NAME = BYTES` gives bytes a name, as in files of cases;
 //! - `file PATH BYTES` puts bytes into a file; `clear FOLDER` removes a folder and what is in it;
-//! - `there PATH` tells whether there is a file of this path, and `trace PATH` of how many partitions
-//!   the logs are shown in the trace of a demonstration that it holds;
+//! - `there PATH` tells whether there is a file of this path, and `trace PATH` of how many
+//!   partitions the logs are shown in the trace of a demonstration that it holds;
 //! - `input FILE` is what standard input has from here on, and `input FILE N` the same, where a
-//!   read fails behind N reads; without such a line it has nothing;
+//!   read fails after N reads; without such a line it has nothing;
 //! - `room N` is how many bytes standard output has room for from here on, `errors N` the same of
 //!   standard error; without such a line there is room for all;
 //! - `clients N` has N clients connect to each server from here on, once it tells its port; they
 //!   close their connections at once;
 //! - `run WORDS` runs the program with these words, and tells what it wrote on standard output, its
 //!   status, and what it wrote on standard error: of wrong arguments only that there are words, of
-//!   anything else each line behind `! `. The word `""` is an empty one;
-//!   in their place `TAKEN` is a port on which another listens;
+//!   anything else each line after `! `. The word `""` is an empty one; in their place `TAKEN` is a
+//!   port on which another listens;
 //! - `help WORDS` is the same, but of standard output it tells only that there are words, and
 //!   `count WORDS` the same, but of standard error it tells only how many lines there are;
 //! - `no_words KIND` runs it where its words can't be had: `text` where one isn't text, `memory`
@@ -114,7 +114,8 @@ impl<
         + Drop
         + 'static,
 > ProgramRuns<R> {
-    /// No run yet: standard input has nothing, and the other streams have room for all.
+    /// A run that has not begun: standard input has nothing, and the other streams have room for
+    /// all.
     pub(crate) fn new(rt: R) -> Self {
         let alloc = rt.alloc();
         ProgramRuns {
@@ -159,7 +160,7 @@ impl<
         }
     }
 
-    // The words of a run, behind the program's name.
+    // The words of a run, after the program's name.
     fn words_of(&self, given: &[&str], taken: u16) -> Result<Vec<String>, AllocError> {
         let mut words = Vec::new(self.alloc);
         words.push(String::from_str(self.alloc, "kx_main")?)?;

@@ -14,7 +14,7 @@ pub(crate) struct Crowd<R: Threads + Wait> {
 }
 
 impl<R: Threads + Wait + Copy> Crowd<R> {
-    /// None yet.
+    /// A crowd without readers.
     pub(crate) fn new(rt: R, alloc: Global) -> Result<Crowd<R>, AllocError> {
         Ok(Crowd {
             rt,

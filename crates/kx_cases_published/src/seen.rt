@@ -87,7 +87,7 @@ impl<J: Naming> Source for PageReader<J> {
 }
 
 impl Seen {
-    /// Nothing yet.
+    /// A table in which nothing was seen.
     pub(crate) fn none() -> Seen {
         Seen {
             pages: 0,

@@ -1,8 +1,8 @@
 //! A script over one node whose log is published, and what it has to tell. A line that begins with
 //! `#` says nothing. The first other line is `node N`, which makes the node, of partition 0, with
-//! places for N readers, and `session` has the lines behind it; or `locked R N`, which stands
-//! alone: R threads take pages of 64 KiB under a node's lock while N batches are put under it, and
-//! it tells how many.
+//! places for N readers, and `session` has the lines after it; or `locked R N`, which stands alone:
+//! R threads take pages of 64 KiB under a node's lock while N batches are put under it, and it
+//! tells how many.
 ghost use Rattle.std.specs.Prelude.{◌≡◌, ◌≤◌, IfOk};
 ghost use Rattle.kx_broker.specs.Serving.{StandsFor};
 ghost use Rattle.kx_machine.specs.Meaning.{AtPartition};
@@ -45,6 +45,7 @@ fn told_by<J: Naming + Send + 'static, R: Threads + Wait + Copy + Send + 'static
     alloc: Global,
     opened: Opened,
     readers: u32,
+    // A book's name can't be picked at a call whose callee has a &str.
     script: String,
 ) -> Result<String, StepFault>
     requires { opened.seen.book ≡ J.book opened.partition }

@@ -14,6 +14,7 @@ ghost use Rattle.std.specs.Prelude.{◌≤◌, IfOk};
 
 use kx_cases::{Tally, tell};
 use kx_cases_clients::try_clients;
+use kx_cases_example::try_example;
 use kx_cases_formats::try_formats;
 use kx_cases_groups::try_groups;
 use kx_cases_logs::try_logs;
@@ -49,6 +50,9 @@ fn try_front(rt: &(impl Print + AllocGlobal), front: &str, text: &str) -> io::Re
         return Ok(tally);
     }
     if let Some(tally) = try_nodes(rt, front, text)? {
+        return Ok(tally);
+    }
+    if let Some(tally) = try_example(rt, front, text)? {
         return Ok(tally);
     }
     match try_streams(rt, front, text)? {

@@ -71,7 +71,7 @@ impl Client {
         }
     }
 
-    /// Nothing more is sent.
+    /// Sends nothing more.
     pub(crate) fn finish(&self) {
         let _is_finished = self.stream.shutdown(Shutdown::Write);
     }
@@ -100,8 +100,8 @@ impl Client {
         Ok(self.send(request) && self.receive(alloc)?.is_some())
     }
 
-    /// Reads frames until the other end closes the connection, and gives how many of them are pages.
-    /// Answers None where the connection doesn't close in time.
+    /// Reads frames until the other end closes the connection, and gives how many of them are
+    /// pages. Answers None where the connection doesn't close in time.
     pub(crate) fn pages(&self, alloc: Global) -> Result<Option<usize>, StepFault> {
         let mut pages = 0usize;
         for _ in 0..MOST_FRAMES {

@@ -22,7 +22,7 @@ pub(crate) struct Clients {
 }
 
 impl Clients {
-    /// No connection.
+    /// A list of no connection.
     pub(crate) fn new(alloc: Global) -> Clients {
         Clients {
             alloc,

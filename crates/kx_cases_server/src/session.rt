@@ -21,8 +21,8 @@
 //!   of a file, and `shorten FILE N` takes N off its end; `move FILE FILE` gives a file another
 //!   name, and `there FILE` tells whether it is there;
 //! - `wait N` waits for N milliseconds;
-//! - `patience N` has something tried that works after N tries, and tells how often it was tried and
-//!   how often it was told that it waits.
+//! - `patience N` has something tried that works after N tries, and tells how often it was tried
+//!   and how often it was told that it waits.
 use crate::clients::Clients;
 use crate::folder::{append, clear, rename, shorten, tell_there};
 use crate::running::{Running, Wanted, tell_end};
@@ -50,6 +50,7 @@ pub(crate) struct Session<R: Drop> {
 }
 
 impl<
+    // What is sent to a thread may rest on no type of which nothing is said.
     R: Net<Listener = TcpListener, Stream = TcpStream>
         + Files<File = File>
         + AllocGlobal

@@ -2,7 +2,7 @@
 use std::io;
 use std::io::{ErrorKind, Read, Write};
 
-/// Gives at most so many bytes at once, and fails behind so many reads.
+/// Gives at most this many bytes at once, and fails after this many reads.
 #[derive(Drop)]
 pub(crate) struct Giving<'a> {
     pub(crate) rest: &'a [u8],
@@ -21,7 +21,7 @@ impl<'a> Read for Giving<'a> {
     }
 }
 
-/// Takes at most so many bytes at once, and fails behind so many writes.
+/// Takes at most this many bytes at once, and fails after this many writes.
 #[derive(Drop)]
 pub(crate) struct Taking {
     pub(crate) taken: Vec<u8>,

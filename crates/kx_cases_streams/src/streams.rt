@@ -1,9 +1,10 @@
 //! Streams that the server of partition 0 serves. `serve BYTES` goes to the case's own server, and
 //! tells how the stream ended and what was written. The other steps make a server for each stream:
 //! `pieces BYTES` gives the stream in pieces of 1 byte, of 2, and so on, and compares with the
-//! stream in one piece; `slow N BYTES` gives N bytes at once, and tells as `serve` does; `reads N MOST BYTES` gives N bytes at once and fails at the first read, at
-//! the second, up to that behind MOST; `writes N MOST BYTES` takes N bytes at once and fails so;
-//! both tell how many bytes were written.
+//! stream in one piece; `slow N BYTES` gives N bytes at once, and tells as `serve` does; `reads N
+//! MOST BYTES` gives N bytes at once and fails at the first read, at the second, up to that after
+//! MOST; `writes N MOST BYTES` takes N bytes at once and fails so; both tell how many bytes were
+//! written.
 use crate::ends::{Giving, Taking};
 use kx_broker::PartitionMachine;
 use kx_cases::{Runs, StepFault, Subject, Texts, told_bytes, value};
@@ -127,7 +128,7 @@ fn ends_at(fails: &str, once: usize, calls: usize) -> Option<Ends> {
     }
 }
 
-// Each read or write failing in its turn, up to the one behind so many.
+// Each read or write failing in its turn, up to the one after this many.
 fn failing(
     alloc: Global,
     fails: &str,

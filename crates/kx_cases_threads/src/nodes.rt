@@ -3,7 +3,7 @@ use kx_cases::StepFault;
 use kx_cluster::{AnyMaking, LocalNode, local_node};
 use kx_core::PartitionCount;
 use kx_machine::{Input, Machine, Making};
-use kx_message::{Node as NodeName, PartitionId, Timeout};
+use kx_message::{NodeId, PartitionId, Timeout};
 use kx_nodes::{Made, Node, ProcessorMaking, Trace, Traced};
 use kx_processor::Prefixed;
 use kx_script::{Happening, Order, command_of, values_of};
@@ -39,7 +39,7 @@ fn add_plain(
     add(alloc, nodes, AnyMaking::Plain(making))
 }
 
-// The coordinator, so many data partitions, and the offsets partition.
+// The coordinator, this many data partitions, and the offsets partition.
 fn add_world(
     alloc: Global,
     nodes: &mut Vec<Arc<Served>>,
@@ -57,12 +57,12 @@ fn add_world(
 pub(crate) fn add_twin(
     alloc: Global,
     nodes: &mut Vec<Arc<Served>>,
-    name: NodeName,
+    name: NodeId,
 ) -> Result<(), StepFault> {
     match name {
-        NodeName::Coordinator => Ok(add_plain(alloc, nodes, Making::Coordinator)?),
-        NodeName::Partition(number) => Ok(add_plain(alloc, nodes, Making::Partition(number))?),
-        NodeName::Client(_) => Err(StepFault::Unknown),
+        NodeId::Coordinator => Ok(add_plain(alloc, nodes, Making::Coordinator)?),
+        NodeId::Partition(number) => Ok(add_plain(alloc, nodes, Making::Partition(number))?),
+        NodeId::Client(_) => Err(StepFault::Unknown),
     }
 }
 
@@ -113,20 +113,20 @@ pub(crate) fn add_nodes(
 }
 
 /// Which node a line hands what.
-pub(crate) fn input_of(alloc: Global, what: Happening<'_>) -> Result<(NodeName, Input), StepFault> {
+pub(crate) fn input_of(alloc: Global, what: Happening<'_>) -> Result<(NodeId, Input), StepFault> {
     match what {
         Happening::Tell(number, task) => {
             let command = command_of(alloc, task)?;
-            Ok((NodeName::Client(number), Input::Command(command)))
+            Ok((NodeId::Client(number), Input::Command(command)))
         }
         Happening::Put(partition, batch) => {
             let values = values_of(alloc, batch)?;
-            Ok((NodeName::Partition(partition), Input::Put(values)))
+            Ok((NodeId::Partition(partition), Input::Put(values)))
         }
-        Happening::Expire(now) => Ok((NodeName::Coordinator, Input::Expire(now))),
-        Happening::Remind => Ok((NodeName::Coordinator, Input::Remind)),
+        Happening::Expire(now) => Ok((NodeId::Coordinator, Input::Expire(now))),
+        Happening::Remind => Ok((NodeId::Coordinator, Input::Remind)),
         Happening::Drop(group, member) => Ok((
-            NodeName::Partition(PartitionId::OFFSETS),
+            NodeId::Partition(PartitionId::OFFSETS),
             Input::Drop(group, member),
         )),
         _ => Err(StepFault::Unknown),

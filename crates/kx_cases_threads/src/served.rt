@@ -3,21 +3,22 @@
 //!
 //! - lines that make nodes: `world P`, `client N TXN`, `processor N TXN G K` as in scripts, and
 //!   `twin NODE`, which makes a second node of a name;
-//! - `workers N`, or `workers N hold T until U`: so many threads serve them, behind a gate that may
-//!   hold the step of ticket T until that of ticket U is answered;
+//! - `workers N`, or `workers N hold T until U`: this many threads serve them, behind a gate that
+//!   may hold the step of ticket T until that of ticket U is answered;
 //! - lines of scripts in which something is handed to a node, each handed at once; `bring BYTES`,
 //!   which hands the messages of frames to their receivers; `settle`, which waits until no step is
 //!   under way and none is to come; then the line `end`;
 //! - `receipts`, which tells how many there are; `leave NODE PLACE` and `double NODE PLACE`, by
 //!   which one is left out, or stands twice; `exchange NODE`, by which those of the run before
-//!   stand in place of the node's; `audit`, which tells what an audit finds; `turns`, which tells
-//!   the steps in the order into which it put them, each as
-//!   `NODE PLACE INPUT > RECEIVER MESSAGE ..`, a message by its text, any other input by the first
-//!   word of its line, and behind them what was answered beside messages; and `committed P`, which
-//!   tells how many committed records a data partition then has.
+//!   stand in place of the node's; `audit`, which tells what an audit finds, and `audit_servers`,
+//!   what one finds of servers alone, whose clients are outside; `turns`, which tells the steps in
+//!   the order into which it put them, each as `NODE PLACE INPUT > RECEIVER MESSAGE ..`, a message
+//!   by its text, any other input by the first word of its line, and after them what was answered
+//!   beside messages; and `committed P`, which tells how many committed records a data partition
+//!   then has.
 ghost use Rattle.std.specs.Prelude.{◌≡◌, ◌≤◌, IfOk};
 
-use crate::audits::{Found, committed, double, exchange, judge, leave_out, node_named};
+use crate::audits::{Audited, Found, committed, double, exchange, judge, leave_out, node_named};
 use crate::nodes::{Served, add_nodes, add_twin, traces_of};
 use crate::serving::{Shift, serve};
 use crate::turns::tell_turns;
@@ -85,10 +86,10 @@ impl Session {
     }
 
     // Audits what was done.
-    fn audit(&mut self) -> Result<(), StepFault> {
+    fn audit(&mut self, audited: Audited) -> Result<(), StepFault> {
         let nodes = mem::replace(&mut self.nodes, Vec::new(self.alloc));
         let traces = traces_of(self.alloc, nodes)?;
-        let (told, found) = judge(self.alloc, traces, self.receipts.as_slice())?;
+        let (told, found) = judge(self.alloc, audited, traces, self.receipts.as_slice())?;
         drop(mem::replace(&mut self.found, found));
         Ok(writeln!(self.told, "{told}")?)
     }
@@ -114,7 +115,7 @@ impl Session {
         Ok(exchange(&mut self.receipts, &mut self.earlier, name)?)
     }
 
-    // Carries out a line that stands behind the steps.
+    // Carries out a line that stands after the steps.
     fn look(&mut self, line: &str) -> Result<(), StepFault> {
         let words: Vec<&str> = line.split(' ').collect(self.alloc)?;
         match words.as_slice() {
@@ -128,7 +129,8 @@ impl Session {
                 double(&mut self.receipts, name, value(place)?)
             }
             ["exchange", name] => self.exchange(name),
-            ["audit"] => self.audit(),
+            ["audit"] => self.audit(Audited::All),
+            ["audit_servers"] => self.audit(Audited::Servers),
             ["turns"] => self.tell_turns(),
             ["committed", partition] => self.tell_committed(partition),
             _ => Err(StepFault::Unknown),

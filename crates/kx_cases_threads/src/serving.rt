@@ -3,7 +3,7 @@ use crate::gate::Hold;
 use crate::nodes::input_of;
 use kx_cases::{StepFault, Texts};
 use kx_machine::Input;
-use kx_message::Node as NodeName;
+use kx_message::NodeId;
 use kx_nodes::{Locked, Node, Receipt, Workers};
 use kx_script::{Order, order_in};
 use kx_wire::Frames;
@@ -21,7 +21,7 @@ pub(crate) struct Shift {
 }
 
 // The place of the node of this name.
-fn place_of<L: Locked>(nodes: &[Arc<Node<L>>], name: NodeName) -> Result<usize, StepFault> {
+fn place_of<L: Locked>(nodes: &[Arc<Node<L>>], name: NodeId) -> Result<usize, StepFault> {
     nodes
         .iter()
         .position(|node| node.name() == name)
@@ -32,7 +32,7 @@ fn place_of<L: Locked>(nodes: &[Arc<Node<L>>], name: NodeName) -> Result<usize, 
 fn hand<L: Locked + Send + Sync + 'static, R: Threads + Wait + Copy + Send + 'static>(
     workers: &Workers<L, Hold, R>,
     nodes: &[Arc<Node<L>>],
-    name: NodeName,
+    name: NodeId,
     input: Input,
 ) -> Result<(), StepFault> {
     let place = place_of(nodes, name)?;

@@ -41,7 +41,7 @@ fn tell_input(told: &mut String, input: &Input) -> Result<(), AllocError> {
     }
 }
 
-// Tells what a node answered: each message behind its receiver, and what it answered beside them.
+// Tells what a node answered: each message after its receiver, and what it answered beside them.
 fn tell_taken(told: &mut String, taken: &Taken) -> Result<(), AllocError> {
     for message in taken.messages.as_slice() {
         write!(told, " > {} {message}", message.receiver())?;

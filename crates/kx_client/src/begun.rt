@@ -47,7 +47,7 @@ impl ProducerClient {
         Ok(before)
     }
 
-    // Where what came behind the beginning was refused, all is as before it.
+    // Where what came after the beginning was refused, all is as before it.
     fn both_or_neither(
         &mut self,
         before: Before,

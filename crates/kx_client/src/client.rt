@@ -14,7 +14,7 @@ use kx_message::{Caller, ClientId, GroupId, Held, Message, PartitionId, Timeout,
 use std::alloc::{AllocError, Global};
 use std::marker::Model;
 
-// The sequence behind the greatest, 2^31 - 1.
+// The sequence after the greatest, 2^31 - 1.
 const AFTER_LAST: u64 = 0x8000_0000;
 
 // What the last reply of code 0 to a join said: the client's place among the members of its group.
@@ -26,8 +26,8 @@ pub(crate) struct Place {
     pub(crate) count: u16,
 }
 
-// The numbers of a request that carries records: its own, and the sequences of its first record
-// and behind its last.
+// The numbers of a request that carries records: its own, and the sequences of its first record and
+// after its last.
 #[derive(Clone, Copy)]
 pub(crate) struct Numbers {
     pub(crate) caller: Caller,
@@ -160,7 +160,7 @@ impl ProducerClient {
         })
     }
 
-    // The numbers of a request that carries so many records to a partition, if they are left.
+    // The numbers of a request that carries this many records to a partition, if they are left.
     pub(crate) fn numbers(&self, partition: PartitionId, count: usize) -> Option<Numbers>
         ensures { MatchOption result (is_used_up self.now partition count ≡ true)
             (λ numbers. (is_used_up self.now partition count ≡ false)

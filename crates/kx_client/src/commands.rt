@@ -26,7 +26,7 @@ pub(crate) struct CommitParts {
 
 impl ProducerClient {
     /// Asks the coordinator for an id and an epoch (KIP-98's InitProducerId). While the reply is
-    /// awaited, the same request is handed out again.
+    /// awaited, the same request is sent again.
     ///
     /// # Errors
     ///
@@ -59,7 +59,7 @@ impl ProducerClient {
         Ok(self.ask(request)?)
     }
 
-    /// Begins a transaction (KIP-98's beginTransaction). Nothing is handed out.
+    /// Begins a transaction (KIP-98's beginTransaction). Nothing is sent.
     ///
     /// # Errors
     ///
@@ -165,6 +165,8 @@ impl ProducerClient {
     /// [`InFlight`](ClientFault::InFlight) where a join or a leave is unanswered;
     /// [`UsedUp`](ClientFault::UsedUp) where no number is left for the request;
     /// [`Memory`](ClientFault::Memory). Nothing is changed then.
+    // Allowed once a join was answered 0, also while it asks to join again: it may not know that it
+    // was dropped, and the group refuses it by its generation.
     #[tactic(auto, unfolding(kx_model::specs::Client::command))]
     pub fn leave(&mut self) -> Result<Message, ClientFault>
         ensures { MatchResult result
@@ -297,7 +299,7 @@ impl ProducerClient {
     }
 
     /// Ends the transaction as a commit: asks the coordinator (KIP-98's EndTxn). Where nothing was
-    /// sent in the transaction, it ends here, and nothing is handed out.
+    /// sent in the transaction, it ends here, and nothing is sent.
     ///
     /// # Errors
     ///
@@ -385,7 +387,7 @@ impl ProducerClient {
         Ok(self.ask_alone(request)?)
     }
 
-    /// Hands out every unanswered request again, equal to the first time, in the order of first
+    /// Sends every unanswered request again, equal to the first time, in the order of first
     /// sending. Nothing is built anew and nothing is changed.
     ///
     /// # Errors

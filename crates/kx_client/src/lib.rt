@@ -1,5 +1,5 @@
 //! A client's core (KIP-98's producer, with KIP-447's offsets): what it may ask for, the requests
-//! that it hands out and keeps until they are answered, and what it makes of replies.
+//! that it sends and keeps until they are answered, and what it makes of replies.
 #![tactic(auto)]
 
 mod begun;

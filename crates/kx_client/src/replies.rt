@@ -5,7 +5,7 @@ ghost use Rattle.kx_model.specs.Replies.{holding, is_awaited, learns, meaning, p
 ghost use Rattle.kx_model.specs.Replies.{offset_meaning, offsets_meaning, take_reply};
 
 use crate::client::{Place, ProducerClient};
-use kx_message::{ErrorCode, Held, JoinReply, Message, Node};
+use kx_message::{ErrorCode, Held, JoinReply, Message, NodeId};
 
 // What the code of a reply means.
 #[derive(Clone, Copy, Debug, PartialEq, Eq)]
@@ -60,7 +60,7 @@ impl ProducerClient {
     pub fn awaits(&self, reply: &Message) -> bool
         ensures { result ≡ is_awaited self.now reply.now }
     {
-        reply.receiver() == Node::Client(self.number) && self.waiting.awaits(reply)
+        reply.receiver() == NodeId::Client(self.number) && self.waiting.awaits(reply)
     }
 
     // What a code alone changes; whether the request is answered, so that the reply says more.

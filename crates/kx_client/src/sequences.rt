@@ -26,7 +26,7 @@ impl Model for Sequences {
 }
 
 impl Sequences {
-    /// Nothing was sent.
+    /// Sequences of a producer that has sent nothing.
     pub(crate) fn new(alloc: Global) -> Sequences
         ensures { result ≡ [] }
     {

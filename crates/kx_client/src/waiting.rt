@@ -1,4 +1,7 @@
 //! The requests of a client that wait for their replies.
+//!
+//! The end of a transaction, a join and a leave that wait are looked for among all that waits: no
+//! more than five batches for each of 17 partitions, and a few requests.
 ghost use Rattle.std.specs.Prelude.{◌≡◌, ◌+◌, ◌<◌, ◌≤◌, ◌^◌, ◌++◌, [], ◌∷◌, ℕ, true, false, not};
 ghost use Rattle.std.specs.Prelude.{length, filter, take, drop, nat_lt, nat_le, count_by};
 ghost use Rattle.std.specs.Prelude.{OnErr, OnOk, IfOk, MatchOption};
@@ -89,7 +92,7 @@ impl Model for Waiting {
 }
 
 impl Waiting {
-    /// Nothing waits, and the next request is number 0.
+    /// A table in which no request waits; the next request is number 0.
     pub(crate) fn new(alloc: Global) -> Waiting
         ensures messages { result.messages ≡ [] }
         ensures next { result.next ≡ 0 }
@@ -201,7 +204,7 @@ impl Waiting {
         self.next += 1;
     }
 
-    /// Nothing waits any more. Room that there is stays.
+    /// Drops all requests that wait. Room that there is stays.
     pub(crate) fn clear(&mut self)
         ensures messages { self.new.messages ≡ [] }
         ensures next { self.new.next ≡ self.old.next }

@@ -1,4 +1,7 @@
 //! How many batches to each partition are unanswered.
+//!
+//! The counts stand in an array, since they outlive an epoch and need no memory; sequences don't
+//! outlive it.
 ghost use Rattle.std.specs.Prelude.{◌≡◌, ◌+◌, ◌<◌, ◌==◌, ℕ, true, false, nat_le, if◌then◌else◌};
 ghost use Rattle.std.specs.Prelude.{MatchOption};
 ghost use Rattle.kx_message.specs.Ranges.{IsPartition};
@@ -11,8 +14,8 @@ use std::marker::Model;
 // How many batches to a partition may be unanswered (KIP-98's max.in.flight.requests).
 const WINDOW: u8 = 5;
 
-// The place of the offsets partition, behind those of the partitions that keep records.
-const OFFSETS: usize = 16;
+// The place of the offsets partition, after those of the data partitions.
+const OFFSETS: usize = PartitionId::DATA_COUNT as usize;
 
 // The partition that the request carries a batch to, or offsets that become one.
 fn carried(request: &Message) -> Option<PartitionId>
@@ -51,7 +54,7 @@ impl Model for Windows {
 }
 
 impl Windows {
-    /// None is.
+    /// Windows in which no request is unanswered.
     pub(crate) fn new() -> Windows
         ensures { (p : ℕ) → IsPartition p → count_in result p ≡ 0 }
     {
@@ -68,7 +71,7 @@ impl Windows {
         WINDOW <= self.unanswered[slot(partition)]
     }
 
-    /// One more request is unanswered.
+    /// Counts one more unanswered request.
     pub(crate) fn note(&mut self, request: &Message)
         requires { (p : ℕ) → IsPartition p → carries_to p request.now ≡ true
             → count_in self.old p < window }

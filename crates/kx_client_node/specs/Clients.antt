@@ -1,5 +1,6 @@
 -- What a client as a machine answers, and the node that it is.
-use Rattle.std.specs.Prelude.{◌≡◌, ◌⊎◌, ◌&&◌, Bool, List, [], ◌∷◌, is_none, if◌then◌else◌}
+use Rattle.std.specs.Prelude.{◌≡◌, ◌⊎◌, ◌&&◌, ℕ, Bool, List, [], ◌∷◌, Option, is_none}
+use Rattle.std.specs.Prelude.{if◌then◌else◌}
 use Rattle.kx_client.specs.declared.fault.ClientFault.{ClientFault}
 use Rattle.kx_client.specs.declared.fault.ClientFault.TheVariants.{Failed, Memory, NotReady}
 use Rattle.kx_client.specs.declared.fault.ClientFault.TheVariants.{NotTransactional}
@@ -17,8 +18,8 @@ IsDeclined fault answer = (fault ≡ Memory)
     ⊎ ((refusal : Fault) × (answer ≡ Declines refusal) × (fault ≡ fault_of refusal))
 
 -- a client has no store
-abbrev pub any_store : Store → Type 0
-any_store store = Unit {0}
+abbrev pub any_store : Option ℕ → Store → Type 0
+any_store size store = Unit {0}
 
 abbrev pub client_of : {F : Type 0} → AnyClient F → Client
 client_of (any.Plain client) = client

@@ -14,9 +14,9 @@ use std::alloc::AllocError;
 /// A client: one that is told what to send, or a processor.
 #[derive(Drop)]
 pub enum AnyClient<F: Process> {
-    /// One that is told each thing that it does.
+    /// A client that is told each thing that it does.
     Plain(ClientMachine),
-    /// One that consumes, processes and produces.
+    /// A client that consumes, processes and produces.
     Processor(ProcessorMachine<F>),
 }
 

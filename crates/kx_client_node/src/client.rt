@@ -40,7 +40,8 @@ impl ClientMachine {
         }
     }
 
-    /// The client, borrowed: what it holds, and whether it is in a transaction or waits for replies.
+    /// The client, borrowed: what it holds, and whether it is in a transaction or waits for
+    /// replies.
     pub fn client(&self) -> &ProducerClient
         ensures { result.now ≡ self.now }
     {
@@ -106,7 +107,7 @@ impl ClientMachine {
         }
     }
 
-    /// A message comes. Nothing is handed out, and no memory is asked for.
+    /// A message comes. Nothing is sent, and no memory is asked for.
     pub fn deliver(&mut self, message: &Message)
         ensures { self.new ≡ take_reply self.old message.now }
     {
@@ -117,7 +118,8 @@ impl ClientMachine {
     ///
     /// # Errors
     ///
-    /// Only for want of memory, which may come in place of a refusal; the client is then as before.
+    /// Only where memory runs out, which may come in place of a refusal; the client is then as
+    /// before.
     pub fn take(&mut self, input: &Input) -> Result<Taken, AllocError>
         ensures { MatchResult result
             (IsTaken (AtClient self.old) (input_of input.now) any_store

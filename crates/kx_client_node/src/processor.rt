@@ -83,7 +83,7 @@ impl<P: Process> ProcessorMachine<P> {
         }
     }
 
-    // Does what it is told, and hands out its requests.
+    // Does what it is told, and sends its requests.
     fn obey(&mut self, told: &Command) -> Result<Messages, ClientFault>
         ensures { MatchResult result
             (λ sent. processor_step (processor_of P.image_of self.old)
@@ -119,11 +119,11 @@ impl<P: Process> ProcessorMachine<P> {
         }
     }
 
-    /// A message comes. Nothing is handed out.
+    /// A message comes. Nothing is sent.
     ///
     /// # Errors
     ///
-    /// Only for want of memory, which is asked for only for a page of records; the processor is
+    /// Only where memory runs out; it is asked for only for a page of records; the processor is
     /// then as before.
     pub fn deliver(&mut self, message: &Message) -> Result<(), AllocError>
         ensures { MatchResult result
@@ -138,7 +138,7 @@ impl<P: Process> ProcessorMachine<P> {
     ///
     /// # Errors
     ///
-    /// Only for want of memory, which may come in place of a refusal; the processor is then as
+    /// Only where memory runs out, which may come in place of a refusal; the processor is then as
     /// before.
     pub fn take(&mut self, input: &Input) -> Result<Taken, AllocError>
         ensures { MatchResult result

@@ -7,4 +7,4 @@ mod making;
 mod node;
 
 pub use making::AnyMaking;
-pub use node::{LocalNode, local_node};
+pub use node::{LocalMachine, LocalNode, local_machine, local_node};

@@ -11,7 +11,7 @@ use kx_machine::{Failing, Making, StoreMode};
 use kx_machines::{
     AnyMachine, BrokerMachine, LocalStore, local_coordinator, local_offsets, local_partition,
 };
-use kx_message::{Node, PartitionId};
+use kx_message::{NodeId, PartitionId};
 use kx_nodes::{Made, ProcessorMaking};
 use kx_processor::Process;
 use std::alloc::{AllocError, Global};
@@ -19,7 +19,7 @@ use std::alloc::{AllocError, Global};
 /// How a node of any kind is made.
 #[derive(Drop)]
 pub enum AnyMaking<F: Process> {
-    /// One that isn't a processor.
+    /// A node that isn't a processor.
     Plain(Making),
     /// A processor, with its process.
     Processor(ProcessorMaking<F>),
@@ -30,7 +30,7 @@ impl<F: Process> Made for AnyMaking<F> {
 
     ghost state = { any_state F.image_of };
 
-    fn name(&self) -> Node {
+    fn name(&self) -> NodeId {
         match self {
             AnyMaking::Plain(making) => making.name(),
             AnyMaking::Processor(making) => making.name(),

@@ -30,7 +30,7 @@ impl Model for Commits {
 }
 
 impl Commits {
-    /// Nothing is kept. It takes memory from `alloc` as room is made.
+    /// Commits of no group. It takes memory from `alloc` as room is made.
     pub fn new(alloc: Global) -> Commits
         ensures { SameKept (kept_of result) nothing }
     {
@@ -57,12 +57,12 @@ impl Commits {
         self.slots.is_pending(group, partition)
     }
 
-    /// Makes room for so many offsets of a producer's transaction, so that noting them asks for no
-    /// memory. What is kept stays.
+    /// Makes room for this many offsets of a producer's transaction, so that noting them asks for
+    /// no memory. What is kept stays.
     ///
     /// # Errors
     ///
-    /// Only for want of memory.
+    /// Only where memory runs out.
     pub fn reserve(&mut self, id: ProducerId, count: usize) -> Result<(), AllocError>
         ensures same { SameKept (kept_of self.new) (kept_of self.old) }
         ensures room { OnOk result (count ≤ room_for self.new id) }

@@ -32,7 +32,7 @@ fn later_one(said: SaidOffset, committed: Option<(i64, u64)>) -> (i64, u64)
 }
 
 impl Slot {
-    /// Nothing is committed, and nothing pending.
+    /// An offset of which nothing is committed or pending.
     pub(crate) fn new() -> Slot
         ensures { result ≡ empty_slot }
     {
@@ -57,7 +57,7 @@ impl Slot {
         self.pending > 0
     }
 
-    /// One more offset waits for its transaction.
+    /// Counts one more offset that waits for its transaction.
     pub(crate) fn wait(&mut self)
         requires { self.old.pending < 2 ^ 63 }
         ensures { self.new ≡ waits self.old }

@@ -30,7 +30,7 @@ impl Model for Slots {
 }
 
 impl Slots {
-    /// Nothing is kept.
+    /// A table without offsets.
     pub(crate) fn new(alloc: Global) -> Slots
         ensures { (key : Key) → slot_in result key ≡ empty_slot }
     {
@@ -59,7 +59,7 @@ impl Slots {
         }
     }
 
-    /// Makes room for so many more.
+    /// Makes room for this many more.
     pub(crate) fn reserve(&mut self, count: usize) -> Result<(), AllocError>
         ensures same { self.new.entries ≡ self.old.entries }
         ensures room { OnOk result (count ≤ self.new.room) }
@@ -67,7 +67,7 @@ impl Slots {
         self.by_key.reserve(count)
     }
 
-    /// One more offset of a group and an input partition waits for its transaction.
+    /// Counts one more offset of a group and an input partition waits for its transaction.
     pub(crate) fn wait(&mut self, said: &SaidOffset)
         requires room { 0 < self.old.room }
         requires few { (slot_in self.old (key_of said.now)).pending < 2 ^ 63 }
@@ -83,7 +83,7 @@ impl Slots {
         }
         let mut slot = Slot::new();
         slot.wait();
-        // No slot stood there, so none is let go.
+        // No slot stood there, so none is dropped.
         let _ = self.by_key.insert(key, slot).unwrap();
     }
 

@@ -29,7 +29,7 @@ impl Model for Waiting {
 }
 
 impl Waiting {
-    /// None.
+    /// No offset waits.
     pub(crate) fn new(alloc: Global) -> Waiting
         ensures { result.said ≡ [] }
     {
@@ -45,7 +45,7 @@ impl Waiting {
         self.said.as_slice()
     }
 
-    /// Makes room for so many more.
+    /// Makes room for this many more.
     pub(crate) fn reserve(&mut self, count: usize) -> Result<(), AllocError>
         ensures same { self.new.said ≡ self.old.said }
         ensures room { OnOk result (count ≤ self.new.room) }
@@ -53,7 +53,7 @@ impl Waiting {
         self.said.reserve(count)
     }
 
-    /// One more.
+    /// Puts one more offset after those that wait.
     pub(crate) fn push(&mut self, said: SaidOffset)
         requires { 0 < self.old.room }
         ensures said { self.new.said ≡ self.old.said ++ said ∷ [] }
@@ -63,7 +63,7 @@ impl Waiting {
     }
 }
 
-/// Those of all transactions.
+/// The offsets of all transactions.
 #[derive(Drop)]
 pub(crate) struct WaitingById {
     alloc: Global,
@@ -83,7 +83,7 @@ impl Model for WaitingById {
 }
 
 impl WaitingById {
-    /// None waits.
+    /// A table in which no offset waits.
     pub(crate) fn new(alloc: Global) -> WaitingById
         ensures { (id : ℕ) → waiting_in result id ≡ none_waiting }
     {
@@ -93,7 +93,7 @@ impl WaitingById {
         }
     }
 
-    /// Makes room for so many more of a producer id.
+    /// Makes room for this many more of a producer id.
     pub(crate) fn reserve(&mut self, id: ProducerId, count: usize) -> Result<(), AllocError>
         ensures same { (other : ℕ)
             → (waiting_in self.new other).said ≡ (waiting_in self.old other).said }
@@ -108,7 +108,7 @@ impl WaitingById {
         Ok(())
     }
 
-    /// One more of a producer id waits.
+    /// Counts one more offset of a producer id that waits.
     pub(crate) fn push(&mut self, id: ProducerId, said: SaidOffset)
         requires { 0 < (waiting_in self.old id).room }
         ensures said { (other : ℕ) → (waiting_in self.new other).said

@@ -8,7 +8,7 @@ use Rattle.std.specs.Map.{lookup}
 use Rattle.std.specs.Option.{option_or}
 use Rattle.std.proofs.lemmas.Slice.Eq.{bytes_eq-Decides}
 use Rattle.indexmap.specs.IndexMap.{insert_entry}
-use Rattle.kx_model.specs.Coordinator.{Note, CoordinatorEpoch, Allot, Written, above_ids}
+use Rattle.kx_model.specs.Coordinator.{TxnEntry, CoordinatorEpoch, Allot, Written, above_ids}
 use Rattle.kx_model.specs.Coordinator.{coordinator_epoch, next_id, last_row}
 use Rattle.kx_model.specs.CoordinatorNode.{id_limit}
 use Rattle.kx_model.proofs.Notes.{coordinator_epoch-push, last_row-push, next_id-push}
@@ -30,13 +30,13 @@ follows_none entries none = record {
 }
 
 -- the next id after an entry
-next_after : (log : List Note) (note : Note) (next above now : ℕ) → next ≡ next_id log
+next_after : (log : List TxnEntry) (note : TxnEntry) (next above now : ℕ) → next ≡ next_id log
     → above ≡ above_ids note → now ≡ max next above → now ≡ next_id (log ++ note ∷ [])
 next_after log note next above now e f g =
     g ∙ (λ i. max (e i) (f i)) ∙ sym (next_id-push log note)
 
 -- after the coordinator's own epoch
-pub follows_epoch : (log : List Note) (entries : List (List ℕ × Row)) (next above now : ℕ)
+pub follows_epoch : (log : List TxnEntry) (entries : List (List ℕ × Row)) (next above now : ℕ)
     (n epoch new : ℤ) → Follows log entries next epoch → above ≡ above_ids (CoordinatorEpoch n)
     → now ≡ max next above → above ≤ id_limit → new ≡ n
     → Follows (log ++ CoordinatorEpoch n ∷ []) entries now new
@@ -50,7 +50,7 @@ follows_epoch log entries next above now n epoch new h e f le is = record {
 }
 
 -- after an id that was handed out
-pub follows_allot : (log : List Note) (entries : List (List ℕ × Row)) (next above now id : ℕ)
+pub follows_allot : (log : List TxnEntry) (entries : List (List ℕ × Row)) (next above now id : ℕ)
     (epoch : ℤ) → Follows log entries next epoch → above ≡ above_ids (Allot id)
     → now ≡ max next above → above ≤ id_limit
     → Follows (log ++ Allot id ∷ []) entries now epoch
@@ -107,7 +107,7 @@ looked_up row o true = refl
 looked_up row o false = refl
 
 -- after a row
-pub follows_row : (log : List Note) (entries new : List (List ℕ × Row)) (next above now : ℕ)
+pub follows_row : (log : List TxnEntry) (entries new : List (List ℕ × Row)) (next above now : ℕ)
     (epoch : ℤ) (row : Row) → Follows log entries next epoch
     → above ≡ above_ids (Written (row_of row)) → now ≡ max next above → above ≤ id_limit
     → new ≡ insert_entry bytes_eq entries row.txn row

@@ -9,7 +9,7 @@ use Rattle.kx_log.specs.declared.fault.OpenFault.TheVariants.{Device, Damaged, M
 use Rattle.kx_message.specs.declared.code.ErrorCode.{ErrorCode}
 use Rattle.kx_message.specs.declared.code.ErrorCode.TheVariants as code
 use Rattle.kx_message.specs.declared.message.Message.{Message}
-use Rattle.kx_model.specs.Coordinator.{Note, Row, Written, coordinator_epoch}
+use Rattle.kx_model.specs.Coordinator.{TxnEntry, Row, Written, coordinator_epoch}
 use Rattle.kx_model.specs.CoordinatorNode.{Reply, has_no_id}
 use Rattle.kx_model.specs.Markers.{Answered, Settled, Ignored, Noted, Completes, all_markers}
 use Rattle.kx_model.specs.Markers.{expire, markers_after, noting, reopen, same_answered, settle}
@@ -27,28 +27,28 @@ use Rattle.kx_coord.specs.Noted.{SameAnswered}
 ------ appending
 
 -- the entry was appended, and nothing else changed
-pub record Appends (old new : CoordinatorState) (note : Note) : Type 0 where
+pub record Appends (old new : CoordinatorState) (note : TxnEntry) : Type 0 where
   pub log : IsAppendedTo note old.log new.log
   pub rest : new ≡ record old { log = new.log }
 
 -- the store failed: the log is closed
-pub record Breaks (old new : CoordinatorState) (note : Note) : Type 0 where
+pub record Breaks (old new : CoordinatorState) (note : TxnEntry) : Type 0 where
   pub log : AppendBreaks note old.log new.log
   pub rest : new ≡ record old { log = new.log }
 
 -- the entry was appended, or the log was closed before, or closed now
-abbrev pub IsWritten : CoordinatorState → CoordinatorState → Note → Bool → Type 0
+abbrev pub IsWritten : CoordinatorState → CoordinatorState → TxnEntry → Bool → Type 0
 IsWritten old new note true = (has_no_id note ≡ false) × Appends old new note
 IsWritten old new note false = ((old.log.closed ≡ true) × (new ≡ old))
     ⊎ ((has_no_id note ≡ false) × Breaks old new note)
 
 -- these messages go out and the markers that the entry owes, where it was appended; else those
-abbrev pub handed_out : Bool → ℤ → Note → List Message → List Message → List Message
+abbrev pub handed_out : Bool → ℤ → TxnEntry → List Message → List Message → List Message
 handed_out appended epoch note done failed =
     if appended then done ++ markers_after epoch note else failed
 
 -- a call that appends an entry first; where an id is missing for it, it is not appended
-pub data Hands (old new : CoordinatorState) (note : Note) (done failed handed : List Message)
+pub data Hands (old new : CoordinatorState) (note : TxnEntry) (done failed handed : List Message)
     : Type 0 where
   HasNoId : has_no_id note ≡ true → new ≡ old → handed ≡ failed
       → Hands old new note done failed handed
@@ -59,7 +59,7 @@ pub data Hands (old new : CoordinatorState) (note : Note) (done failed handed : 
 ------ requests
 
 abbrev pub RespondsBy : CoordinatorState → CoordinatorState → Answer → Reply → List Message
-    → Option Note → Type 0
+    → Option TxnEntry → Type 0
 RespondsBy old new a reply handed None = (new ≡ old) × (handed ≡ reply a.code a.held ∷ [])
 RespondsBy old new a reply handed (Some note) = Hands old new note (reply a.code a.held ∷ [])
     (reply code.KafkaStorageError None ∷ []) handed
@@ -110,7 +110,7 @@ Expires old new now handed =
 ------ opening
 
 -- what a store held was read, and the entry of this opening is to be appended to it
-pub record Reads (store : StoreState) (read : LogState) (note : Note) : Type 0 where
+pub record Reads (store : StoreState) (read : LogState) (note : TxnEntry) : Type 0 where
   pub opened : IsOpened store read.store read.notes
   pub not_closed : read.closed ≡ false
   pub next : reopen read.notes ≡ Some note
@@ -119,7 +119,7 @@ pub record Reads (store : StoreState) (read : LogState) (note : Note) : Type 0 w
 pub record IsOpen (store : StoreState) (now : ℕ) (co : CoordinatorState) (sent : List Message)
     : Type 0 where
   pub read : LogState
-  pub note : Note
+  pub note : TxnEntry
   pub reads : Reads store read note
   pub log : IsAppendedTo note read co.log
   pub clock : co.clock ≡ now
@@ -128,20 +128,20 @@ pub record IsOpen (store : StoreState) (now : ℕ) (co : CoordinatorState) (sent
 
 -- what a store held was read, and what was torn at its end is cut off; an epoch is left
 pub record IsCutTo (old new : StoreState) : Type 0 where
-  pub notes : List Note
+  pub notes : List TxnEntry
   pub opened : IsOpened old new notes
   pub left : is_some (reopen notes) ≡ true
 
 -- what a store held was read, but the coordinator's epochs are used up
 pub record RunsOut (old new : StoreState) : Type 0 where
-  pub notes : List Note
+  pub notes : List TxnEntry
   pub opened : IsOpened old new notes
   pub last : reopen notes ≡ None
 
 -- the entry of this opening failed
 pub record OpenBreaks (old new : StoreState) : Type 0 where
   pub read : LogState
-  pub note : Note
+  pub note : TxnEntry
   pub reads : Reads old read note
   pub ranges : IsEntry note
   pub store : AppendFailed (entry_text note) read.store new
@@ -164,7 +164,7 @@ closed_on co store = record co { log = record co.log { closed = true; store = st
 -- the entry of a restart failed: the coordinator is as its log was read again, closed
 pub record RestartBreaks (old new : CoordinatorState) (now : ℕ) : Type 0 where
   pub read : LogState
-  pub note : Note
+  pub note : TxnEntry
   pub reads : Reads old.log.store read note
   pub log : AppendBreaks note read new.log
   pub clock : new.clock ≡ now

@@ -13,7 +13,7 @@ use kx_txnlog::{Entry, Row};
 /// What is done about a request.
 #[derive(Drop)]
 pub(crate) enum Answer {
-    /// Nothing is appended.
+    /// The log stays as it is.
     Replies {
         code: ErrorCode,
         held: Option<Held>,

@@ -1,7 +1,7 @@
 //! A client ends its transaction (KIP-98, "EndTxnRequest"; KIP-890).
 ghost use Rattle.std.specs.Prelude.{◌≡◌, ◌==◌, ◌+◌, IfOk, List, Some};
 ghost use Rattle.kx_model.specs.Coordinator as coordinator;
-ghost use Rattle.kx_model.specs.Coordinator.{ByEnd, Note, Ongoing};
+ghost use Rattle.kx_model.specs.Coordinator.{ByEnd, TxnEntry, Ongoing};
 ghost use Rattle.kx_model.specs.Requests as model;
 ghost use Rattle.kx_txnlog.specs.Entry.{row_of};
 ghost use Rattle.kx_txnlog.specs.State.{state_of};
@@ -60,7 +60,7 @@ fn ended_as(row: &Row) -> Held
 
 // No partition was added: only an abort ends it.
 fn nothing_sent(fresh: Fresh, row: &Row, outcome: Outcome) -> Answer
-    ensures { (log : List Note) → IsNextId log fresh.next
+    ensures { (log : List TxnEntry) → IsNextId log fresh.next
         → IsAnswer result (model.nothing_sent log (row_of row.now) outcome) }
 {
     match outcome {
@@ -72,7 +72,7 @@ fn nothing_sent(fresh: Fresh, row: &Row, outcome: Outcome) -> Answer
 // The transaction ends, and waits for its markers.
 fn decides(fresh: Fresh, row: &Row, outcome: Outcome) -> Result<Answer, AllocError>
     requires { (row_of row.now).state ≡ Ongoing }
-    ensures { IfOk result (λ answer. (log : List Note) → IsNextId log fresh.next
+    ensures { IfOk result (λ answer. (log : List TxnEntry) → IsNextId log fresh.next
         → IsAnswer answer
         (model.writes (model.prepared log (row_of row.now) outcome ByEnd))) }
 {
@@ -87,7 +87,7 @@ pub(crate) fn end_row(
     held: &Held,
     outcome: Outcome,
 ) -> Result<Answer, AllocError>
-    ensures { IfOk result (λ answer. (log : List Note) → IsNextId log fresh.next
+    ensures { IfOk result (λ answer. (log : List TxnEntry) → IsNextId log fresh.next
         → IsAnswer answer (model.end_at log (Some (row_of row.now)) held.now outcome)) }
 {
     if let Some(code) = refused_first(row, held) {

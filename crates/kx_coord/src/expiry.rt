@@ -63,13 +63,13 @@ impl<S: Store> Coordinator<S> {
         }
     }
 
-    /// It is this moment, in milliseconds. The first transaction that is under way for as long as
-    /// its timeout or longer is aborted; hands out its markers. The coordinator's clock is the
-    /// greatest moment handed in.
+    /// The time is this, in milliseconds. The first transaction that is under way for as long as
+    /// its timeout or longer is aborted; sends its markers. The coordinator's clock is the greatest
+    /// time handed in.
     ///
     /// # Errors
     ///
-    /// Only for want of memory, and where a transaction has lasted too long and the coordinator
+    /// Only where memory runs out, and where a transaction has lasted too long and the coordinator
     /// isn't closed; then it is as before.
     pub fn expire(&mut self, now: u64) -> Result<Vec<Message>, AllocError>
         ensures ok { IfOk result (λ handed. Expires self.old self.new now handed.items) }

@@ -1,6 +1,6 @@
 //! A client asks for an id and an epoch (KIP-98, "InitProducerIdRequest").
 ghost use Rattle.std.specs.Prelude.{◌≡◌, ℕ, IfOk, List, None};
-ghost use Rattle.kx_model.specs.Coordinator.{Note, Ongoing};
+ghost use Rattle.kx_model.specs.Coordinator.{TxnEntry, Ongoing};
 ghost use Rattle.kx_model.specs.Requests as model;
 ghost use Rattle.kx_txnlog.specs.Entry.{row_of};
 ghost use Rattle.kx_coord.specs.Internal.Answers.{IsAnswer, IsNextId};
@@ -26,7 +26,7 @@ fn asked_again(row: &Row) -> Answer
 
 // A later client takes the transactional id over.
 fn takes_over(fresh: Fresh, client: ClientId, timeout: Timeout, row: &Row) -> Answer
-    ensures { (log : List Note) → IsNextId log fresh.next
+    ensures { (log : List TxnEntry) → IsNextId log fresh.next
         → IsAnswer result (model.takes_over log client timeout (row_of row.now)) }
 {
     let Some(raised) = fresh.raised(row, State::Empty, Cause::Init) else {
@@ -41,7 +41,7 @@ fn takes_over(fresh: Fresh, client: ClientId, timeout: Timeout, row: &Row) -> An
 // The owner's transaction is aborted, and the newcomer is to ask again.
 fn fences_owner(fresh: Fresh, row: &Row) -> Result<Answer, AllocError>
     requires { (row_of row.now).state ≡ Ongoing }
-    ensures { IfOk result (λ answer. (log : List Note) → IsNextId log fresh.next
+    ensures { IfOk result (λ answer. (log : List TxnEntry) → IsNextId log fresh.next
         → IsAnswer answer (model.fences_owner log (row_of row.now))) }
 {
     let Some(prepared) = fresh.prepared(row, Outcome::Abort, Cause::Init)? else {
@@ -61,7 +61,7 @@ pub(crate) fn init_row(
     timeout: Timeout,
     row: &Row,
 ) -> Result<Answer, AllocError>
-    ensures { IfOk result (λ answer. (log : List Note) → IsNextId log fresh.next
+    ensures { IfOk result (λ answer. (log : List TxnEntry) → IsNextId log fresh.next
         → IsAnswer answer (model.init_row log client timeout (row_of row.now))) }
 {
     if client < row.owner {
@@ -79,7 +79,7 @@ pub(crate) fn init_row(
 
 /// What a client is answered whose transactional id is used for the first time.
 pub(crate) fn init_first(fresh: Fresh, client: ClientId, txn: TxnId, timeout: Timeout) -> Answer
-    ensures { (log : List Note) → IsNextId log fresh.next
+    ensures { (log : List TxnEntry) → IsNextId log fresh.next
         → IsAnswer result (model.writes (model.first_use log client txn timeout)) }
 {
     writes(fresh.first_use(client, txn, timeout))
@@ -87,7 +87,7 @@ pub(crate) fn init_first(fresh: Fresh, client: ClientId, txn: TxnId, timeout: Ti
 
 /// What a client without a transactional id is answered.
 pub(crate) fn allot(fresh: Fresh) -> Answer
-    ensures { (log : List Note) (client timeout : ℕ) → IsNextId log fresh.next
+    ensures { (log : List TxnEntry) (client timeout : ℕ) → IsNextId log fresh.next
         → IsAnswer result (model.init log client None timeout) }
 {
     let Some(id) = fresh.next else {

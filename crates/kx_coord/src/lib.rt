@@ -1,5 +1,5 @@
 //! The transaction coordinator (KIP-98, "Transaction Coordinator"; KIP-890): what it answers to the
-//! requests that come, what it appends to its log first, and the markers that it hands out. What it
+//! requests that come, what it appends to its log first, and the markers that it sends. What it
 //! holds of a transactional id is the last row that its log has of it; a table finds that row
 //! without reading the log.
 #![tactic(auto)]

@@ -10,12 +10,12 @@ use kx_message::{Message, Raised, WriteMarker};
 use kx_txnlog::{Row, State};
 use std::alloc::{AllocError, Global};
 
-/// Puts the markers that a row owes and that were not yet answered behind other messages, in the
+/// Puts the markers that a row owes and that were not yet answered after other messages, in the
 /// order in which its partitions were added, with this epoch of the coordinator.
 ///
 /// # Errors
 ///
-/// Only for want of memory, and where there are any.
+/// Only where memory runs out, and where there are any.
 pub(crate) fn push_missing(
     messages: &mut Vec<Message>,
     epoch: i32,
@@ -45,11 +45,11 @@ pub(crate) fn push_missing(
     Ok(())
 }
 
-/// Puts all markers that a row owes behind other messages.
+/// Puts all markers that a row owes after other messages.
 ///
 /// # Errors
 ///
-/// Only for want of memory.
+/// Only where memory runs out.
 pub(crate) fn push_markers(
     messages: &mut Vec<Message>,
     alloc: Global,
@@ -66,7 +66,7 @@ pub(crate) fn push_markers(
 ///
 /// # Errors
 ///
-/// Only for want of memory, and where there are any.
+/// Only where memory runs out, and where there are any.
 pub(crate) fn all_missing(
     alloc: Global,
     epoch: i32,
@@ -89,7 +89,7 @@ pub(crate) fn all_missing(
 ///
 /// # Errors
 ///
-/// Only for want of memory.
+/// Only where memory runs out.
 #[tactic(auto, using(crate::proofs::HandedOut::none_of_all))]
 pub(crate) fn all_markers(
     alloc: Global,

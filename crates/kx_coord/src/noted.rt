@@ -59,7 +59,7 @@ fn has_marker(markers: &[AnsweredMarker], held: &Held, partition: PartitionId) -
 }
 
 impl NotedMarkers {
-    /// None. Takes no memory.
+    /// An empty list. Takes no memory.
     pub(crate) fn new(alloc: Global) -> NotedMarkers
         ensures { result ≡ [] }
     {
@@ -83,7 +83,7 @@ impl NotedMarkers {
     ///
     /// # Errors
     ///
-    /// Only for want of memory, and where it wasn't noted before; then they are as before.
+    /// Only where memory runs out, and where it wasn't noted before; then they are as before.
     pub(crate) fn note(
         &mut self,
         txn: TxnId,
@@ -116,7 +116,7 @@ impl NotedMarkers {
     pub(crate) fn forget(&mut self, txn: TxnId)
         ensures { SameAnswered self.new (filter (λ a. not (bytes_eq a.txn txn)) self.old) }
     {
-        // The answers noted of it are let go, if there were any: its row is complete.
+        // The answers noted of it are dropped, if there were any: its row is complete.
         let _ = self.by_txn.swap_remove(&txn);
     }
 

@@ -24,7 +24,7 @@ struct Reopened {
     handed: Vec<Message>,
 }
 
-// The coordinator's epoch behind an entry, where it was this one before.
+// The coordinator's epoch after an entry, where it was this one before.
 fn epoch_after(before: i32, entry: &Entry) -> i32
     ensures { result ≡ model.epoch_after before (note_of entry.now) }
 {
@@ -46,7 +46,7 @@ fn next_epoch(entries: &[Entry]) -> Option<i32>
     last.checked_add(1)
 }
 
-// What is kept of these entries, the epoch of this opening, and the markers that are handed out.
+// What is kept of these entries, the epoch of this opening, and the markers that are sent.
 fn take_up(alloc: Global, entries: &[Entry]) -> Result<Reopened, OpenFault>
     ensures { MatchResult result (IsTaken (map note_of entries.now))
         (TakeFaults (map note_of entries.now)) }
@@ -74,18 +74,20 @@ fn open_fault(fault: AppendFault) -> OpenFault
 }
 
 impl<S: Store> Coordinator<S> {
-    /// Opens the coordinator of a log that a store holds, at this moment in milliseconds, any u64:
+    /// Opens the coordinator of a log that a store holds, at this time in milliseconds, any u64:
     /// its log is read, with what is torn at the end cut off, and the next coordinator epoch, 1 for
-    /// an empty log, is appended. Hands out the markers of every row that waits for them, in order
-    /// of first use. Memory is taken from `alloc`, now and later.
+    /// an empty log, is appended. Sends the markers of every row that waits for them, in order of
+    /// first use. Memory is taken from `alloc`, now and later.
     ///
     /// # Errors
     ///
     /// The store comes back beside the fault: [`OpenFault::Device`] where its device failed,
     /// [`OpenFault::Damaged`] with the place where something else than the next entry begins,
     /// [`OpenFault::UsedUp`] where the log's last coordinator epoch is 2^31 - 1, and
-    /// [`OpenFault::Memory`] for want of memory, which may come in place of damage that stands
+    /// [`OpenFault::Memory`] where memory runs out, which may come in place of damage that stands
     /// further on, but not once a log was read whose epochs are used up.
+    // Out of memory, or epochs used up, may come after the torn tail was cut off; all else is as
+    // before.
     pub fn open(
         alloc: Global,
         store: S,
@@ -117,7 +119,7 @@ impl<S: Store> Coordinator<S> {
         }
     }
 
-    /// Reads the own store again and goes on as [`open`](Coordinator::open) does, at this moment.
+    /// Reads the own store again and goes on as [`open`](Coordinator::open) does, at this time.
     ///
     /// # Errors
     ///

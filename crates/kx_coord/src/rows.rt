@@ -1,6 +1,9 @@
 //! The rows that are written.
+//!
+//! An id with its epoch is borrowed (&Held): a copied struct that is passed on twice is refused by
+//! the toolchain's borrow check.
 ghost use Rattle.std.specs.Prelude.{◌≡◌, ◌+◌, ◌<◌, [], IfOk, List, true, false};
-ghost use Rattle.kx_model.specs.Coordinator.{Note};
+ghost use Rattle.kx_model.specs.Coordinator.{TxnEntry};
 ghost use Rattle.kx_message.specs.Ranges.{spent_epoch};
 ghost use Rattle.kx_model.specs.Requests as model;
 ghost use Rattle.kx_txnlog.specs.Entry.{row_of};
@@ -28,7 +31,7 @@ impl Fresh {
         cause: Cause,
     ) -> Result<Option<Row>, AllocError>
         requires { row.now.epoch < spent_epoch }
-        ensures { IfOk result (λ made. (log : List Note) → IsNextId log self.next
+        ensures { IfOk result (λ made. (log : List TxnEntry) → IsNextId log self.next
             → IsMade (model.prepared log (row_of row.now) outcome (cause_of cause)) made) }
     {
         let is_last = row.epoch == Epoch::LAST;
@@ -92,7 +95,7 @@ impl Fresh {
     /// one. Of a row that is raised nothing is under way.
     pub(crate) fn raised(self, row: &Row, state: State, cause: Cause) -> Option<Row>
         requires { is_settled (state_of state) ≡ true }
-        ensures { (log : List Note) → IsNextId log self.next
+        ensures { (log : List TxnEntry) → IsNextId log self.next
             → IsMade (model.raised log (row_of row.now) (state_of state) (cause_of cause)) result }
     {
         if row.epoch < Epoch::LAST {
@@ -105,7 +108,7 @@ impl Fresh {
 
     /// All markers are answered; after its last transaction an id gives way to the next one.
     pub(crate) fn completed(self, row: &Row, outcome: Outcome) -> Option<Row>
-        ensures { (log : List Note) → IsNextId log self.next
+        ensures { (log : List TxnEntry) → IsNextId log self.next
             → IsMade (model.completed log (row_of row.now) outcome) result }
     {
         let ended = (State::Complete(outcome), Cause::Markers);
@@ -121,7 +124,7 @@ impl Fresh {
 
     /// The first row of a transactional id.
     pub(crate) fn first_use(self, client: ClientId, txn: TxnId, timeout: Timeout) -> Option<Row>
-        ensures { (log : List Note) → IsNextId log self.next
+        ensures { (log : List TxnEntry) → IsNextId log self.next
             → IsMade (model.first_use log client txn timeout) result }
     {
         let id = self.next?;
@@ -142,7 +145,7 @@ impl Fresh {
 }
 
 /// The row with a partition listed last, unless it lists it, in a transaction that began at this
-/// moment.
+/// time.
 pub(crate) fn added(row: &Row, partition: PartitionId, start: u64) -> Result<Row, AllocError>
     requires { row.now.epoch < spent_epoch }
     ensures { IfOk result (λ made.

@@ -86,12 +86,12 @@ impl<S: Store> Coordinator<S> {
     }
 
     /// A partition answers a marker of the transaction that ends with this id and epoch. Where it
-    /// is the last one of its row, the row is complete. Hands out nothing.
+    /// is the last one of its row, the row is complete. Sends nothing.
     ///
     /// # Errors
     ///
-    /// Only for want of memory, and where the reply is noted for the first time, or completes its
-    /// row and the coordinator isn't closed; then the coordinator is as before.
+    /// Only where memory runs out, and where the reply is noted for the first time, or completes
+    /// its row and the coordinator isn't closed; then the coordinator is as before.
     pub fn marker_reply(&mut self, reply: MarkerReply) -> Result<Vec<Message>, AllocError>
         ensures settles { MatchResult result
             (λ handed. Settles self.old self.new

@@ -3,7 +3,7 @@ ghost use Rattle.std.specs.Prelude.{◌≡◌, ◌<◌, ◌≤◌, ◌++◌, [],
 ghost use Rattle.std.specs.Prelude.{MatchOption, Some, None};
 ghost use Rattle.indexmap.specs.IndexMap.{spare};
 ghost use Rattle.kx_model.specs.Coordinator as model;
-ghost use Rattle.kx_model.specs.Coordinator.{Note};
+ghost use Rattle.kx_model.specs.Coordinator.{TxnEntry};
 ghost use Rattle.kx_model.specs.CoordinatorNode.{id_limit};
 ghost use Rattle.kx_txnlog.specs.Entry.{note_of, row_of};
 ghost use Rattle.kx_coord.specs.Internal.Answers.{IsNextId};
@@ -62,7 +62,7 @@ impl Table {
     ///
     /// # Errors
     ///
-    /// Only for want of memory.
+    /// Only where memory runs out.
     pub(crate) fn of_entries(alloc: Global, entries: &[Entry]) -> Result<Table, AllocError>
         ensures { IfOk result (λ table.
             Follows (map note_of entries.now) table.rows.entries table.next_id table.epoch) }
@@ -83,11 +83,11 @@ impl Table {
         *self = table;
     }
 
-    /// Makes room for one more row, so that the next note meets no want of memory.
+    /// Makes room for one more row, so that the next note asks for no memory.
     ///
     /// # Errors
     ///
-    /// Only for want of memory.
+    /// Only where memory runs out.
     pub(crate) fn reserve(&mut self) -> Result<(), AllocError>
         ensures same { self.new.rows.entries ≡ self.old.rows.entries }
         ensures next { self.new.next_id ≡ self.old.next_id }
@@ -103,7 +103,7 @@ impl Table {
         requires room { 0 < spare self.old.rows }
         requires above { above ≡ model.above_ids (note_of entry) }
         requires most { above ≤ id_limit }
-        ensures { (log : List Note)
+        ensures { (log : List TxnEntry)
             → Follows log self.old.rows.entries self.old.next_id self.old.epoch
             → Follows (log ++ note_of entry ∷ [])
             self.new.rows.entries self.new.next_id self.new.epoch }
@@ -116,7 +116,7 @@ impl Table {
             Entry::Allot(_) => {}
             Entry::Row(row) => {
                 let txn = row.txn;
-                // The id's row before this one is let go, if it had one: the last one counts.
+                // The id's row before this one is dropped, if it had one: the last one counts.
                 let _ = self.rows.insert(txn, row).unwrap();
             }
         }
@@ -124,7 +124,7 @@ impl Table {
 
     /// The row of a transactional id.
     pub(crate) fn row(&self, txn: TxnId) -> Option<&Row>
-        ensures { (log : List Note)
+        ensures { (log : List TxnEntry)
             → Follows log self.now.rows.entries self.now.next_id self.now.epoch
             → MatchOption result (model.row_of log txn ≡ None)
             (λ row. model.row_of log txn ≡ Some (row_of row.now)) }
@@ -134,7 +134,7 @@ impl Table {
 
     /// The row of each transactional id, in order of first use.
     pub(crate) fn rows(&self) -> &[Row]
-        ensures { (log : List Note)
+        ensures { (log : List TxnEntry)
             → Follows log self.now.rows.entries self.now.next_id self.now.epoch
             → map row_of result.now ≡ model.rows log }
     {
@@ -143,7 +143,7 @@ impl Table {
 
     /// The next id, where one is left.
     pub(crate) fn next_id(&self) -> Option<ProducerId>
-        ensures { (log : List Note)
+        ensures { (log : List TxnEntry)
             → Follows log self.now.rows.entries self.now.next_id self.now.epoch
             → IsNextId log result }
     {

@@ -8,13 +8,13 @@ use Rattle.std.proofs.lemmas.List.{append-nil}
 use Rattle.kx_log.specs.Opening.{OpenFailed}
 use Rattle.kx_log.specs.Store.{MayAppend, MayLeave, StoreState}
 use Rattle.kx_machine.specs.Meaning.{AtClient, AtCoordinator, AtPartition, AtProcessor, of_kind}
-use Rattle.kx_machine.specs.Meaning.{taken_of}
+use Rattle.kx_machine.specs.Meaning.{appended_bytes, entry_bytes, note_bytes, taken_of}
 use Rattle.kx_machine.specs.declared.taken.Closing.TheVariants.{Read, Write}
 use Rattle.kx_machine.specs.declared.taken.Note as answer
 use Rattle.kx_machine.specs.declared.taken.Note.TheVariants as note
 use Rattle.kx_machine.specs.declared.taken.Taken.{Taken}
 use Rattle.kx_message.specs.declared.message.Message.{Message}
-use Rattle.kx_model.specs.Coordinator.{Note, CoordinatorEpoch, coordinator_epoch}
+use Rattle.kx_model.specs.Coordinator.{TxnEntry, CoordinatorEpoch, coordinator_epoch}
 use Rattle.kx_model.specs.CoordinatorNode.{Coordinator, new_coordinator, opened, opens}
 use Rattle.kx_model.specs.Disk.{Store, Works, Fails, CannotLoad, CannotWrite}
 use Rattle.kx_model.specs.Disk.{Reopens, reread}
@@ -35,17 +35,18 @@ use Rattle.kx_coord.specs.Noted.{SameAnswered}
 use Rattle.kx_coord_node.specs.Stands.{Keeps, RunsAs, Stands, Takes, opened_coordinator}
 use Rattle.kx_coord_node.proofs.Logs.{read_as}
 use Rattle.kx_coord_node.proofs.Steps.{stored_left, stored_whole}
-use Rattle.kx_coord_node.proofs.Stores.{entry_size, left, readable, reopened, unread}
+use Rattle.kx_coord_node.proofs.Stores.{entry_size, left, none_appended, readable, reopened}
+use Rattle.kx_coord_node.proofs.Stores.{unread}
 use Rattle.kx_coord_node.proofs.Taking.{at_coordinator, never_both}
 
 ------ what is read again
 
 -- what a restart reads is what the definitions' does
-read_same : (co : Coordinator) (old : CoordinatorState) (store : StoreState) (notes : List Note)
+read_same : (co : Coordinator) (old : CoordinatorState) (store : StoreState) (notes : List TxnEntry)
     → RunsAs co old → IsOpened old.log.store store notes → notes ≡ reread co.disk
 read_same co old store notes runs opened = opened.notes_are.notes_are ∙ runs.stored.notes_are
 
-holds_read : (old new : StoreState) (notes : List Note) → IsOpened old new notes
+holds_read : (old new : StoreState) (notes : List TxnEntry) → IsOpened old new notes
     → Holds new.bytes notes
 holds_read old new notes opened =
     subst (λ (bytes : List ℕ). Holds bytes notes)
@@ -59,7 +60,7 @@ none_answered xs none =
     })
 
 -- it is as before, with what is torn at the end of its store cut off
-cut_to : (co : Coordinator) (old new : CoordinatorState) (notes : List Note) → RunsAs co old
+cut_to : (co : Coordinator) (old new : CoordinatorState) (notes : List TxnEntry) → RunsAs co old
     → IsOpened old.log.store new.log.store notes → new ≡ on_store old new.log.store
     → RunsAs co new
 cut_to co old new notes runs opened rest =
@@ -80,19 +81,19 @@ cut_to co old new notes runs opened rest =
 
 ------ it is open again
 
-found_one : (kept : List Note) (hidden : Option Note) (note : Note)
+found_one : (kept : List TxnEntry) (hidden : Option TxnEntry) (note : TxnEntry)
     → nat_lt 1 (length ((kept ++ option_to_list hidden) ++ note ∷ []) - length kept)
     ≡ is_some hidden
 found_one kept None note = grind (arith, nat_tests, length-append)
 found_one kept (Some x) note = grind (arith, nat_tests, length-append)
 
 -- it has what was read, and the entry of its opening
-runs_open : (store : StoreState) (log : List Note) (now : ℕ) (new : CoordinatorState)
+runs_open : (store : StoreState) (log : List TxnEntry) (now : ℕ) (new : CoordinatorState)
     (handed : List Message) → (o : IsOpen store now new handed) → o.read.notes ≡ log
     → RunsAs (opened log now o.note Reopens).0 new
 runs_open store log now new handed o same =
     let more : o.read.notes ++ o.note ∷ [] ≡ log ++ o.note ∷ [] =
-    ap (λ (ns : List Note). ns ++ o.note ∷ []) same in
+    ap (λ (ns : List TxnEntry). ns ++ o.note ∷ []) same in
     record {
       notes = ap (λ (l : LogState). l.notes) o.log.rest ∙ more;
       closed = ap (λ (l : LogState). l.closed) o.log.rest ∙ o.reads.not_closed;
@@ -111,16 +112,16 @@ pub stands_open : (store : StoreState) (now : ℕ) (new : CoordinatorState) (han
 stands_open store now new handed o =
     let notes : new.log.notes ≡ o.read.notes ++ o.note ∷ [] =
     ap (λ (l : LogState). l.notes) o.log.rest in
-    subst (λ (log : List Note). RunsAs (opened_coordinator log now) new) (sym notes)
+    subst (λ (log : List TxnEntry). RunsAs (opened_coordinator log now) new) (sym notes)
     (runs_open store o.read.notes now new handed o refl)
 
 -- an empty store is read as an empty log, whose opening has the first epoch
-no_notes : (bytes : List ℕ) (len : ℕ) (notes : List Note) → AreIn bytes len notes → bytes ≡ []
+no_notes : (bytes : List ℕ) (len : ℕ) (notes : List TxnEntry) → AreIn bytes len notes → bytes ≡ []
     → notes ≡ []
 unfolding notes_from
 no_notes bytes len notes are none = are.notes_are ∙ ap (λ b. (notes_in b).notes) none
 
-first_epoch : (note : Note) → reopen [] ≡ Some note → note ≡ CoordinatorEpoch (pos 1)
+first_epoch : (note : TxnEntry) → reopen [] ≡ Some note → note ≡ CoordinatorEpoch (pos 1)
 unfolding coordinator_epoch
 first_epoch note e =
     let first : Some (CoordinatorEpoch (pos 1)) ≡ Some note = e in
@@ -132,14 +133,14 @@ made_open store new handed o none =
     let opened_so = o.reads.opened in
     let empty = no_notes store.bytes opened_so.len o.read.notes opened_so.notes_are none in
     let first = first_epoch o.note (ap reopen (sym empty) ∙ o.reads.next) in
-    subst (λ (note : Note). RunsAs (opened [] 0 note Reopens).0 new) first
+    subst (λ (note : TxnEntry). RunsAs (opened [] 0 note Reopens).0 new) first
     (runs_open store [] 0 new handed o empty)
 
-reopens_step : (co : Coordinator) (now : ℕ) (note : Note) → reopen (reread co.disk) ≡ Some note
+reopens_step : (co : Coordinator) (now : ℕ) (note : TxnEntry) → reopen (reread co.disk) ≡ Some note
     → coordinator_step co Works (Restarts now)
     ≡ coordinates (opened (reread co.disk) now note Reopens) Done
 reopens_step co now note e =
-    ap (λ (o : Option Note). coordinates (opens co now Reopens o)
+    ap (λ (o : Option TxnEntry). coordinates (opens co now Reopens o)
     (if is_none o then RunsOut else Done)) e
 
 abbrev answer_at : Coordinator → ℕ → NodeStep Coordinator → Taken
@@ -172,11 +173,12 @@ takes_open old new now handed t o is =
     let same = read_same co old o.read.store o.read.notes runs opened_so in
     let step = reopens_step co now o.note (ap reopen (sym same) ∙ o.reads.next) in
     let runs_now = runs_open old.log.store (reread co.disk) now new handed o same in
-    let log : List Note = reread co.disk ++ o.note ∷ [] in
+    let log : List TxnEntry = reread co.disk ++ o.note ∷ [] in
     let notes : new.log.notes ≡ log = runs_now.notes in
     record {
       store = Works;
       allowed = reopened old.log.store.appends old.log.store.loads
+          (entry_bytes (AtCoordinator co) (Restarts now))
           (subst (λ (s : StoreState). MayAppend s.appends) opened_so.store o.log.store.may)
           opened_so.may;
       stands = subst (λ (s : NodeStep Coordinator). RunsAs s.state new) (sym step) runs_now;
@@ -185,8 +187,8 @@ takes_open old new now handed t o is =
           (nat_lt 1 (length new.log.notes - length old.log.notes)))
           (o.handed ∙ ap all_markers notes)
           ∙ ap (λ (found : Bool). restarted (all_markers log) note.Done false found)
-          (ap (λ (ns : List Note). nat_lt 1 (length ns - length old.log.notes)) notes
-          ∙ ap (λ (ns : List Note). nat_lt 1 (length log - length ns)) runs.notes
+          (ap (λ (ns : List TxnEntry). nat_lt 1 (length ns - length old.log.notes)) notes
+          ∙ ap (λ (ns : List TxnEntry). nat_lt 1 (length log - length ns)) runs.notes
           ∙ found_one co.disk.kept co.disk.hidden o.note)
           ∙ ap (λ (failed : Bool). restarted (all_markers log) note.Done failed
           (is_some co.disk.hidden)) (sym (never_open co.disk.closed))
@@ -195,17 +197,17 @@ takes_open old new now handed t o is =
 
 ------ its epoch couldn't be written
 
-found_behind : (kept : List Note) (hidden : Option Note)
+found_behind : (kept : List TxnEntry) (hidden : Option TxnEntry)
     → nat_lt 0 (length (kept ++ option_to_list hidden) - length kept) ≡ is_some hidden
 found_behind kept None = grind (arith, nat_tests, length-append)
 found_behind kept (Some x) = grind (arith, nat_tests, length-append)
 
-unwritten_step : (co : Coordinator) (now : ℕ) (whole : Bool) (note : Note)
+unwritten_step : (co : Coordinator) (now : ℕ) (whole : Bool) (note : TxnEntry)
     → reopen (reread co.disk) ≡ Some note
     → coordinator_step co (Fails whole) (Restarts now)
     ≡ coordinates (opened (reread co.disk) now note (CannotWrite whole)) Unwritten
 unwritten_step co now whole note e =
-    ap (λ (o : Option Note). coordinates (opens co now (CannotWrite whole) o)
+    ap (λ (o : Option TxnEntry). coordinates (opens co now (CannotWrite whole) o)
     (if is_none o then RunsOut else Unwritten)) e
 
 pub takes_unwritten : (old new : CoordinatorState) (now : ℕ) (t : Taken)
@@ -224,7 +226,13 @@ takes_unwritten old new now t b is =
     ap reopen (sym same) ∙ b.reads.next in
     let kept = b.log.store.kept in
     let whole = kept == length (entry_text b.note) in
-    let step = unwritten_step co now whole b.note next in
+    let each : (all : Bool) → coordinator_step co (Fails all) (Restarts now)
+    ≡ coordinates (opened (reread co.disk) now b.note (CannotWrite all)) Unwritten =
+    λ all. unwritten_step co now all b.note next in
+    let step = each whole in
+    let entry : entry_bytes (AtCoordinator co) (Restarts now) ≡ Some (length (entry_text b.note)) =
+    λ i. appended_bytes (note_bytes (each false i).state.disk.hidden)
+    (note_bytes (each true i).state.disk.hidden) in
     let notes : new.log.notes ≡ reread co.disk =
     ap (λ (l : LogState). l.notes) b.log.rest ∙ same in
     let behind = option_to_list (if whole then Some b.note else None) in
@@ -235,7 +243,7 @@ takes_unwritten old new now t b is =
       clock = b.clock;
       answered = none_answered new.answered b.answered;
       stored = read_as new.log.store.bytes new.log.store.bytes (b.read.notes ++ behind)
-          (reread co.disk ++ behind) refl (ap (λ (ns : List Note). ns ++ behind) same)
+          (reread co.disk ++ behind) refl (ap (λ (ns : List TxnEntry). ns ++ behind) same)
           (stored_left b.read new.log b.note
           (holds_read old.log.store b.read.store b.read.notes opened_so) b.log);
       behind = λ e. let no : true ≡ false = e in absurd cc;
@@ -243,13 +251,14 @@ takes_unwritten old new now t b is =
     record {
       store = Fails whole;
       allowed = left old.log.store.appends old.log.store.loads kept (length (entry_text b.note))
+          (entry_bytes (AtCoordinator co) (Restarts now)) entry
           (subst (λ (s : StoreState). MayLeave s.appends (length (entry_text b.note)) kept)
           opened_so.store b.log.store.may) size.0 size.1;
       stands = subst (λ (s : NodeStep Coordinator). RunsAs s.state new) (sym step) runs_now;
       answer = is
           ∙ ap (λ (found : Bool). restarted [] (note.Closed Write) true found)
-          (ap (λ (ns : List Note). nat_lt 0 (length ns - length old.log.notes)) notes
-          ∙ ap (λ (ns : List Note). nat_lt 0 (length (reread co.disk) - length ns)) runs.notes
+          (ap (λ (ns : List TxnEntry). nat_lt 0 (length ns - length old.log.notes)) notes
+          ∙ ap (λ (ns : List TxnEntry). nat_lt 0 (length (reread co.disk) - length ns)) runs.notes
           ∙ found_behind co.disk.kept co.disk.hidden)
           ∙ sym (ap (answer_at co now) step);
     })
@@ -270,7 +279,8 @@ pub takes_unread : (old new : CoordinatorState) (now : ℕ) (t : Taken)
 takes_unread old new now t failed rest is =
     at_coordinator (Restarts now) old new t (λ co runs. record {
       store = CannotLoad;
-      allowed = unread old.log.store.appends old.log.store.loads failed.may;
+      allowed = unread old.log.store.appends old.log.store.loads
+          (entry_bytes (AtCoordinator co) (Restarts now)) failed.may;
       stands = record {
         notes = ap (λ (c : CoordinatorState). c.log.notes) rest ∙ runs.notes;
         closed = ap (λ (c : CoordinatorState). c.log.closed) rest;
@@ -305,10 +315,10 @@ runs_out_step : (co : Coordinator) (now : ℕ) (store : Store) → reopen (rerea
     → (store ≡ CannotLoad → ⊥)
     → coordinator_step co store (Restarts now) ≡ coordinates (co, []) RunsOut
 runs_out_step co now Works e reads =
-    ap (λ (o : Option Note). coordinates (opens co now Reopens o)
+    ap (λ (o : Option TxnEntry). coordinates (opens co now Reopens o)
     (if is_none o then RunsOut else Done)) e
 runs_out_step co now (Fails whole) e reads =
-    ap (λ (o : Option Note). coordinates (opens co now (CannotWrite whole) o)
+    ap (λ (o : Option TxnEntry). coordinates (opens co now (CannotWrite whole) o)
     (if is_none o then RunsOut else Unwritten)) e
 runs_out_step co now CannotLoad e reads = absurd (reads refl)
 
@@ -318,9 +328,14 @@ pub takes_used_up : (old new : CoordinatorState) (now : ℕ) (t : Taken)
     → Takes (Restarts now) old new t
 takes_used_up old new now t out rest is =
     at_coordinator (Restarts now) old new t (λ co runs.
-    let s = readable old.log.store.appends old.log.store.loads out.opened.may in
     let last : reopen (reread co.disk) ≡ None =
     ap reopen (sym (read_same co old new.log.store out.notes runs out.opened)) ∙ out.last in
+    let none : entry_bytes (AtCoordinator co) (Restarts now) ≡ None =
+    none_appended (λ store. (coordinator_step co store (Restarts now)).state) co.disk.hidden
+    (λ whole. ap (λ (x : NodeStep Coordinator). x.state.disk.hidden)
+    (runs_out_step co now (Fails whole) last (λ e. absurd cc))) in
+    let s = readable old.log.store.appends old.log.store.loads
+    (entry_bytes (AtCoordinator co) (Restarts now)) none out.opened.may in
     let step = runs_out_step co now s.0 last s.2 in
     record {
       store = s.0;

@@ -10,7 +10,8 @@ use Rattle.std.proofs.lemmas.List.Folds.{list_any-append}
 use Rattle.std.proofs.lemmas.Map.Views.{any-filter_same}
 use Rattle.std.proofs.lemmas.Slice.Eq.{bytes_eq-Decides}
 use Rattle.kx_message.specs.declared.message.Message.{Message}
-use Rattle.kx_model.specs.Coordinator.{Note, Row, State, Empty, Ongoing, Prepare, Complete, lists}
+use Rattle.kx_model.specs.Coordinator.{TxnEntry, Row, State, Empty, Ongoing, Prepare, Complete}
+use Rattle.kx_model.specs.Coordinator.{lists}
 use Rattle.kx_model.specs.Coordinator.{coordinator_epoch, row_of, rows}
 use Rattle.kx_model.specs.Markers.{Answered, Completes, Ignored, Noted, answered_at}
 use Rattle.kx_model.specs.Markers.{is_answered, markers_of, missing_of, noting, remind}
@@ -70,7 +71,8 @@ all_agree p q same [] = refl
 all_agree p q same (x ∷ xs) =
     ap (λ b. b && list_all p xs) (same x) ∙ ap (λ b. q x && b) (all_agree p q same xs)
 
-settle_in_same : (log : List Note) (xs ys : List Answered) (a : Answered) (r : Row) (state : State)
+settle_in_same : (log : List TxnEntry) (xs ys : List Answered) (a : Answered) (r : Row)
+    (state : State)
     → Same xs ys → settle_in log xs a r state ≡ settle_in log ys a r state
 settle_in_same log xs ys a r Empty same = refl
 settle_in_same log xs ys a r Ongoing same = refl
@@ -81,13 +83,13 @@ settle_in_same log xs ys a r (Prepare outcome) same =
     (λ p. same_noting xs ys a same (answered_at r p)) r.partitions)
 settle_in_same log xs ys a r (Complete outcome) same = refl
 
-settle_at_same : (log : List Note) (xs ys : List Answered) (a : Answered) (o : Option Row)
+settle_at_same : (log : List TxnEntry) (xs ys : List Answered) (a : Answered) (o : Option Row)
     → Same xs ys → settle_at log xs a o ≡ settle_at log ys a o
 settle_at_same log xs ys a None same = refl
 settle_at_same log xs ys a (Some r) same = settle_in_same log xs ys a r r.state same
 
 -- a marker's reply brings about the same
-pub settle_same : (log : List Note) (xs ys : List Answered) (a : Answered) → Same xs ys
+pub settle_same : (log : List TxnEntry) (xs ys : List Answered) (a : Answered) → Same xs ys
     → settle log xs a ≡ settle log ys a
 settle_same log xs ys a same = settle_at_same log xs ys a (row_of log a.txn) same
 
@@ -106,7 +108,7 @@ flat_agree f g same (r ∷ rs) =
     ∙ ap (λ ms. g r ++ ms) (flat_agree f g same rs) ∙ sym (flat_map-cons g r rs)
 
 -- the same markers are handed out again
-pub remind_same : (log : List Note) (xs ys : List Answered) → Same xs ys
+pub remind_same : (log : List TxnEntry) (xs ys : List Answered) → Same xs ys
     → remind log xs ≡ remind log ys
 remind_same log xs ys same =
     flat_agree (missing_of (coordinator_epoch log) xs) (missing_of (coordinator_epoch log) ys)

@@ -5,7 +5,8 @@ use Rattle.std.specs.Prelude.{◌==◌, ◌&&◌, if◌then◌else◌}
 use Rattle.std.specs.List.{list_all}
 use Rattle.kx_message.specs.declared.code.ErrorCode.{ErrorCode}
 use Rattle.kx_message.specs.declared.code.ErrorCode.TheVariants as code
-use Rattle.kx_model.specs.Coordinator.{Note, Row, State, Empty, Ongoing, Prepare, Complete, Written}
+use Rattle.kx_model.specs.Coordinator.{TxnEntry, Row, State, Empty, Ongoing, Prepare, Complete}
+use Rattle.kx_model.specs.Coordinator.{Written}
 use Rattle.kx_model.specs.Coordinator.{coordinator_epoch, lists, row_of}
 use Rattle.kx_model.specs.CoordinatorNode.{Coordinator, completes, notes_of}
 use Rattle.kx_model.specs.CoordinatorNode.{on_marker_reply, on_settled, writes}
@@ -22,7 +23,7 @@ use Rattle.kx_coord_node.specs.Stands.{ReadAs, RunsAs}
 use Rattle.kx_coord_node.proofs.Same.{same_noting, same_without, settle_same}
 use Rattle.kx_coord_node.proofs.Steps.{Does, IsHeld, Writes, appends, lacks_id, rests}
 use Rattle.kx_coord_node.proofs.Steps.{written_not}
-use Rattle.kx_coord_node.proofs.Stores.{some_store}
+use Rattle.kx_coord_node.proofs.Stores.{bytes_in, none_appended, some_store}
 
 ------ a row that is complete owes nothing
 
@@ -38,7 +39,7 @@ quiet_if true true row none = none
 quiet_if true false row none = tt
 quiet_if false c row none = tt
 
-quiet_in : (log : List Note) (answered : List Answered) (a : Answered) (r : Row) (state : State)
+quiet_in : (log : List TxnEntry) (answered : List Answered) (a : Answered) (r : Row) (state : State)
     → Quiet (settle_in log answered a r state)
 quiet_in log answered a r Empty = tt
 quiet_in log answered a r Ongoing = tt
@@ -48,12 +49,13 @@ quiet_in log answered a r (Prepare outcome) =
     (λ epoch. refl)
 quiet_in log answered a r (Complete outcome) = tt
 
-quiet_at : (log : List Note) (answered : List Answered) (a : Answered) (o : Option Row)
+quiet_at : (log : List TxnEntry) (answered : List Answered) (a : Answered) (o : Option Row)
     → Quiet (settle_at log answered a o)
 quiet_at log answered a None = tt
 quiet_at log answered a (Some r) = quiet_in log answered a r r.state
 
-quiet : (log : List Note) (answered : List Answered) (a : Answered) → Quiet (settle log answered a)
+quiet : (log : List TxnEntry) (answered : List Answered) (a : Answered) → Quiet
+    (settle log answered a)
 quiet log answered a = quiet_at log answered a (row_of log a.txn)
 
 ------ completing a row
@@ -122,7 +124,9 @@ settles_by : (co : Coordinator) (old new : CoordinatorState) (a : Answered) (s :
 settles_by co old new a Ignored none runs holds same =
     rests co old new [] [] (λ store. on_settled co store a Ignored) runs same refl (λ store. refl)
 settles_by co old new a Noted none runs holds noted =
-    let s = some_store old.log.store.appends old.log.store.loads in
+    let after = record co { answered = noting co.answered a } in
+    let s = some_store old.log.store.appends old.log.store.loads (bytes_in (λ store. after))
+    (none_appended (λ store. after) co.disk.hidden (λ whole. refl)) in
     let same : SameAnswered new.answered (noting co.answered a) = record {
       same = λ b. noted.0.same b
           ∙ same_noting old.answered co.answered a runs.answered.same b;
@@ -143,7 +147,7 @@ pub settles : (co : Coordinator) (old new : CoordinatorState) (a : Answered) (c 
     → Does (λ store. on_marker_reply co store a c) old new []
 settles co old new a code.NoError runs holds s =
     let here : settle old.log.notes old.answered a ≡ settle (notes_of co) co.answered a =
-    ap (λ (log : List Note). settle log old.answered a) runs.notes
+    ap (λ (log : List TxnEntry). settle log old.answered a) runs.notes
     ∙ settle_same (notes_of co) old.answered co.answered a runs.answered.same in
     settles_by co old new a (settle (notes_of co) co.answered a)
     (quiet (notes_of co) co.answered a) runs holds

@@ -1,5 +1,6 @@
 -- Inputs that open nothing again: what the machine answers to them.
 use Rattle.std.proofs.Common.{◌≡◌, ◌∙◌, ℕ, Bool, true, false, not, List, [], refl, sym, ap, subst}
+use Rattle.std.proofs.Common.{Option}
 use Rattle.std.specs.Prelude.{◌&&◌}
 use Rattle.kx_message.specs.Messages as the
 use Rattle.kx_message.specs.declared.message.Message.{Message}
@@ -9,13 +10,13 @@ use Rattle.kx_message.specs.declared.requests.EndTxn.{EndTxn}
 use Rattle.kx_message.specs.declared.requests.InitProducerId.{InitProducerId}
 use Rattle.kx_message.specs.declared.replies.MarkerReply.{MarkerReply}
 use Rattle.kx_machine.specs.Meaning.{AtCoordinator, AtPartition, AtClient, AtProcessor, IsTaken}
-use Rattle.kx_machine.specs.Meaning.{finds, of_kind, taken_of}
+use Rattle.kx_machine.specs.Meaning.{appended_bytes, finds, note_bytes, of_kind, taken_of}
 use Rattle.kx_machine.specs.declared.taken.Note.TheVariants as note
 use Rattle.kx_machine.specs.declared.taken.Taken.{Taken}
-use Rattle.kx_model.specs.Coordinator.{Note}
+use Rattle.kx_model.specs.Coordinator.{TxnEntry}
 use Rattle.kx_model.specs.CoordinatorNode.{Coordinated, Coordinator, coordinator_takes, expires}
 use Rattle.kx_model.specs.CoordinatorNode.{notes_of, reminds}
-use Rattle.kx_model.specs.Disk.{Store}
+use Rattle.kx_model.specs.Disk.{Store, Fails}
 use Rattle.kx_model.specs.Markers.{remind}
 use Rattle.kx_model.specs.Requests.{add, end_txn, init}
 use Rattle.kx_model.specs.Step.{Input, Comes, Expires, Reminds, NodeStep, Done, coordinates}
@@ -80,7 +81,9 @@ taken co old new input step handed t runs steps none does is =
     let before = AtCoordinator co in
     record {
       store = store;
-      allowed = does.allowed;
+      allowed = subst (λ (z : Option ℕ). MayDo old z store)
+          (sym (λ i. appended_bytes (note_bytes (steps (Fails false) i).state.disk.hidden)
+          (note_bytes (steps (Fails true) i).state.disk.hidden))) does.allowed;
       stands = subst (λ (s : NodeStep Coordinator). RunsAs s.state new) (sym (steps store))
           does.stands;
       answer = is
@@ -120,7 +123,7 @@ takes_init old new it handed t holds r is =
     (λ store. coordinator_takes co store (msg.InitProducerId it)) handed t runs (λ store. refl) refl
     (responds co old new (init (notes_of co) it.caller.client it.txn it.timeout)
     (the.InitReply it.caller) handed runs holds
-    (subst (λ (ns : List Note). Responds old new (init ns it.caller.client it.txn it.timeout)
+    (subst (λ (ns : List TxnEntry). Responds old new (init ns it.caller.client it.txn it.timeout)
     (the.InitReply it.caller) handed) runs.notes r)) is)
 
 pub takes_end : (old new : CoordinatorState) (it : EndTxn) (handed : List Message)
@@ -134,7 +137,7 @@ takes_end old new it handed t holds r is =
     (λ store. coordinator_takes co store (msg.EndTxn it)) handed t runs (λ store. refl) refl
     (responds co old new (end_txn (notes_of co) it.txn it.held it.outcome)
     (the.EndReply it.caller) handed runs holds
-    (subst (λ (ns : List Note). Responds old new (end_txn ns it.txn it.held it.outcome)
+    (subst (λ (ns : List TxnEntry). Responds old new (end_txn ns it.txn it.held it.outcome)
     (the.EndReply it.caller) handed) runs.notes r)) is)
 
 pub takes_add : (old new : CoordinatorState) (it : AddPartition) (handed : List Message)
@@ -148,7 +151,7 @@ takes_add old new it handed t holds r is =
     (λ store. coordinator_takes co store (msg.AddPartition it)) handed t runs (λ store. refl) refl
     (responds co old new (add (notes_of co) co.clock it.txn it.held it.partition)
     (λ code after. the.AddReply it.partition it.txn it.held code) handed runs holds
-    (subst (λ (ns : List Note). Responds old new (add ns co.clock it.txn it.held it.partition)
+    (subst (λ (ns : List TxnEntry). Responds old new (add ns co.clock it.txn it.held it.partition)
     (λ code after. the.AddReply it.partition it.txn it.held code) handed) runs.notes
     (subst (λ (now : ℕ). Responds old new (add old.log.notes now it.txn it.held it.partition)
     (λ code after. the.AddReply it.partition it.txn it.held code) handed) runs.clock r))) is)
@@ -183,7 +186,7 @@ takes_reminder old handed t handed_is is =
     at_coordinator Reminds old old t (λ co runs.
     taken co old old Reminds (λ store. reminds co) handed t runs (λ store. refl) refl
     (rests co old old handed (remind (notes_of co) co.answered) (λ store. reminds co) runs refl
-    (handed_is ∙ ap (λ (log : List Note). remind log old.answered) runs.notes
+    (handed_is ∙ ap (λ (log : List TxnEntry). remind log old.answered) runs.notes
     ∙ remind_same (notes_of co) old.answered co.answered runs.answered.same)
     (λ store. refl)) is)
 

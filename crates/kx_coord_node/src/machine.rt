@@ -33,9 +33,9 @@ impl<S: Store> Model for CoordinatorMachine<S> {
 }
 
 impl<S: Store> CoordinatorMachine<S> {
-    /// The coordinator of the log that a store holds, opened at this moment in milliseconds, any
-    /// u64, as [`Coordinator::open`] does, and the markers that it hands out. Memory is taken from
-    /// `alloc`, now and later.
+    /// The coordinator of the log that a store holds, opened at this time in milliseconds, any u64,
+    /// as [`Coordinator::open`] does, and the markers that it sends. Memory is taken from `alloc`,
+    /// now and later.
     ///
     /// # Errors
     ///
@@ -56,9 +56,9 @@ impl<S: Store> CoordinatorMachine<S> {
         Ok((machine, Messages::from_vec(handed)))
     }
 
-    /// The coordinator of the log that a store holds, [opened](CoordinatorMachine::open) at moment
-    /// 0. The log of an empty store then has one entry, the first coordinator epoch, and no markers
-    /// go out; those of another log go out with the next reminder.
+    /// The coordinator of the log that a store holds, [opened](CoordinatorMachine::open) at time 0.
+    /// The log of an empty store then has one entry, the first coordinator epoch, and no markers go
+    /// out; those of another log go out with the next reminder.
     ///
     /// # Errors
     ///
@@ -75,7 +75,7 @@ impl<S: Store> CoordinatorMachine<S> {
         Ok(machine)
     }
 
-    /// The coordinator, lent.
+    /// The coordinator, borrowed.
     pub fn coordinator(&self) -> &Coordinator<S>
         ensures { result.now ≡ self.now }
     {
@@ -186,7 +186,7 @@ impl<S: Store> CoordinatorMachine<S> {
         }
     }
 
-    // It is this moment.
+    // It is this time.
     fn expire(&mut self, now: u64) -> Result<Taken, AllocError>
         ensures { MatchResult result (Takes (Expires now) self.old self.new)
             (λ refused. self.new ≡ self.old) }
@@ -196,7 +196,7 @@ impl<S: Store> CoordinatorMachine<S> {
         Ok(self.answer(was_closed, messages))
     }
 
-    // It hands out again the markers that weren't answered.
+    // It sends again the markers that weren't answered.
     fn remind(&self) -> Result<Taken, AllocError>
         ensures { IfOk result (Takes Reminds self.now self.now) }
     {
@@ -229,7 +229,7 @@ impl<S: Store> CoordinatorMachine<S> {
         }
     }
 
-    // It is opened again, at this moment. A restart appends one entry, and finds one more where an
+    // It is opened again, at this time. A restart appends one entry, and finds one more where an
     // append that had failed left the whole of its entry.
     fn restart(&mut self, now: u64) -> Result<Taken, AllocError>
         ensures { MatchResult result (Takes (Restarts now) self.old self.new)

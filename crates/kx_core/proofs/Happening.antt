@@ -8,7 +8,8 @@ use Rattle.kx_client_node.specs.Clients.{client_of}
 use Rattle.kx_core.specs.Internal.{is_message}
 use Rattle.kx_core.specs.World as running
 use Rattle.kx_core.specs.World.{IsHandedIn, Nodes, Occurs, StandForAll, after_turn, fails_in}
-use Rattle.kx_core.specs.World.{handed_in, is_closed, place_of, store_fails}
+use Rattle.kx_core.specs.World.{bytes_at, bytes_delivered, bytes_handed, handed_in, is_closed}
+use Rattle.kx_core.specs.World.{place_of, store_fails}
 use Rattle.kx_client_node.specs.declared.any_client.AnyClient.{AnyClient}
 use Rattle.kx_client_node.specs.declared.any_client.AnyClient.TheVariants as any
 use Rattle.kx_core.specs.declared.event.Event as happening
@@ -16,36 +17,39 @@ use Rattle.kx_core.specs.declared.event.Event.TheVariants as event
 use Rattle.kx_core.proofs.Standing.{a_store, not_both}
 use Rattle.kx_core.proofs.Turns.{clients_push, processors_push}
 use Rattle.kx_machine.specs.Meaning.{NodeState, input_of, note_of}
+use Rattle.kx_machine.specs.Stores.{IsMode}
 use Rattle.kx_machine.specs.declared.input.Input as given
 use Rattle.kx_machine.specs.declared.input.Input.TheVariants as input
 use Rattle.kx_machine.specs.declared.machine.StoreMode.{StoreMode}
 use Rattle.kx_machine.specs.declared.taken.Note.TheVariants as noted
 use Rattle.kx_machine.specs.declared.taken.Taken.{Taken}
 use Rattle.kx_message.specs.declared.message.Message.{Message}
-use Rattle.kx_message.specs.declared.message.Node.{Node}
+use Rattle.kx_message.specs.declared.message.NodeId.{NodeId}
 use Rattle.kx_model.specs.Client.{Client, new_client}
 use Rattle.kx_model.specs.Disk.{Store}
 use Rattle.kx_model.specs.Step.{Comes, Done}
 use Rattle.kx_model.specs.World as model
-use Rattle.kx_model.specs.World.{Deliver, Hand, Make, is_new, delivered, step}
+use Rattle.kx_model.specs.World.{World, Deliver, Hand, Make, is_new, delivered, step}
 use Rattle.kx_processor.specs.Running.{Running, processor_of}
 use Rattle.kx_system.specs.Processor.{Images, Processing, Processor, new_processing}
 use Rattle.kx_system.specs.System.{Happens, MakeProcessor, System, SystemEvent, SystemStepped}
-use Rattle.kx_system.specs.System.{Turn, happens, run_system, system_step, turn_at, turn_delivered}
+use Rattle.kx_system.specs.System.{Turn, happens, system_step, turn_at, turn_delivered}
+use Rattle.kx_pipeline.specs.OpenSystems.{Arrives, Inside, OpenSystemEvent, open_system_step}
+use Rattle.kx_pipeline.specs.OpenSystems.{run_open_system, with_request}
 
 -- one more event goes on from where the others led
-pub run_more : (events : List SystemEvent) (e : SystemEvent) (s : System)
-    → run_system (events ++ e ∷ []) s ≡ (system_step (run_system events s) e).0
-unfolding run_system
+pub run_more : (events : List OpenSystemEvent) (e : OpenSystemEvent) (s : System)
+    → run_open_system (events ++ e ∷ []) s ≡ (open_system_step (run_open_system events s) e).0
+unfolding run_open_system
 run_more [] e s = refl
-run_more (d ∷ events) e s = run_more events e (system_step s d).0
+run_more (d ∷ events) e s = run_more events e (open_system_step s d).0
 
 happens_is : (s : System) (e : model.Event) (turn : Option Turn)
     → happens s e turn ≡ after_turn s (step s.world e) turn
 happens_is s e None = refl
 happens_is s e (Some turn) = refl
 
-step_deliver : (s : System) (number : ℕ) (to : Node) (store : Store) (found : Option Message)
+step_deliver : (s : System) (number : ℕ) (to : NodeId) (store : Store) (found : Option Message)
     → slice_get s.world.sent number ≡ found
     → system_step s (Happens (Deliver number to store))
     ≡ after_turn s (delivered s.world to store found) (turn_delivered s to found)
@@ -56,7 +60,7 @@ step_deliver s number to store found is =
     ∙ ap (λ (o : Option Message).
     after_turn s (delivered s.world to store o) (turn_delivered s to o)) is
 
-step_hand : (s : System) (to : Node) (store : Store) (i : given.Input) → is_message i ≡ false
+step_hand : (s : System) (to : NodeId) (store : Store) (i : given.Input) → is_message i ≡ false
     → system_step s (Happens (Hand to (input_of i) store)) ≡ handed_in s to store (input_of i)
 unfolding system_step step
 step_hand s to store (input.Deliver message) h = absurd cc
@@ -75,7 +79,7 @@ step_hand s to store (input.Restart now) h =
     let i = input_of (input.Restart now) in happens_is s (Hand to i store) (turn_at s to i)
 
 -- a message that an input has isn't handed out
-step_message : (s : System) (to : Node) (store : Store) (message : Message)
+step_message : (s : System) (to : NodeId) (store : Store) (message : Message)
     → system_step s (Happens (Hand to (Comes message) store)) ≡ (s, Done)
 unfolding system_step step
 step_message s to store message = refl
@@ -98,15 +102,26 @@ unfolding system_step step
 makes_processor s client txn timeout group inputs image =
     record { sent = refl; note = refl; works = refl }
 
+-- what isn't a message is handed to the node as it is
+bytes_same : (w : World) (to : NodeId) (i : given.Input) → is_message i ≡ false
+    → bytes_handed w to (input_of i) ≡ bytes_at w to (input_of i)
+bytes_same w to (input.Deliver message) other = absurd cc
+bytes_same w to (input.Command command) other = refl
+bytes_same w to (input.Expire now) other = refl
+bytes_same w to input.Remind other = refl
+bytes_same w to (input.Drop group member) other = refl
+bytes_same w to (input.Put values) other = refl
+bytes_same w to (input.Restart now) other = refl
+
 module _ {F : Type 0} (image_of : F → Images) (Stand : System → Type 0) where
   module _ (s : System) (taken : Taken) where
     by_step : (given : happening.Event F) (e : SystemEvent) (after : SystemStepped)
-        → running.IsEvent image_of given e → system_step s e ≡ after → Stand after.0
+        → running.IsEvent image_of s given (Inside e) → system_step s e ≡ after → Stand after.0
         → after.0.world.sent ≡ s.world.sent ++ taken.messages
         → taken.note ≡ note_of after.1 → taken.failed ≡ fails_in s (place_of e) after
         → Occurs image_of s given Stand taken
     by_step given e after is same h sent note failed = record {
-      happened = e;
+      happened = Inside e;
       is = is;
       stand = subst (λ (x : SystemStepped). Stand x.0) (sym same) h;
       sent = ap (λ (x : SystemStepped). x.0.world.sent) same ∙ sent;
@@ -120,20 +135,21 @@ module _ {F : Type 0} (image_of : F → Images) (Stand : System → Type 0) wher
       nothing_sent = sym (ap (λ ms. s.world.sent ++ ms) none ∙ append-nil s.world.sent)
 
       -- there is no such message
-      pub not_delivered : (number : ℕ) (to : Node) (m : StoreMode)
+      pub not_delivered : (number : ℕ) (to : NodeId) (m : StoreMode)
           → slice_get s.world.sent number ≡ None
           → Occurs image_of s (event.Deliver number to m) Stand taken
       not_delivered number to m absent =
-          let store = a_store m in
+          let store = a_store m (bytes_delivered s.world to (slice_get s.world.sent number))
+          (ap (bytes_delivered s.world to) absent) in
           by_step (event.Deliver number to m) (Happens (Deliver number to store.0)) (s, Done)
           (store.0, store.1, refl) (step_deliver s number to store.0 None absent)
           h nothing_sent done (works ∙ not_both (is_closed s.world to))
 
       -- a message comes by its number alone
-      pub not_handed : (to : Node) (i : given.Input) (m : StoreMode) → is_message i ≡ true
+      pub not_handed : (to : NodeId) (i : given.Input) (m : StoreMode) → is_message i ≡ true
           → Occurs image_of s (event.Hand to i m) Stand taken
       not_handed to (input.Deliver message) m comes =
-          let store = a_store m in
+          let store = a_store m None refl in
           by_step (event.Hand to (input.Deliver message) m)
           (Happens (Hand to (Comes message) store.0))
           (s, Done) (store.0, store.1, refl) (step_message s to store.0 message)
@@ -145,31 +161,41 @@ module _ {F : Type 0} (image_of : F → Images) (Stand : System → Type 0) wher
       not_handed to (input.Put values) m comes = absurd cc
       not_handed to (input.Restart now) m comes = absurd cc
 
-    pub is_delivered : (number : ℕ) (to : Node) (m : StoreMode) (message : Message)
+    pub is_delivered : (number : ℕ) (to : NodeId) (m : StoreMode) (message : Message)
         → slice_get s.world.sent number ≡ Some message
         → IsHandedIn s to m (Comes message) Stand taken
         → Occurs image_of s (event.Deliver number to m) Stand taken
     is_delivered number to m message there t =
         by_step (event.Deliver number to m) (Happens (Deliver number to t.store))
-        (handed_in s to t.store (Comes message)) (t.store, t.allowed, refl)
+        (handed_in s to t.store (Comes message)) (
+          t.store,
+          subst (λ (found : Option Message). IsMode m (bytes_delivered s.world to found) t.store)
+              (sym there) t.allowed,
+          refl,
+        )
         (step_deliver s number to t.store (Some message) there)
         t.stand t.sent t.note_is t.failed_is
 
-    pub is_handed : (to : Node) (i : given.Input) (m : StoreMode) → is_message i ≡ false
+    pub is_handed : (to : NodeId) (i : given.Input) (m : StoreMode) → is_message i ≡ false
         → IsHandedIn s to m (input_of i) Stand taken
         → Occurs image_of s (event.Hand to i m) Stand taken
     is_handed to i m other t =
         by_step (event.Hand to i m) (Happens (Hand to (input_of i) t.store))
-        (handed_in s to t.store (input_of i)) (t.store, t.allowed, refl)
+        (handed_in s to t.store (input_of i)) (
+          t.store,
+          subst (λ (size : Option ℕ). IsMode m size t.store) (sym (bytes_same s.world to i other))
+              t.allowed,
+          refl,
+        )
         (step_hand s to t.store i other) t.stand t.sent t.note_is t.failed_is
 
     -- a client or a processor is made: nothing is sent
     pub is_made : (given : happening.Event F) (e : SystemEvent)
-        → running.IsEvent image_of given e → IsMaking s e → Stand (system_step s e).0
+        → running.IsEvent image_of s given (Inside e) → IsMaking s e → Stand (system_step s e).0
         → taken.messages ≡ [] → taken.note ≡ noted.Done → taken.failed ≡ false
         → Occurs image_of s given Stand taken
     is_made given e is making h none done works = record {
-      happened = e;
+      happened = Inside e;
       is = is;
       stand = h;
       sent = making.sent
@@ -177,6 +203,39 @@ module _ {F : Type 0} (image_of : F → Images) (Stand : System → Type 0) wher
       note_is = done ∙ ap note_of (sym making.note);
       failed_is = works ∙ sym making.works;
     }
+
+    -- a request arrives from outside
+    pub is_arrived : (request : Message) → Stand (with_request s request)
+        → taken.messages ≡ request ∷ [] → taken.note ≡ noted.Done → taken.failed ≡ false
+        → Occurs image_of s (event.Arrive request) Stand taken
+    is_arrived request h one done works = record {
+      happened = Arrives request;
+      is = refl;
+      stand = h;
+      sent = ap (λ ms. s.world.sent ++ ms) (sym one);
+      note_is = done;
+      failed_is = works;
+    }
+
+------ no node changes where a request arrives
+
+pub request_arrived : {C P O F : Type 0} (Coordinates : NodeState → C → Type 0)
+    (Serves : NodeState → P → Type 0) (Groups : NodeState → O → Type 0) (image_of : F → Images)
+    (nodes : Nodes C P O F) (s : System) (request : Message)
+    → StandForAll Coordinates Serves Groups image_of nodes s
+    → StandForAll Coordinates Serves Groups image_of nodes (with_request s request)
+request_arrived Coordinates Serves Groups image_of nodes s request h = record {
+  world = record {
+    coordinator = h.world.coordinator;
+    count = h.world.count;
+    few = h.world.few;
+    partitions = h.world.partitions;
+    offsets = h.world.offsets;
+    clients = h.world.clients;
+    clock = h.world.clock;
+  };
+  processors = h.processors;
+}
 
 ------ a client is made, if its number is above those of all others
 

@@ -3,11 +3,11 @@ use Rattle.std.proofs.Common.{◌≡◌, ℕ, ℤ, Bool, true, List, Result, Ok,
 use Rattle.std.proofs.Common.{sym, ap, ◌∙◌, subst}
 use Rattle.kx_broker.specs.Serving.{IsServed, Serving, StandsFor}
 use Rattle.kx_core.specs.Local.{between}
-use Rattle.kx_pipeline.specs.Promises.{KeepsPromises}
 use Rattle.kx_core.specs.World.{ServesAt}
 use Rattle.kx_core.proofs.Beginning.{log_of}
 use Rattle.kx_model.specs.Coordinator.{commits}
 use Rattle.kx_model.specs.Log.{Stored}
+use Rattle.kx_model.specs.OpenHeadline.{ReadersGetVisible}
 use Rattle.kx_model.specs.Page.{Fetched, answer_to}
 use Rattle.kx_model.specs.PartitionNode.{Partition}
 use Rattle.kx_model.specs.Reading.{committed_of, visible}
@@ -36,7 +36,7 @@ answers w number room from committed log r same h =
 
 -- of committed records it shows exactly what is visible, by decision
 pub shows : (w : World) (number room : ℕ) (from : ℤ) (committed : Bool) (log : List Stored)
-    (r : Result Fetched FetchFault) → KeepsPromises w → log ≡ log_at w number
+    (r : Result Fetched FetchFault) → ReadersGetVisible w → log ≡ log_at w number
     → committed ≡ true
     → MatchResult r (λ page. answer_to log from room committed ≡ Ok page)
     (FetchRefuses (answer_to log from room committed))
@@ -46,5 +46,5 @@ shows w number room from committed log (Ok page) keeps same asked h =
     let answer : answer_to (log_at w number) from room true ≡ Ok page =
     ap (λ (l : List Stored). answer_to l from room true) (sym same)
     ∙ ap (answer_to log from room) (sym asked) ∙ h in
-    keeps.fetches_visible number room from page answer
+    keeps.fetches number room from page answer
 shows w number room from committed log (Err f) keeps same asked h = tt

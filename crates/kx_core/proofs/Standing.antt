@@ -1,8 +1,8 @@
 -- Nodes that take what they are handed stand for a world of the definitions after it.
 use Rattle.std.proofs.Common.{◌≡◌, ◌≢◌, ◌<◌, ◌≤◌, ◌++◌, ◌==◌, ℕ, Bool, true, false, cond, List, []}
-use Rattle.std.proofs.Common.{◌∷◌, refl, sym, ap, ◌∙◌, subst, length, Some, None, arith}
-use Rattle.std.proofs.Common.{inl, inr, nat_le, zero, suc, append-nil, not, ◌&&◌}
-use Rattle.std.specs.Prelude.{slice_get, slice_set, MatchResult, Result, Ok, Err}
+use Rattle.std.proofs.Common.{◌∷◌, refl, sym, ap, ◌∙◌, subst, length, Option, Some, None}
+use Rattle.std.proofs.Common.{arith, inl, inr, nat_le, zero, suc, append-nil, not, ◌&&◌}
+use Rattle.std.specs.Prelude.{slice_get, slice_set, IfSome, MatchResult, Result, Ok, Err}
 use Rattle.std.proofs.lemmas.Bool.{cases_lt}
 use Rattle.std.proofs.lemmas.Bool.Decides.{Decides-eqb, nat_tests}
 use Rattle.std.proofs.lemmas.Option.{slice_get_past}
@@ -10,7 +10,8 @@ use Rattle.kx_batch.specs.Batch.{batch_limit}
 use Rattle.kx_core.specs.Clients.{client_in, clients_in, with_one}
 use Rattle.kx_client_node.specs.Clients.{any_store}
 use Rattle.kx_client_node.specs.declared.any_client.AnyClient.{AnyClient}
-use Rattle.kx_core.specs.World.{IsHanded, Nodes, StandFor, closed_in, fails_at, fails_by, is_closed}
+use Rattle.kx_core.specs.World.{IsHanded, Nodes, StandFor, bytes_at, bytes_for, closed_in, fails_at}
+use Rattle.kx_core.specs.World.{fails_by, is_closed, partition_node}
 use Rattle.kx_machine.specs.Meaning as meaning
 use Rattle.kx_machine.specs.Meaning.{AtClient, AtCoordinator, AtPartition, IsTaken, NodeState}
 use Rattle.kx_machine.specs.Meaning.{fails, node_step, note_of, taken_of}
@@ -20,8 +21,8 @@ use Rattle.kx_machine.specs.declared.machine.StoreMode.TheVariants as mode
 use Rattle.kx_machine.specs.declared.taken.Note.TheVariants as noted
 use Rattle.kx_machine.specs.declared.taken.Taken.{Taken}
 use Rattle.kx_message.specs.Ranges.{offsets_partition}
-use Rattle.kx_message.specs.declared.message.Node.{Node}
-use Rattle.kx_message.specs.declared.message.Node.TheVariants as node
+use Rattle.kx_message.specs.declared.message.NodeId.{NodeId}
+use Rattle.kx_message.specs.declared.message.NodeId.TheVariants as node
 use Rattle.kx_model.specs.Client.{Client}
 use Rattle.kx_model.specs.Disk.{Store, Works, Fails, CannotLoad}
 use Rattle.kx_model.specs.PartitionNode.{Partition}
@@ -41,17 +42,30 @@ at_most a b e = grind (arith, nat_tests)
 not_at_most : (a b : ℕ) → nat_le a b ≡ false → a ≤ b → ⊥
 not_at_most a b e le = grind (arith, nat_tests)
 
-whole_if : (keep : ℕ) (b : Bool) → nat_le batch_limit keep ≡ b → FailsWith keep (Fails b)
-whole_if keep true e =
-    (λ none. absurd (not_zero keep (at_most _ _ e) none), λ le. refl)
-whole_if keep false e = (λ none. refl, λ le. absurd (not_at_most _ _ e le))
+any_fit : (keep : ℕ) (b : Bool) (size : Option ℕ) → size ≡ None
+    → IfSome size (λ bytes. b ≡ nat_le bytes keep)
+any_fit keep b size nothing =
+    subst (λ (z : Option ℕ). IfSome z (λ bytes. b ≡ nat_le bytes keep)) (sym nothing) tt
 
--- there is a store of each mode
-pub a_store : (m : StoreMode) → (store : Store) × IsMode m store
-a_store mode.Works = (Works, refl)
-a_store (mode.Fails keep) =
-    (Fails (nat_le batch_limit keep), whole_if keep (nat_le batch_limit keep) refl)
-a_store mode.CannotLoad = (CannotLoad, refl)
+whole_if : (keep : ℕ) (b : Bool) (size : Option ℕ) → size ≡ None → nat_le batch_limit keep ≡ b
+    → FailsWith keep size (Fails b)
+whole_if keep true size nothing e = (
+  λ none. absurd (not_zero keep (at_most _ _ e) none),
+  λ le. refl,
+  any_fit keep true size nothing,
+)
+whole_if keep false size nothing e =
+    (λ none. refl, λ le. absurd (not_at_most _ _ e le), any_fit keep false size nothing)
+
+-- there is a store of each mode, where nothing is appended
+pub a_store : (m : StoreMode) (size : Option ℕ) → size ≡ None
+    → (store : Store) × IsMode m size store
+a_store mode.Works size nothing = (Works, refl)
+a_store (mode.Fails keep) size nothing = (
+  Fails (nat_le batch_limit keep),
+  whole_if keep (nat_le batch_limit keep) size nothing refl,
+)
+a_store mode.CannotLoad size nothing = (CannotLoad, refl)
 
 ------ whether a store fails
 
@@ -210,13 +224,13 @@ module _ {C P O F : Type 0} (Coordinates : NodeState → C → Type 0) (Serves :
   Stand = StandFor Coordinates Serves Groups
 
   -- nothing changes, and nothing is handed out
-  pub rests : (nodes : Nodes C P O F) (w : World) (to : Node) (m : StoreMode) (input : Input)
-      (taken : Taken) → Stand nodes w
+  pub rests : (nodes : Nodes C P O F) (w : World) (to : NodeId) (m : StoreMode) (input : Input)
+      (taken : Taken) → Stand nodes w → bytes_at w to input ≡ None
       → ((store : Store) → handed w to store input ≡ (w, Done))
       → taken.messages ≡ [] → taken.note ≡ noted.Done → taken.failed ≡ false
       → IsHanded w to m input (Stand nodes) taken
-  rests nodes w to m input taken h same none done works =
-      let store = a_store m in record {
+  rests nodes w to m input taken h nothing same none done works =
+      let store = a_store m (bytes_at w to input) nothing in record {
         store = store.0;
         allowed = store.1;
         stand = subst (λ (x : Stepped). Stand nodes x.0) (sym (same store.0)) h;
@@ -310,9 +324,12 @@ module _ {C P O F : Type 0} (Coordinates : NodeState → C → Type 0) (Serves :
       (Stand (record nodes { partitions = slice_set nodes.partitions number after })) taken
   by_partition nodes w number m input p after taken h apart is t =
       let s = partition_step number p t.store input in
-      let done = handed_data w number t.store input p apart is in record {
+      let done = handed_data w number t.store input p apart is in
+      let here = data_at w number apart ∙ is in record {
         store = t.store;
-        allowed = t.allowed;
+        allowed = subst
+            (λ (o : Option Partition).
+                IsMode m (bytes_for (partition_node number o) input) t.store) (sym here) t.allowed;
         stand = subst (λ (x : Stepped). Stand
             (record nodes { partitions = slice_set nodes.partitions number after }) x.0) (sym done)
             (record {
@@ -374,9 +391,12 @@ module _ {C P O F : Type 0} (Coordinates : NodeState → C → Type 0) (Serves :
       → IsHanded w (node.Partition number) m input (Stand nodes) taken
   by_no_partition nodes w number m input taken h apart is none done works =
       let past = past_none nodes.partitions number is in
+      let absent : slice_get w.partitions number ≡ None =
+      slice_get_past w.partitions number (omega (arith, past, h.count)) in
       rests nodes w (node.Partition number) m input taken h
-      (λ store. handed_to_none w number store input apart
-      (slice_get_past w.partitions number (omega (arith, past, h.count)))) none done works
+      (ap (λ (o : Option Partition). bytes_for (partition_node number o) input)
+      (data_at w number apart ∙ absent))
+      (λ store. handed_to_none w number store input apart absent) none done works
 
   ------ clients
 
@@ -387,10 +407,11 @@ module _ {C P O F : Type 0} (Coordinates : NodeState → C → Type 0) (Serves :
       → clients_in new ≡ with_one w.clients (client_step c input).state
       → IsHanded w (node.Client number) m input (Stand (record nodes { clients = new })) taken
   by_client nodes w number m input c after new taken h is t new_is =
-      let done : handed w (node.Client number) (a_store m).0 input
+      let store = a_store m None refl in
+      let done : handed w (node.Client number) store.0 input
       ≡ at_client w input (Some c) = ap (at_client w input) is in record {
-        store = (a_store m).0;
-        allowed = (a_store m).1;
+        store = store.0;
+        allowed = store.1;
         stand = subst (λ (x : Stepped). Stand (record nodes { clients = new }) x.0) (sym done)
             (record {
               coordinator = h.coordinator;
@@ -414,5 +435,5 @@ module _ {C P O F : Type 0} (Coordinates : NodeState → C → Type 0) (Serves :
       → taken.messages ≡ [] → taken.note ≡ noted.Done → taken.failed ≡ false
       → IsHanded w (node.Client number) m input (Stand nodes) taken
   by_no_client nodes w number m input taken h absent none done works =
-      rests nodes w (node.Client number) m input taken h
+      rests nodes w (node.Client number) m input taken h refl
       (λ store. ap (at_client w input) absent) none done works

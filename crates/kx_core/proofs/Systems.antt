@@ -13,8 +13,8 @@ use Rattle.kx_machine.specs.Meaning.{AtClient, AtProcessor, IsTaken, NodeState, 
 use Rattle.kx_machine.specs.declared.machine.StoreMode.{StoreMode}
 use Rattle.kx_machine.specs.declared.taken.Note.TheVariants as noted
 use Rattle.kx_machine.specs.declared.taken.Taken.{Taken}
-use Rattle.kx_message.specs.declared.message.Node.{Node}
-use Rattle.kx_message.specs.declared.message.Node.TheVariants as node
+use Rattle.kx_message.specs.declared.message.NodeId.{NodeId}
+use Rattle.kx_message.specs.declared.message.NodeId.TheVariants as node
 use Rattle.kx_model.specs.Client.{Client}
 use Rattle.kx_model.specs.Step.{Input, client_step}
 use Rattle.kx_model.specs.World.{handed}
@@ -31,7 +31,7 @@ module _ {C P O F : Type 0} (Coordinates : NodeState → C → Type 0)
     all nodes = all_of image_of nodes.clients
 
     -- what is no processor's turn
-    pub no_turn : (before nodes : Nodes C P O F) (s : System) (to : Node) (m : StoreMode)
+    pub no_turn : (before nodes : Nodes C P O F) (s : System) (to : NodeId) (m : StoreMode)
         (input : Input) (taken : Taken) → Stand before s → turn_at s to input ≡ None
         → processors_in image_of nodes.clients ≡ processors_in image_of before.clients
         → IsHanded s.world to m input (StandFor Coordinates Serves Groups nodes) taken
@@ -61,10 +61,11 @@ module _ {C P O F : Type 0} (Coordinates : NodeState → C → Type 0)
           → IsHandedIn s (node.Client number) m input (Stand after_nodes) taken
       by_turn p turn t new_is =
           let place = node.Client number in
-          let done = ap (after_turn s (handed s.world place (a_store m).0 input)) turn in
+          let store = a_store m None refl in
+          let done = ap (after_turn s (handed s.world place store.0 input)) turn in
           let w = h.world in record {
-            store = (a_store m).0;
-            allowed = (a_store m).1;
+            store = store.0;
+            allowed = store.1;
             stand = subst (λ (x : SystemStepped). Stand after_nodes x.0) (sym done) (record {
               world = record {
                 coordinator = w.coordinator;

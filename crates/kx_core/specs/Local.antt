@@ -10,7 +10,7 @@ use Rattle.kx_model.specs.Reading.{Shown}
 use Rattle.kx_system.specs.Processor.{Images}
 use Rattle.kx_system.specs.System.{System}
 
--- a schedule led to the system, for which the running world stands
+-- an open schedule led to the system, for which the running world stands
 abbrev pub IsLocal : {F : Type 0} → (F → Images) → Running CoordinatorState Serving Serving F
     → System → Type 0
 IsLocal image_of = IsRun Stands StandsFor StandsForGroups image_of

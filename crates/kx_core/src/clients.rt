@@ -35,7 +35,7 @@ impl<F: Process> Model for Clients<F> {
 }
 
 impl<F: Process> Clients<F> {
-    /// None.
+    /// A list of no client.
     pub(crate) fn new(alloc: Global) -> Self
         ensures { result ≡ [] }
     {
@@ -54,11 +54,11 @@ impl<F: Process> Clients<F> {
         }
     }
 
-    /// One more, whose number is above all.
+    /// Adds a client, whose number is above all others.
     ///
     /// # Errors
     ///
-    /// Only for want of memory; then they are as before.
+    /// Only where memory runs out; then they are as before.
     pub(crate) fn add(&mut self, one: AnyClient<F>) -> Result<(), AllocError>
         requires { is_new (client_of one).number (clients_in self.old) ≡ true }
         ensures { MatchResult result (λ done. self.new ≡ self.old ++ one ∷ [])
@@ -103,7 +103,7 @@ impl<F: Process> Clients<F> {
     ///
     /// # Errors
     ///
-    /// Only for want of memory; then they are as before.
+    /// Only where memory runs out; then they are as before.
     pub(crate) fn take(
         &mut self,
         number: ClientId,

@@ -2,10 +2,11 @@
 ghost use Rattle.std.specs.Prelude.{◌≡◌, MatchOption};
 ghost use Rattle.kx_core.specs.Count.{IsCount};
 
+use kx_message::PartitionId;
 use std::marker::Model;
 
 // The most data partitions of a world.
-const MOST: usize = 16;
+const MOST: usize = PartitionId::DATA_COUNT as usize;
 
 /// How many data partitions a world has, 1 to 16.
 #[derive(Clone, Copy, Debug, PartialEq, Eq)]
@@ -25,7 +26,7 @@ impl Model for PartitionCount {
 }
 
 impl PartitionCount {
-    /// So many, or None where they are none or more than 16.
+    /// This many, or None where they are none or more than 16.
     pub fn new(count: usize) -> Option<PartitionCount>
         ensures { MatchOption result (IsCount count → ⊥) (λ it. (it ≡ count) × IsCount count) }
     {

@@ -1,9 +1,11 @@
 //! What happens in a world.
 use kx_machine::{Input, Note, StoreMode};
-use kx_message::{ClientId, GroupId, Node, Timeout, TxnId};
+use kx_message::{ClientId, GroupId, NodeId, Timeout, TxnId};
+use kx_outside::OutsideRequest;
 use kx_processor::{Inputs, Process};
 
-/// What happens next: one node takes one input, or a client is made.
+/// What happens next: one node takes one input, a client is made, or a request arrives from
+/// outside.
 #[derive(Drop)]
 pub enum Event<F: Process> {
     /// A client is made, whose number is above those of all others; else nothing happens.
@@ -22,20 +24,25 @@ pub enum Event<F: Process> {
         inputs: Inputs,
         process: F,
     },
-    /// The message of this number, counted from 0 among all that were ever handed out, comes to a
-    /// node, whose store does this meanwhile. Where there is no such message, or no such node,
-    /// nothing happens.
+    /// The message of this number, counted from 0 among all that were ever sent, comes to a node,
+    /// whose store does this meanwhile. Where there is no such message, or no such node, nothing
+    /// happens.
     Deliver {
         number: usize,
-        to: Node,
+        to: NodeId,
         store: StoreMode,
     },
     /// A node is handed anything else, while its store does this. A message comes by its number
     /// alone.
     Hand {
-        to: Node,
+        to: NodeId,
         input: Input,
         store: StoreMode,
+    },
+    /// A client's request arrives from outside, of a client that the world need not have: it is
+    /// one more message that was sent, which can be delivered like any other.
+    Arrive {
+        request: OutsideRequest,
     },
 }
 

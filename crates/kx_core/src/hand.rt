@@ -8,7 +8,7 @@ use kx_machine::{Failing, Input, Machine, StoreMode, Taken};
 use kx_message::Message;
 use std::alloc::AllocError;
 
-/// What a node is handed, lent: a message that was handed out before, or another input.
+/// What a node is handed, borrowed: a message that was sent before, or another input.
 #[derive(Clone, Copy)]
 pub(crate) enum Given<'a> {
     Message(&'a Message),
@@ -19,7 +19,7 @@ pub(crate) enum Given<'a> {
 ///
 /// # Errors
 ///
-/// Only for want of memory; then it stands for what it stood for.
+/// Only where memory runs out; then it stands for what it stood for.
 pub(crate) fn take<M: Machine>(machine: &mut M, handed: Given<'_>) -> Result<Taken, AllocError>
     ensures { (state : NodeState) → M.stands state machine.old → MatchResult result
         (IsTaken state (given handed.entry) (M.allows machine.old) (λ s. M.stands s machine.new))

@@ -1,12 +1,11 @@
 //! A world whose nodes keep their logs in memory, and what can be read of it.
 ghost use Rattle.std.specs.Prelude.{◌≡◌, ◌⊎◌, ◌<◌, ℕ, [], pos, true, None, Ok, Some, IfOk};
-ghost use Rattle.std.specs.Prelude.{IsNone, MatchOption, MatchResult, Contains, length, map};
+ghost use Rattle.std.specs.Prelude.{IsNone, MatchOption, MatchResult, Contains, false, length, map};
 ghost use Rattle.kx_broker.specs.Offsets.{StandsForGroups};
 ghost use Rattle.kx_broker.specs.Serving.{StandsFor};
 ghost use Rattle.kx_coord_node.specs.Stands.{Stands};
 ghost use Rattle.kx_core.specs.Internal.{AreServers};
 ghost use Rattle.kx_core.specs.Local.{IsLocal, between};
-ghost use Rattle.kx_pipeline.specs.Promises.{KeepsPromises};
 ghost use Rattle.kx_core.specs.World.{ServesAt};
 ghost use Rattle.kx_machine.specs.Meaning.{AtCoordinator, AtPartition};
 ghost use Rattle.kx_message.specs.Ranges.{data_partitions, offsets_partition};
@@ -17,6 +16,7 @@ ghost use Rattle.kx_model.specs.Groups.{generation, members, offset_fetch};
 ghost use Rattle.kx_model.specs.Headline.{FollowsDecisions};
 ghost use Rattle.kx_model.specs.Log.{Placed, Sequenced};
 ghost use Rattle.kx_model.specs.Page.{answer_to};
+ghost use Rattle.kx_model.specs.OpenHeadline.{ReadersGetVisible};
 ghost use Rattle.kx_model.specs.PartitionNode.{empty_partition};
 ghost use Rattle.kx_model.specs.Reading.{committed_of, visible};
 ghost use Rattle.kx_model.specs.Transactions.{last_stable_offset, open_transactions};
@@ -34,7 +34,7 @@ use kx_coord_node::CoordinatorMachine;
 use kx_machines::{LocalStore, local_coordinator, local_offsets, local_partition};
 use kx_message::{ClientId, ErrorCode, GroupId, PartitionId};
 use kx_partition::{FetchFault, FetchPage};
-use kx_pipeline::systems_keep_promises;
+use kx_pipeline::open_systems_keep_promises;
 use kx_processor::Process;
 use kx_txnlog::Row;
 use std::alloc::{AllocError, Global};
@@ -65,7 +65,7 @@ fn server(alloc: Global, number: usize) -> Result<PartitionMachine<LocalStore>, 
     local_partition(alloc, id)
 }
 
-// The servers of so many data partitions, in the order of their numbers.
+// The servers of this many data partitions, in the order of their numbers.
 fn servers(
     alloc: Global,
     count: PartitionCount,
@@ -92,7 +92,8 @@ fn begun<F: Process + Copy>(
     requires few { length partitions.items < offsets_partition }
     requires each { AreServers partitions.items }
     requires offsets { StandsForGroups (AtPartition offsets_partition empty_partition) offsets }
-    ensures { IsLocal F.image_of result (start_system (length partitions.items)) }
+    ensures stands { IsLocal F.image_of result (start_system (length partitions.items)) }
+    ensures arrived { result.arrived ≡ false }
 {
     World::of(alloc, coordinator, partitions, offsets)
 }
@@ -108,7 +109,7 @@ fn page_of(
         → MatchResult result
         (λ page. answer_to (log_at w number) from max committed ≡ Ok page)
         (FetchRefuses (answer_to (log_at w number) from max committed)) }
-    ensures visible { (w : model.World) (number : ℕ) → KeepsPromises w
+    ensures visible { (w : model.World) (number : ℕ) → ReadersGetVisible w
         → ServesAt StandsFor w number server.now → committed ≡ true
         → IfOk result (λ page. committed_of page
         ≡ between page.from page.next (visible (entries_at w number) (commits (notes w)))) }
@@ -122,14 +123,16 @@ impl<F: Process + Copy> World<
     OffsetsMachine<LocalStore>,
     F,
 > {
-    /// A world in which nothing has happened: the coordinator, so many data partitions and the
+    /// A world in which nothing has happened: the coordinator, this many data partitions and the
     /// offsets partition, with empty logs in memory.
     ///
     /// # Errors
     ///
-    /// For want of memory.
+    /// For an error where memory runs out.
     pub fn new(alloc: Global, config: Config) -> Result<LocalWorld<F>, AllocError>
-        ensures { IfOk result (λ world. IsLocal F.image_of world (start_system config.partitions)) }
+        ensures stands { IfOk result (λ world.
+            IsLocal F.image_of world (start_system config.partitions)) }
+        ensures arrived { IfOk result (λ world. world.arrived ≡ false) }
     {
         let coordinator = local_coordinator(alloc)?;
         let partitions = servers(alloc, config.partitions)?;
@@ -168,7 +171,7 @@ impl<F: Process + Copy> World<
             ≡ between page.from page.next
             (visible (entries_at s.world partition) (commits (notes s.world)))) }
     {
-        systems_keep_promises();
+        open_systems_keep_promises();
         match self.partition(partition) {
             Some(server) => page_of(server, from, max, committed),
             None => Err(FetchFault::Refused(ErrorCode::UnknownTopicOrPartition)),
@@ -188,7 +191,7 @@ impl<F: Process + Copy> World<
             → Contains (open_transactions (entries_at s.world partition)) opened
             → owed (notes s.world) partition opened.item.id opened.item.epoch ≡ true }
     {
-        systems_keep_promises();
+        open_systems_keep_promises();
         let server = self.partition(partition)?;
         Some(server.partition().lso())
     }
@@ -208,7 +211,7 @@ impl<F: Process + Copy> World<
         ensures decided { (s : System) → IsLocal F.image_of self.now s
             → FollowsDecisions s.world group partition }
     {
-        systems_keep_promises();
+        open_systems_keep_promises();
         self.offsets()
             .groups()
             .offset_fetch(group, partition, stable)

@@ -1,12 +1,12 @@
 //! The nodes of a world.
-ghost use Rattle.std.specs.Prelude.{◌≡◌, ◌≢◌, [], MatchResult, false};
+ghost use Rattle.std.specs.Prelude.{◌≡◌, ◌≢◌, [], ◌∷◌, MatchResult, false};
 ghost use Rattle.kx_core.specs.Internal.{is_message};
 ghost use Rattle.kx_core.specs.Sent.{joined};
 ghost use Rattle.kx_core.specs.World.{Hands, HandsIn, Occurs, StandFor, StandForAll, given};
 ghost use Rattle.kx_machine.specs.declared.machine.StoreMode.{StoreMode};
 ghost use Rattle.kx_machine.specs.declared.taken.Note.TheVariants as note;
 ghost use Rattle.kx_message.specs.Ranges.{offsets_partition};
-ghost use Rattle.kx_message.specs.declared.message.Node.TheVariants as node;
+ghost use Rattle.kx_message.specs.declared.message.NodeId.TheVariants as node;
 ghost use Rattle.kx_model.specs.World.{Make, World, clock_after};
 ghost use Rattle.kx_system.specs.System.{Happens, MakeProcessor, System, system_step};
 
@@ -16,7 +16,7 @@ use crate::hand::{Given, hand};
 use crate::sent::Sent;
 use kx_client_node::{AnyClient, ClientMachine, ProcessorMachine};
 use kx_machine::{Failing, Input, Messages, Note, StoreMode, Taken};
-use kx_message::{ClientId, GroupId, Node, PartitionId, Timeout, TxnId};
+use kx_message::{ClientId, GroupId, Message, NodeId, PartitionId, Timeout, TxnId};
 use kx_processor::{Inputs, Process};
 use std::alloc::{AllocError, Global};
 use std::marker::Model;
@@ -38,6 +38,23 @@ fn nothing(alloc: Global) -> Taken
     }
 }
 
+// What comes of a request that arrives from outside: it was sent, and no node takes anything.
+fn arrived(request: Message) -> Taken
+    ensures { result ≡ record {
+      messages = request ∷ [];
+      note = note.Done;
+      failed = false;
+      found = false;
+    } }
+{
+    Taken {
+        messages: Messages::one(request),
+        note: Note::Done,
+        failed: false,
+        found: false,
+    }
+}
+
 // Whether it is a message that comes.
 fn is_message(input: &Input) -> bool
     ensures { result ≡ is_message input.now }
@@ -45,7 +62,7 @@ fn is_message(input: &Input) -> bool
     matches!(input, Input::Deliver(_))
 }
 
-// The greatest moment of an expiry, once the coordinator has taken this.
+// The greatest time of an expiry, once the coordinator has taken this.
 fn clock_after(clock: u64, handed: Given<'_>) -> u64
     ensures { result ≡ clock_after clock (given handed.entry) }
 {
@@ -64,7 +81,7 @@ pub(crate) struct Nodes<C: Failing, P: Failing, O: Failing, F: Process> {
     pub(crate) partitions: Vec<P>,
     pub(crate) offsets: O,
     pub(crate) clients: Clients<F>,
-    // the greatest moment of an expiry
+    // the greatest time of an expiry
     pub(crate) clock: u64,
 }
 
@@ -83,7 +100,7 @@ impl<C: Failing, P: Failing, O: Failing, F: Process> Model for Nodes<C, P, O, F>
 }
 
 impl<C: Failing, P: Failing, O: Failing, F: Process + Copy> Nodes<C, P, O, F> {
-    // The coordinator takes what it is handed; the world's clock is the greatest moment of all
+    // The coordinator takes what it is handed; the world's clock is the greatest time of all
     // expiries.
     fn hand_coordinator(&mut self, handed: Given<'_>, mode: StoreMode) -> Result<Taken, AllocError>
         ensures stand { Hands (StandFor C.stands P.stands O.stands self.old)
@@ -145,10 +162,10 @@ impl<C: Failing, P: Failing, O: Failing, F: Process + Copy> Nodes<C, P, O, F> {
     ///
     /// # Errors
     ///
-    /// Only for want of memory; then all stand for what they stood for.
+    /// Only where memory runs out; then all stand for what they stood for.
     pub(crate) fn hand(
         &mut self,
-        to: &Node,
+        to: &NodeId,
         handed: Given<'_>,
         mode: StoreMode,
     ) -> Result<Taken, AllocError>
@@ -157,12 +174,12 @@ impl<C: Failing, P: Failing, O: Failing, F: Process + Copy> Nodes<C, P, O, F> {
             (given handed.entry) result }
     {
         match to {
-            Node::Coordinator => self.hand_coordinator(handed, mode),
-            Node::Partition(number) if *number == PartitionId::OFFSETS => {
+            NodeId::Coordinator => self.hand_coordinator(handed, mode),
+            NodeId::Partition(number) if *number == PartitionId::OFFSETS => {
                 self.hand_offsets(handed, mode)
             }
-            Node::Partition(number) => self.hand_partition(*number, handed, mode),
-            Node::Client(number) => self.hand_client(*number, handed),
+            NodeId::Partition(number) => self.hand_partition(*number, handed, mode),
+            NodeId::Client(number) => self.hand_client(*number, handed),
         }
     }
 
@@ -212,11 +229,11 @@ impl<C: Failing, P: Failing, O: Failing, F: Process + Copy> Nodes<C, P, O, F> {
         self.clients.add(AnyClient::Processor(processor))
     }
 
-    /// An event happens, where these messages were handed out before it.
+    /// An event happens, where these messages were sent before it.
     ///
     /// # Errors
     ///
-    /// Only for want of memory; then all stand for what they stood for.
+    /// Only where memory runs out; then all stand for what they stood for.
     pub(crate) fn step(&mut self, sent: &Sent, event: &Event<F>) -> Result<Taken, AllocError>
         ensures { (s : System) → StandForAll C.stands P.stands O.stands F.image_of self.old s
             → joined sent.now.steps ≡ s.world.sent → MatchResult result
@@ -255,6 +272,7 @@ impl<C: Failing, P: Failing, O: Failing, F: Process + Copy> Nodes<C, P, O, F> {
                 }
                 self.hand(to, Given::Input(input), *store)
             }
+            Event::Arrive { request } => Ok(arrived(request.message()?)),
         }
     }
 }

@@ -11,7 +11,7 @@ use Rattle.kx_machines.specs.declared.any.AnyMachine.TheVariants as any
 use Rattle.kx_machines.specs.declared.broker.BrokerMachine.TheVariants as broker
 use Rattle.kx_demo.specs.declared.counting.Counts.{Counts}
 use Rattle.kx_machine.specs.Meaning.{NodeState}
-use Rattle.kx_message.specs.declared.message.Node.TheVariants as node
+use Rattle.kx_message.specs.declared.message.NodeId.TheVariants as node
 use Rattle.kx_model.specs.Log.{Stored}
 use Rattle.kx_model.specs.Page.{page}
 use Rattle.kx_model.specs.Reading.{Shown, committed_records}

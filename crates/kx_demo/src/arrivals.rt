@@ -15,7 +15,7 @@ pub(crate) struct Arrivals {
 }
 
 impl Arrivals {
-    /// None.
+    /// A table of no message.
     pub(crate) fn new(alloc: Global) -> Arrivals {
         Arrivals {
             alloc,
@@ -23,7 +23,7 @@ impl Arrivals {
         }
     }
 
-    /// One more, unless it came before; says whether it did.
+    /// Adds a message, unless it arrived before, and says whether it did.
     pub(crate) fn add(&mut self, message: &Message) -> Result<bool, AllocError> {
         if !message.fits() {
             return Ok(false);

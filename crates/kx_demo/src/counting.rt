@@ -12,7 +12,7 @@ use kx_audit::Run;
 use kx_batch::RecordView;
 use kx_broker::PartitionMachine;
 use kx_machines::{AnyMachine, BrokerMachine, LocalStore};
-use kx_message::Node;
+use kx_message::NodeId;
 use kx_partition::FetchPage;
 use kx_play::{PlayMaking, partition};
 use kx_reader::Committed;
@@ -29,7 +29,7 @@ pub struct Counts {
     pub inputs: usize,
     /// The committed records of the output partitions.
     pub outputs: usize,
-    /// Those of the outputs whose value stood before.
+    /// The outputs whose value stood before.
     pub doubles: usize,
 }
 
@@ -42,7 +42,7 @@ fn server_of(run: &Found, number: u8) -> Option<&PartitionMachine<LocalStore>>
         → IsServer (any_state images_of) run.now number server → ⊥) }
 {
     let place = 1 + usize::from(number);
-    if run.trace(place)?.node() != Node::Partition(partition(number)) {
+    if run.trace(place)?.node() != NodeId::Partition(partition(number)) {
         return None;
     }
     match run.machine(place)? {
@@ -101,7 +101,7 @@ fn count_doubles(alloc: Global, values: Vec<&[u8]>) -> Result<usize, AllocError>
 ///
 /// # Errors
 ///
-/// Only for want of memory.
+/// Only where memory runs out.
 pub fn count(alloc: Global, run: &Found) -> Result<Counts, AllocError>
     ensures { IfOk result (AreCounts (any_state images_of) run.now) }
 {

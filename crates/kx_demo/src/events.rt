@@ -5,7 +5,7 @@ use crate::fault::DemoFault;
 use kx_audit::Turn;
 use kx_machine::{Command, Input, Machine, Note, Taken};
 use kx_machines::{AnyMachine, BrokerMachine};
-use kx_message::{Message, Node};
+use kx_message::{Message, NodeId};
 use kx_text::dump_batches;
 use std::alloc::Global;
 use std::io;
@@ -70,11 +70,11 @@ impl Events {
         written(write!(out, "takes{again} {message}"))
     }
 
-    // Writes the messages that a node handed out, with those that never came to anybody.
+    // Writes the messages that a node sent, with those that never came to anybody.
     fn write_sent<W: Write>(
         &self,
         out: &mut W,
-        node: Node,
+        node: NodeId,
         messages: &[Message],
     ) -> Result<(), DemoFault> {
         for message in messages {
@@ -89,12 +89,12 @@ impl Events {
         Ok(())
     }
 
-    // Writes an event: its number, the node, what it took, and what it handed out.
+    // Writes an event: its number, the node, what it took, and what it sent.
     fn write<W: Write>(
         &mut self,
         out: &mut W,
         number: usize,
-        node: Node,
+        node: NodeId,
         input: &Input,
         taken: &Taken,
     ) -> Result<(), DemoFault> {
@@ -154,12 +154,12 @@ fn write_log<W: Write>(run: &Found, number: usize, out: &mut W) -> Result<(), De
 }
 
 /// Writes what the audited run did, one line an event: its number, the node, what it took, and what
-/// it handed out, to whom. What came before to the node comes `again`, and what never came is
-/// `(lost)`. Then the logs of the data partitions, each batch with its records.
+/// it sent, to whom. What came before to the node comes `again`, and what never came is `(lost)`.
+/// Then the logs of the data partitions, each batch with its records.
 ///
 /// # Errors
 ///
-/// `Write` where the output can't be written, `Memory` for want of memory; part of it may be
+/// `Write` where the output can't be written, `Memory` where memory runs out; part of it may be
 /// written then.
 pub fn write_run<W: Write>(alloc: Global, run: &Found, out: &mut W) -> Result<(), DemoFault> {
     write_events(alloc, run, out)?;

@@ -41,7 +41,7 @@ impl DemoFault {
     }
 }
 
-/// Want of memory.
+/// Out of memory.
 impl From<AllocError> for DemoFault {
     ghost use Rattle.kx_demo.specs.declared.fault.DemoFault.TheVariants.{Memory};
 

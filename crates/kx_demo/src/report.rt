@@ -113,6 +113,7 @@ fn judge<W: Write, P: Write>(
 pub fn demo<
     R: Net<Listener = TcpListener, Stream = TcpStream>
         + AllocGlobal
+        + Eprint
         + Threads
         + Wait
         + Clock

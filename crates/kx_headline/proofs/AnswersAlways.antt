@@ -13,7 +13,7 @@ use Rattle.kx_message.specs.declared.message.Message.{Message}
 use Rattle.kx_message.specs.declared.requests.Caller.{Caller}
 use Rattle.kx_model.specs.Answers.{AnswersHold, IsEnded, IsGiven, WasGiven, WasListed}
 use Rattle.kx_model.specs.Client.{Client, new_client}
-use Rattle.kx_model.specs.Coordinator.{Note}
+use Rattle.kx_model.specs.Coordinator.{TxnEntry}
 use Rattle.kx_model.specs.CoordinatorNode.{notes_of}
 use Rattle.kx_model.specs.Open.{AlwaysOpen, open_run}
 use Rattle.kx_model.specs.PartitionNode.{Partition, Served, node_takes}
@@ -206,7 +206,7 @@ answers_stand_open = always_open AnswersStand answers_first answers_open_next
 
 ------ what each answer means
 
-was_given : (log : List Note) (client : ℕ) (txn : Option (List ℕ)) (held : Held)
+was_given : (log : List TxnEntry) (client : ℕ) (txn : Option (List ℕ)) (held : Held)
     → Has log client txn held → WasGiven log client txn held
 was_given log client None held (by_row r w o e t) = absurd cc
 was_given log client None held (by_allotment w e t) = (w, e)
@@ -222,7 +222,7 @@ reached : (epoch : ℕ) (o : Option ℕ) → AtLeast epoch o
 reached epoch None h = absurd h
 reached epoch (Some e) h = (e, refl, h)
 
-listed_row : (log : List Note) (partition : ℕ) (held : Held)
+listed_row : (log : List TxnEntry) (partition : ℕ) (held : Held)
     → Listed log partition held.id held.epoch → WasListed log partition held
 listed_row log partition held l = (
   l.row,

@@ -17,8 +17,8 @@ use Rattle.kx_message.specs.declared.message.Held.{Held}
 use Rattle.kx_message.specs.declared.message.Message.{Message}
 use Rattle.kx_message.specs.declared.message.Message.TheVariants as msg
 use Rattle.kx_message.specs.Messages as the
-use Rattle.kx_message.specs.declared.message.Node.{Node}
-use Rattle.kx_message.specs.declared.message.Node.TheVariants as node
+use Rattle.kx_message.specs.declared.message.NodeId.{NodeId}
+use Rattle.kx_message.specs.declared.message.NodeId.TheVariants as node
 use Rattle.kx_message.specs.declared.outcome.Outcome.{Outcome}
 use Rattle.kx_message.specs.declared.outcome.Outcome.TheVariants.{Abort, Commit}
 use Rattle.kx_message.specs.declared.payload.PartitionOffset.{PartitionOffset}
@@ -44,7 +44,7 @@ awaited_here c m e =
     (list_any (is_answer_to m) c.waiting) e in
     (own (receiver_of m) parts.0, parts.1)
   where
-    own : (n : Node) → is_to_client c.number n ≡ true → n ≡ node.Client c.number
+    own : (n : NodeId) → is_to_client c.number n ≡ true → n ≡ node.Client c.number
     own (node.Client client) e =
         let same : client ≡ c.number = grind (arith, nat_tests, e) in ap node.Client same
     own node.Coordinator e = absurd cc

@@ -15,7 +15,7 @@ use Rattle.kx_message.specs.declared.message.Held.{Held}
 use Rattle.kx_message.specs.declared.message.Message.{Message}
 use Rattle.kx_message.specs.declared.message.Message.TheVariants as msg
 use Rattle.kx_message.specs.Messages as the
-use Rattle.kx_message.specs.declared.message.Node.TheVariants as node
+use Rattle.kx_message.specs.declared.message.NodeId.TheVariants as node
 use Rattle.kx_message.specs.declared.outcome.Outcome.{Outcome}
 use Rattle.kx_model.specs.Client.{Client, Place, is_end, is_init}
 use Rattle.kx_model.specs.Replies.{Aborts, Done, Fails, Meaning, Waits, correlation_of, holding}

@@ -7,7 +7,7 @@ use Rattle.kx_message.specs.declared.message.Message.{Message}
 use Rattle.kx_message.specs.Messages as the
 use Rattle.kx_message.specs.declared.outcome.Outcome.{Outcome}
 use Rattle.kx_message.specs.declared.outcome.Outcome.TheVariants.{Commit}
-use Rattle.kx_model.specs.Coordinator.{Cause, Note, Row, Written}
+use Rattle.kx_model.specs.Coordinator.{Cause, TxnEntry, Row, Written}
 use Rattle.kx_model.specs.Coordinator.{decision, ends, first_row, outcome_in, outcome_of}
 use Rattle.kx_model.specs.Requests.{completed, first_use, prepared, with_added}
 use Rattle.kx_headline.proofs.CoordinatorFollows as follows
@@ -32,10 +32,10 @@ RowAsked : List Message → Row → Type 0
 RowAsked sent r =
     outcome_of r.state ≡ Some Commit → (id epoch : ℕ) → Ends id epoch r → CommitAsked sent id epoch
 
-RowsAsked : List Message → List Note → Type 0
+RowsAsked : List Message → List TxnEntry → Type 0
 RowsAsked sent log = (r : Row) → Contains log (Written r) → RowAsked sent r
 
-module _ (sent : List Message) (log : List Note) (sound : Sound log)
+module _ (sent : List Message) (log : List TxnEntry) (sound : Sound log)
     (asked : RowsAsked sent log) where
   by_reason : (s : Row) (o : Outcome) (cause : Cause) → Reason sent s o cause → o ≡ Commit
       → (id epoch : ℕ) → Ends id epoch (prepared log s o cause) → CommitAsked sent id epoch
@@ -55,7 +55,7 @@ module _ (sent : List Message) (log : List Note) (sound : Sound log)
   by_reason s o cause follows.by_expiry is id epoch e = absurd cc
   by_reason s o cause r is id epoch (replaced a b d e) = absurd cc
 
-  new_row : (note : Note) → Follows sent log note → (r : Row) → note ≡ Written r
+  new_row : (note : TxnEntry) → Follows sent log note → (r : Row) → note ≡ Written r
       → RowAsked sent r
   unfolding RowAsked RowsAsked
   new_row note (follows.opens h) r e = absurd cc
@@ -88,7 +88,7 @@ module _ (sent : List Message) (log : List Note) (sound : Sound log)
 same_row : (r s : Row) → Written r ≡ Written s → r ≡ s
 same_row r s e = cc
 
-rows_asked : (sent : List Message) (log : List Note) → History sent log → RowsAsked sent log
+rows_asked : (sent : List Message) (log : List TxnEntry) → History sent log → RowsAsked sent log
 unfolding RowAsked RowsAsked
 rows_asked sent log CoordinatorGrows.none r there = absurd (no_first_row r there)
 rows_asked sent log (CoordinatorGrows.more earlier note g n) r there =
@@ -97,7 +97,7 @@ rows_asked sent log (CoordinatorGrows.more earlier note g n) r there =
     (Contains-push_cases earlier note (Written r) there)
 
 -- what is decided to commit
-pub commit_asked : (sent : List Message) (log : List Note) → History sent log → (id epoch : ℕ)
+pub commit_asked : (sent : List Message) (log : List TxnEntry) → History sent log → (id epoch : ℕ)
     → decision log id epoch ≡ Some Commit → CommitAsked sent id epoch
 unfolding RowAsked RowsAsked
 commit_asked sent log history id epoch e =

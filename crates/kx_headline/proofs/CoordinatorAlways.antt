@@ -7,7 +7,7 @@ use Rattle.std.proofs.lemmas.List.Elements.{All-append, All-cons, All-contains, 
 use Rattle.std.proofs.lemmas.List.Elements.{All-push, All-weaker, Contains-append_left}
 use Rattle.kx_message.specs.declared.message.Message.{Message}
 use Rattle.kx_model.specs.Client.{Client, new_client}
-use Rattle.kx_model.specs.Coordinator.{Note}
+use Rattle.kx_model.specs.Coordinator.{TxnEntry}
 use Rattle.kx_model.specs.CoordinatorNode.{Coordinated, notes_of}
 use Rattle.kx_model.specs.Headline.{Always}
 use Rattle.kx_model.specs.Open.{AlwaysOpen}
@@ -33,7 +33,7 @@ pub record CoordinatorStands (w : World) : Type 0 where
   pub says : All (Says w.sent (notes w)) w.sent
 
 -- what partitions and clients hand out says nothing of the coordinator's log
-partitions_say : (sent : List Message) (log : List Note) (m : Message) → IsPartitions m
+partitions_say : (sent : List Message) (log : List TxnEntry) (m : Message) → IsPartitions m
     → Says sent log m
 partitions_say sent log m SentKinds.adding = tt
 partitions_say sent log m SentKinds.marked = tt
@@ -44,7 +44,7 @@ partitions_say sent log m SentKinds.left = tt
 partitions_say sent log m SentKinds.offsets_stand = tt
 partitions_say sent log m SentKinds.offset_there = tt
 
-clients_say : (sent : List Message) (log : List Note) (m : Message) → IsClients m
+clients_say : (sent : List Message) (log : List TxnEntry) (m : Message) → IsClients m
     → Says sent log m
 clients_say sent log m SentKinds.init = tt
 clients_say sent log m SentKinds.ends = tt
@@ -71,8 +71,8 @@ up : (sent messages : List Message) (m : Message) → Contains sent m
 up sent messages m c = Contains-append_left sent messages m c
 
 -- the messages sent so far go on saying what they say, and those that are sent now say it too
-says_more : (sent messages : List Message) (log later : List Note)
-    → ((note : Note) → Contains log note → Contains later note) → All (Says sent log) sent
+says_more : (sent messages : List Message) (log later : List TxnEntry)
+    → ((note : TxnEntry) → Contains log note → Contains later note) → All (Says sent log) sent
     → All (Says (sent ++ messages) later) messages
     → All (Says (sent ++ messages) later) (sent ++ messages)
 says_more sent messages log later on old new =

@@ -25,7 +25,8 @@ use Rattle.kx_message.specs.declared.message.Message.TheVariants as msg
 use Rattle.kx_message.specs.Messages as the
 use Rattle.kx_message.specs.Ranges.{spent_epoch}
 use Rattle.kx_message.specs.declared.outcome.Outcome.{Outcome}
-use Rattle.kx_model.specs.Coordinator.{Row, Note, CoordinatorEpoch, Allot, Written, State, Empty}
+use Rattle.kx_model.specs.Coordinator.{Row, TxnEntry, CoordinatorEpoch, Allot, Written, State}
+use Rattle.kx_model.specs.Coordinator.{Empty}
 use Rattle.kx_model.specs.Coordinator.{Ongoing, Prepare, Complete, coordinator_epoch, ends, next_id}
 use Rattle.kx_model.specs.Coordinator.{is, lists, outcome_of, row_of, rows}
 use Rattle.kx_model.specs.CoordinatorNode.{Coordinator, Coordinated, Reply}
@@ -64,7 +65,7 @@ use Rattle.kx_laws.proofs.Membership.{filter_holds}
 ------ what a message of the coordinator rests on
 
 -- a row that waits for its markers lists the partition, with this outcome
-pub record Marks (log : List Note) (partition : ℕ) (held : Held) (coordinator : ℤ)
+pub record Marks (log : List TxnEntry) (partition : ℕ) (held : Held) (coordinator : ℤ)
     (outcome : Outcome) : Type 0 where
   pub row : Row
   pub written : Contains log (Written row)
@@ -75,14 +76,14 @@ pub record Marks (log : List Note) (partition : ℕ) (held : Held) (coordinator 
 
 -- a row of the transactional id has the pair, and its owner is the client; or, without one, the id
 -- was allotted
-pub data Has (log : List Note) (client : ℕ) (txn : Option (List ℕ)) (held : Held) : Type 0 where
+pub data Has (log : List TxnEntry) (client : ℕ) (txn : Option (List ℕ)) (held : Held) : Type 0 where
   by_row : (r : Row) → Contains log (Written r) → r.owner ≡ client → held ≡ own_pair r
       → txn ≡ Some r.txn → Has log client txn held
   by_allotment : Contains log (Allot held.id) → held.epoch ≡ 0 → txn ≡ None
       → Has log client txn held
 
 -- a pair that a client asked for
-pub record GivesFirst (sent : List Message) (log : List Note) (caller : Caller)
+pub record GivesFirst (sent : List Message) (log : List TxnEntry) (caller : Caller)
     (held : Held) : Type 0 where
   pub txn : Option (List ℕ)
   pub timeout : ℕ
@@ -90,7 +91,7 @@ pub record GivesFirst (sent : List Message) (log : List Note) (caller : Caller)
   pub has : Has log caller.client txn held
 
 -- a row ends the transaction of an EndTxn that was sent, as that asks, and gives the pair after it
-pub record GivesNext (sent : List Message) (log : List Note) (caller : Caller)
+pub record GivesNext (sent : List Message) (log : List TxnEntry) (caller : Caller)
     (held : Held) : Type 0 where
   pub txn : List ℕ
   pub ending : Held
@@ -105,7 +106,7 @@ pub record GivesNext (sent : List Message) (log : List Note) (caller : Caller)
   pub next : held ≡ held_after row
 
 -- what a message says for good of the coordinator's log
-abbrev pub Says : List Message → List Note → Message → Type 0
+abbrev pub Says : List Message → List TxnEntry → Message → Type 0
 Says sent log (msg.WriteMarker it) =
     Marks log it.partition it.held it.coordinator_epoch it.outcome
 Says sent log (msg.AddReply it) =
@@ -127,7 +128,7 @@ pub data IsCoordinators : Message → Type 0 where
       → IsCoordinators (the.EndReply caller code held)
 
 -- an id that is handed out by itself is allotted now
-abbrev pub IsNew : List Note → List Note → Message → Type 0
+abbrev pub IsNew : List TxnEntry → List TxnEntry → Message → Type 0
 IsNew before log (msg.InitReply it) = OfGiven it.code it.held (λ held.
     ((r : Row) × Contains log (Written r) × (held ≡ own_pair r)) ⊎ (held.id ≡ next_id before))
 IsNew before log m = ⊤
@@ -137,7 +138,7 @@ abbrev pub IsFor : ℕ → Message → Type 0
 IsFor client (msg.InitReply it) = it.caller.client ≡ client
 IsFor client m = ⊤
 
-pub record Out (client : ℕ) (sent : List Message) (before log : List Note) (m : Message) :
+pub record Out (client : ℕ) (sent : List Message) (before log : List TxnEntry) (m : Message) :
     Type 0 where
   pub says : Says sent log m
   pub kind : IsCoordinators m
@@ -146,16 +147,17 @@ pub record Out (client : ℕ) (sent : List Message) (before log : List Note) (m 
 
 ------ what stands as more is sent, and the log grows
 
-has_later : (log log' : List Note) → ((note : Note) → Contains log note → Contains log' note)
+has_later : (log log' : List TxnEntry) →
+    ((note : TxnEntry) → Contains log note → Contains log' note)
     → (client : ℕ) (txn : Option (List ℕ)) (held : Held) → Has log client txn held
     → Has log' client txn held
 has_later log log' on client txn held (by_row r w o e t) = by_row r (on (Written r) w) o e t
 has_later log log' on client txn held (by_allotment w e t) =
     by_allotment (on (Allot held.id) w) e t
 
-pub says_later : (sent later : List Message) (log log' : List Note)
+pub says_later : (sent later : List Message) (log log' : List TxnEntry)
     → ((m : Message) → Contains sent m → Contains later m)
-    → ((note : Note) → Contains log note → Contains log' note)
+    → ((note : TxnEntry) → Contains log note → Contains log' note)
     → (m : Message) → Says sent log m → Says later log' m
 says_later sent later log log' up on (msg.WriteMarker it) s = record {
   row = s.row;
@@ -239,7 +241,7 @@ ok_later {sent} {later} {co} up ok = record {
 ------ the markers of rows
 
 -- the markers of a row at some of its partitions
-markers_out : (n : ℕ) (sent : List Message) (before log : List Note) (k : ℤ) → FitsSigned w32 k
+markers_out : (n : ℕ) (sent : List Message) (before log : List TxnEntry) (k : ℤ) → FitsSigned w32 k
     → (r : Row)
     → Contains log (Written r) → (partitions : List ℕ)
     → ((p : ℕ) → Contains partitions p → Contains r.partitions p) → (st : State) → r.state ≡ st
@@ -266,15 +268,15 @@ markers_out n sent before log k low r c partitions sub (Prepare o) e =
 markers_out n sent before log k low r c partitions sub (Complete o) e =
     All-nil (Out n sent before log)
 
-after_out : (n : ℕ) (sent : List Message) (before log : List Note) (k : ℤ) → FitsSigned w32 k
-    → (note : Note) → Contains log note → All (Out n sent before log) (markers_after k note)
+after_out : (n : ℕ) (sent : List Message) (before log : List TxnEntry) (k : ℤ) → FitsSigned w32 k
+    → (note : TxnEntry) → Contains log note → All (Out n sent before log) (markers_after k note)
 after_out n sent before log k low (CoordinatorEpoch epoch) c = All-nil (Out n sent before log)
 after_out n sent before log k low (Allot id) c = All-nil (Out n sent before log)
 after_out n sent before log k low (Written r) c =
     markers_out n sent before log k low r c r.partitions (λ p there. there) r.state refl
 
 -- of all rows, at some of their partitions
-rows_out : (n : ℕ) (sent : List Message) (before log : List Note) (k : ℤ) → FitsSigned w32 k
+rows_out : (n : ℕ) (sent : List Message) (before log : List TxnEntry) (k : ℤ) → FitsSigned w32 k
     → (pick : Row → List ℕ)
     → ((r : Row) (p : ℕ) → Contains (pick r) p → Contains r.partitions p)
     → All (Out n sent before log)
@@ -293,15 +295,15 @@ module _ (sent : List Message) (co : Coordinator) (ok : CoordinatorOk sent co) w
   low : FitsSigned w32 (coordinator_epoch (notes_of co))
   low = (history_in_range ok.history).epochs
 
-  abbrev Told : ℕ → List Note → List Message → Type 0
+  abbrev Told : ℕ → List TxnEntry → List Message → Type 0
   Told n log ms = All (Out n sent (notes_of co) log) ms
 
-  one : (n : ℕ) (log : List Note) (m : Message) → Out n sent (notes_of co) log m
+  one : (n : ℕ) (log : List TxnEntry) (m : Message) → Out n sent (notes_of co) log m
       → Told n log (m ∷ [])
   one n log m o = All-cons (Out n sent (notes_of co) log) m [] o
       (All-nil (Out n sent (notes_of co) log))
 
-  silent : (n : ℕ) (log : List Note) → Told n log []
+  silent : (n : ℕ) (log : List TxnEntry) → Told n log []
   silent n log = All-nil (Out n sent (notes_of co) log)
 
   still : (n clock : ℕ) (ms : List Message) → Told n (notes_of co) ms
@@ -309,7 +311,7 @@ module _ (sent : List Message) (co : Coordinator) (ok : CoordinatorOk sent co) w
   still n clock ms told =
       record { grows = none; hidden = ok.hidden; answered = ok.answered; client = n; out = told }
 
-  left_next : (store : Store) (note : Note) → Next sent (notes_of co) note
+  left_next : (store : Store) (note : TxnEntry) → Next sent (notes_of co) note
       → IfSome (left_behind store note) (Next sent (notes_of co))
   left_next Works note n = tt
   left_next (Fails true) note n = n
@@ -317,7 +319,8 @@ module _ (sent : List Message) (co : Coordinator) (ok : CoordinatorOk sent co) w
   left_next CannotLoad note n = tt
 
   -- the coordinator after an append: whether its ids are used up, and whether it was written
-  abbrev after_append : ℕ → Store → Note → List Message → List Message → Bool → Bool → Coordinated
+  abbrev after_append : ℕ → Store → TxnEntry → List Message → List Message → Bool → Bool →
+      Coordinated
   after_append clock store note done failed spent written = (
     record co {
       disk = cond spent co.disk (record {
@@ -332,7 +335,7 @@ module _ (sent : List Message) (co : Coordinator) (ok : CoordinatorOk sent co) w
   )
 
   -- a note is appended, and messages follow it
-  writes_does : (n clock : ℕ) (store : Store) (note : Note) (done failed : List Message)
+  writes_does : (n clock : ℕ) (store : Store) (note : TxnEntry) (done failed : List Message)
       → Follows sent (notes_of co) note → Told n (notes_of co ++ note ∷ []) done
       → Told n (notes_of co) failed
       → CoordinatorDoes sent co (writes (record co { clock = clock }) store note done failed)
@@ -372,7 +375,8 @@ module _ (sent : List Message) (co : Coordinator) (ok : CoordinatorOk sent co) w
       }
 
   -- a request is answered
-  replies_does : (n : ℕ) (store : Store) (Said : Option Note → Option Held → Type 0) (a : Answer)
+  replies_does : (n : ℕ) (store : Store) (Said : Option TxnEntry → Option Held → Type 0)
+      (a : Answer)
       (reply : Reply) → Does sent (notes_of co) Said a
       → ((a.code ≡ code.NoError → Said a.note a.held)
       → Out n sent (notes_of co) (log_after (notes_of co) a.note) (reply a.code a.held))
@@ -380,7 +384,7 @@ module _ (sent : List Message) (co : Coordinator) (ok : CoordinatorOk sent co) w
       → CoordinatorDoes sent co (replies co store a reply a.note)
   replies_does n store Said a reply d out failed = by a.note refl
     where
-      by : (note : Option Note) → a.note ≡ note
+      by : (note : Option TxnEntry) → a.note ≡ note
           → CoordinatorDoes sent co (replies co store a reply note)
       by None e =
           still n co.clock (reply a.code a.held ∷ []) (one n (notes_of co) (reply a.code a.held)
@@ -400,14 +404,14 @@ module _ (sent : List Message) (co : Coordinator) (ok : CoordinatorOk sent co) w
   ------ requests
 
   init_out : (caller : Caller) (txn : Option (List ℕ)) (timeout : ℕ)
-      → Contains sent (the.InitProducerId caller txn timeout) → (entry : Option Note)
+      → Contains sent (the.InitProducerId caller txn timeout) → (entry : Option TxnEntry)
       (c : ErrorCode) (held : Option Held)
       → (c ≡ code.NoError → InitSays (notes_of co) caller.client txn entry held)
       → Out caller.client sent (notes_of co) (log_after (notes_of co) entry)
       (the.InitReply caller c held)
   init_out caller txn timeout m entry code.NoError held h = by entry held (h refl)
     where
-      by : (entry : Option Note) (held : Option Held)
+      by : (entry : Option TxnEntry) (held : Option Held)
           → InitSays (notes_of co) caller.client txn entry held
           → Out caller.client sent (notes_of co) (log_after (notes_of co) entry)
           (the.InitReply caller code.NoError held)
@@ -448,7 +452,7 @@ module _ (sent : List Message) (co : Coordinator) (ok : CoordinatorOk sent co) w
   add_in_code clock r held partition (Complete outcome) = tt
 
   -- none of its codes speaks of a group
-  add_code : (log : List Note) (clock : ℕ) (txn : List ℕ) (held : Held) (partition : ℕ)
+  add_code : (log : List TxnEntry) (clock : ℕ) (txn : List ℕ) (held : Held) (partition : ℕ)
       → OfNoGroup (add log clock txn held partition).code
   add_code log clock txn held partition = at (row_of log txn)
     where
@@ -477,7 +481,7 @@ module _ (sent : List Message) (co : Coordinator) (ok : CoordinatorOk sent co) w
           (λ (a : Answer). OfNoGroup a.code) (λ e. tt)
           (λ e. add_in_code clock r held partition r.state))
 
-  add_out : (partition : ℕ) (txn : List ℕ) (held : Held) (entry : Option Note) (c : ErrorCode)
+  add_out : (partition : ℕ) (txn : List ℕ) (held : Held) (entry : Option TxnEntry) (c : ErrorCode)
       → OfNoGroup c
       → (c ≡ code.NoError → Listed (log_after (notes_of co) entry) partition held.id held.epoch)
       → Out 0 sent (notes_of co) (log_after (notes_of co) entry)
@@ -492,7 +496,7 @@ module _ (sent : List Message) (co : Coordinator) (ok : CoordinatorOk sent co) w
   }
 
   end_out : (caller : Caller) (txn : List ℕ) (ending : Held) (outcome : Outcome)
-      → Contains sent (the.EndTxn caller txn ending outcome) → (entry : Option Note)
+      → Contains sent (the.EndTxn caller txn ending outcome) → (entry : Option TxnEntry)
       (c : ErrorCode) (held : Option Held)
       → (c ≡ code.NoError → EndSays (notes_of co) txn ending outcome entry held)
       → Out 0 sent (notes_of co) (log_after (notes_of co) entry)
@@ -500,7 +504,7 @@ module _ (sent : List Message) (co : Coordinator) (ok : CoordinatorOk sent co) w
   end_out caller txn ending outcome m entry code.NoError held h =
       by entry held (h refl)
     where
-      by : (entry : Option Note) (held : Option Held)
+      by : (entry : Option TxnEntry) (held : Option Held)
           → EndSays (notes_of co) txn ending outcome entry held
           → Out 0 sent (notes_of co) (log_after (notes_of co) entry)
           (the.EndReply caller code.NoError held)
@@ -637,7 +641,8 @@ module _ (sent : List Message) (co : Coordinator) (ok : CoordinatorOk sent co) w
   again : Grows sent (notes_of co) (reread co.disk)
   again = reread_grows (notes_of co) co.disk.hidden ok.hidden
 
-  opening : (note : Note) → reopen (reread co.disk) ≡ Some note → Next sent (reread co.disk) note
+  opening : (note : TxnEntry) → reopen (reread co.disk) ≡ Some note → Next sent
+      (reread co.disk) note
   opening note e =
       at (int_lt (coordinator_epoch (reread co.disk)) greatest_epoch) refl e
     where
@@ -652,7 +657,7 @@ module _ (sent : List Message) (co : Coordinator) (ok : CoordinatorOk sent co) w
           })
       at false e h = absurd cc
 
-  opened_does : (now : ℕ) (how : Reopening) (note : Note) → Next sent (reread co.disk) note
+  opened_does : (now : ℕ) (how : Reopening) (note : TxnEntry) → Next sent (reread co.disk) note
       → CoordinatorDoes sent co (opened (reread co.disk) now note how)
   opened_does now Reopens note n =
       let log = reread co.disk ++ note ∷ [] in
@@ -686,7 +691,7 @@ module _ (sent : List Message) (co : Coordinator) (ok : CoordinatorOk sent co) w
       left true = n
       left false = tt
 
-  opens_does : (now : ℕ) (how : Reopening) (note : Option Note) → reopen (reread co.disk) ≡ note
+  opens_does : (now : ℕ) (how : Reopening) (note : Option TxnEntry) → reopen (reread co.disk) ≡ note
       → CoordinatorDoes sent co (opens co now how note)
   opens_does now how None e = still 0 co.clock [] (silent 0 (notes_of co))
   opens_does now how (Some note) e = opened_does now how note (opening note e)

@@ -16,7 +16,8 @@ use Rattle.kx_message.specs.declared.message.Message.{Message}
 use Rattle.kx_message.specs.Messages as the
 use Rattle.kx_message.specs.declared.outcome.Outcome.{Outcome}
 use Rattle.kx_message.specs.declared.outcome.Outcome.TheVariants.{Abort}
-use Rattle.kx_model.specs.Coordinator.{Row, Note, CoordinatorEpoch, Allot, Written, State, Empty}
+use Rattle.kx_model.specs.Coordinator.{Row, TxnEntry, CoordinatorEpoch, Allot, Written, State}
+use Rattle.kx_model.specs.Coordinator.{Empty}
 use Rattle.kx_model.specs.Coordinator.{Ongoing, Prepare, Complete, Cause, ByInit, ByEnd}
 use Rattle.kx_model.specs.Coordinator.{ByExpiry, ByMarkers, coordinator_epoch, decision, ends}
 use Rattle.kx_model.specs.Coordinator.{first_row, next_id, outcome_of}
@@ -64,14 +65,14 @@ lists_still p ps q c =
     (λ l. c)
     (λ l. Contains-append_left ps (p ∷ []) q c)
 
-abbrev pub taken_over : List Note → Row → ℕ → ℕ → Row
+abbrev pub taken_over : List TxnEntry → Row → ℕ → ℕ → Row
 taken_over log s client timeout =
     record (raised log s Empty ByInit) { owner = client; timeout = timeout }
 
-abbrev pub given_up : List Note → Row → Row
+abbrev pub given_up : List TxnEntry → Row → Row
 given_up log s = raised log s (Complete Abort) ByEnd
 
-pub data Follows (sent : List Message) (log : List Note) : Note → Type 0 where
+pub data Follows (sent : List Message) (log : List TxnEntry) : TxnEntry → Type 0 where
   opens : coordinator_epoch log <ℤ greatest_epoch
       → Follows sent log (CoordinatorEpoch (coordinator_epoch log +ℤ pos 1))
   allots : (caller : Caller) (timeout : ℕ)
@@ -99,7 +100,7 @@ pub data Follows (sent : List Message) (log : List Note) : Note → Type 0 where
       → Follows sent log (Written (completed log s o))
 
 -- what may be written may be written when more was sent
-pub follows_later : {sent later : List Message} {log : List Note} {note : Note}
+pub follows_later : {sent later : List Message} {log : List TxnEntry} {note : TxnEntry}
     → ((m : Message) → Contains sent m → Contains later m) → Follows sent log note
     → Follows later log note
 follows_later up (opens e) = opens e
@@ -137,13 +138,13 @@ active_not_prepare st (settled h) o e = not_prepare st h o e
 ------ rows that go on from the last one
 
 -- the pair of a row one epoch higher, or of a new id
-pub data Raised (log : List Note) (s r : Row) : Type 0 where
+pub data Raised (log : List TxnEntry) (s r : Row) : Type 0 where
   higher : r.id ≡ s.id → r.epoch ≡ s.epoch + 1 → s.epoch < 32766 → r.previous ≡ s.previous
       → Raised log s r
   anew : r.id ≡ next_id log → r.epoch ≡ 0 → r.previous ≡ Some s.id → 32766 ≤ s.epoch
       → Raised log s r
 
-pub is_raised : (log : List Note) (s : Row) (state : State) (cause : Cause)
+pub is_raised : (log : List TxnEntry) (s : Row) (state : State) (cause : Cause)
     → Raised log s (raised log s state cause)
 is_raised log s state cause = by (nat_lt s.epoch last_epoch) refl
   where
@@ -159,7 +160,7 @@ is_raised log s state cause = by (nat_lt s.epoch last_epoch) refl
     by true e = higher refl refl (grind (arith, nat_tests)) refl
     by false e = anew refl refl refl (grind (arith, nat_tests))
 
-pub is_taken_over : (log : List Note) (s : Row) (client timeout : ℕ)
+pub is_taken_over : (log : List TxnEntry) (s : Row) (client timeout : ℕ)
     → Raised log s (taken_over log s client timeout)
 is_taken_over log s client timeout = by (is_raised log s Empty ByInit)
   where
@@ -168,13 +169,13 @@ is_taken_over log s client timeout = by (is_raised log s Empty ByInit)
     by (anew a b c d) = anew a b c d
 
 -- the pair of a row that is complete, under its own id or the one that takes its place
-pub data Completed (log : List Note) (s r : Row) : Type 0 where
+pub data Completed (log : List TxnEntry) (s r : Row) : Type 0 where
   stays : r.id ≡ s.id → r.epoch ≡ s.epoch → s.epoch ≤ 32766 → r.previous ≡ s.previous
       → Completed log s r
   gives_way : (s.next ≡ Some r.id) ⊎ (next_id log ≡ r.id) → s.epoch ≡ 32767 → r.epoch ≡ 0
       → r.previous ≡ Some s.id → Completed log s r
 
-pub is_completed : (log : List Note) (s : Row) (o : Outcome) → s.epoch ≤ 32767
+pub is_completed : (log : List TxnEntry) (s : Row) (o : Outcome) → s.epoch ≤ 32767
     → Completed log s (completed log s o)
 is_completed log s o top = by (s.epoch == spent_epoch) refl
   where
@@ -197,7 +198,7 @@ is_completed log s o top = by (s.epoch == spent_epoch) refl
         let other : s.epoch ≢ 32767 = grind (arith, nat_tests) in
         stays refl refl (omega arith) refl
 
-pub prepared_next : (log : List Note) (s : Row) (o : Outcome) (cause : Cause) (id : ℕ)
+pub prepared_next : (log : List TxnEntry) (s : Row) (o : Outcome) (cause : Cause) (id : ℕ)
     → (prepared log s o cause).next ≡ Some id → (s.epoch ≡ 32766) × (next_id log ≡ id)
 prepared_next log s o cause id =
     cond_both (s.epoch == last_epoch) (Some (next_id log)) None
@@ -206,7 +207,7 @@ prepared_next log s o cause id =
 
 ------ each case fits
 
-module _ {log : List Note} (sound : Sound log) where
+module _ {log : List TxnEntry} (sound : Sound log) where
   pub fresh : (q : Row) (id : ℕ) → Contains log (Written q) → next_id log ≡ id → Names q id → ⊥
   fresh q id c e n = let below = above_own log q id c n in omega arith
 
@@ -473,7 +474,7 @@ module _ {log : List Note} (sound : Sound log) where
       belongs q id c (next e) m = absurd cc
 
 -- each note that may be written keeps the log sound
-pub sound_next : {sent : List Message} {log : List Note} {note : Note} → Sound log
+pub sound_next : {sent : List Message} {log : List TxnEntry} {note : TxnEntry} → Sound log
     → Follows sent log note → Sound (log ++ note ∷ [])
 sound_next {log} sound (opens e) =
     sound_other log (CoordinatorEpoch (coordinator_epoch log +ℤ pos 1)) sound (λ r e. cc)

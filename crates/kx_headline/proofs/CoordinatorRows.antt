@@ -9,7 +9,8 @@ use Rattle.std.proofs.lemmas.Bool.{and_parts, cond_both, or_cases}
 use Rattle.std.proofs.lemmas.Bool.Decides.{nat_tests}
 use Rattle.std.proofs.lemmas.Slice.Eq.{bytes_eq-Decides}
 use Rattle.kx_message.specs.declared.outcome.Outcome.{Outcome}
-use Rattle.kx_model.specs.Coordinator.{Row, Note, CoordinatorEpoch, Allot, Written, State, Empty}
+use Rattle.kx_model.specs.Coordinator.{Row, TxnEntry, CoordinatorEpoch, Allot, Written, State}
+use Rattle.kx_model.specs.Coordinator.{Empty}
 use Rattle.kx_model.specs.Coordinator.{Ongoing, Prepare, Complete, above, above_ids, ends}
 use Rattle.kx_model.specs.Coordinator.{first_row, is, is_complete, last_row, next_id}
 use Rattle.kx_message.specs.Ranges.{last_epoch}
@@ -20,7 +21,7 @@ use Rattle.kx_laws.proofs.Membership.{cons_cases, contains_head, contains_tail, 
 ------ the rows that are found
 
 -- a row that is found is there, and passes
-abbrev pub IsFound : (Row → Bool) → List Note → Option Row → Type 0
+abbrev pub IsFound : (Row → Bool) → List TxnEntry → Option Row → Type 0
 IsFound test log None = (r : Row) → Contains log (Written r) → test r ≡ false
 IsFound test log (Some r) = Contains log (Written r) × (test r ≡ true)
 
@@ -28,14 +29,14 @@ same_written : (r s : Row) → Written r ≡ Written s → r ≡ s
 same_written r s e = cc
 
 -- none passes where the first note is no row, or one that doesn't pass
-none_before : (test : Row → Bool) (log : List Note) (n : Note)
+none_before : (test : Row → Bool) (log : List TxnEntry) (n : TxnEntry)
     → ((r : Row) → n ≡ Written r → test r ≡ false)
     → ((r : Row) → Contains log (Written r) → test r ≡ false)
     → (r : Row) → Contains (n ∷ log) (Written r) → test r ≡ false
 none_before test log n here there r c = ⊎_elim (here r) (there r) (cons_cases n (Written r) log c)
 
-last_with : (test : Row → Bool) (log : List Note) (o : Option Row) → IsFound test log o
-    → (n : Note) → IsFound test (n ∷ log) (option_or o (row_if test n))
+last_with : (test : Row → Bool) (log : List TxnEntry) (o : Option Row) → IsFound test log o
+    → (n : TxnEntry) → IsFound test (n ∷ log) (option_or o (row_if test n))
 last_with test log (Some r) h n = (contains_tail n (Written r) log h.0, h.1)
 last_with test log None h (CoordinatorEpoch k) =
     none_before test log (CoordinatorEpoch k) (λ r e. absurd cc) h
@@ -46,13 +47,14 @@ last_with test log None h (Written r) =
     (λ e. none_before test log (Written r)
     (λ s w. subst (λ x. test x ≡ false) (same_written r s w) e) h)
 
-pub last_row_found : (test : Row → Bool) (log : List Note) → IsFound test log (last_row test log)
+pub last_row_found : (test : Row → Bool) (log : List TxnEntry) → IsFound test log
+    (last_row test log)
 unfolding last_row
 last_row_found test [] = λ r c. absurd (no_element (Written r) c)
 last_row_found test (n ∷ log) = last_with test log (last_row test log) (last_row_found test log) n
 
-first_with : (test : Row → Bool) (log : List Note) (o : Option Row) → IsFound test log o
-    → (n : Note) → IsFound test (n ∷ log) (option_or (row_if test n) o)
+first_with : (test : Row → Bool) (log : List TxnEntry) (o : Option Row) → IsFound test log o
+    → (n : TxnEntry) → IsFound test (n ∷ log) (option_or (row_if test n) o)
 first_with test log (Some r) h (CoordinatorEpoch k) =
     (contains_tail (CoordinatorEpoch k) (Written r) log h.0, h.1)
 first_with test log (Some r) h (Allot id) = (contains_tail (Allot id) (Written r) log h.0, h.1)
@@ -69,7 +71,7 @@ first_with test log None h (Written r) =
     (λ e. none_before test log (Written r)
     (λ s w. subst (λ x. test x ≡ false) (same_written r s w) e) h)
 
-pub first_row_found : (test : Row → Bool) (log : List Note)
+pub first_row_found : (test : Row → Bool) (log : List TxnEntry)
     → IsFound test log (first_row test log)
 unfolding first_row
 first_row_found test [] = λ r c. absurd (no_element (Written r) c)
@@ -81,7 +83,7 @@ first_row_found test (n ∷ log) =
 pub same_txn : (r : Row) (txn : List ℕ) → bytes_eq r.txn txn ≡ true → r.txn ≡ txn
 same_txn r txn h = (bytes_eq-Decides r.txn txn).0 h
 
-pub first_row-push : (test : Row → Bool) (log : List Note) (note : Note)
+pub first_row-push : (test : Row → Bool) (log : List TxnEntry) (note : TxnEntry)
     → first_row test (log ++ note ∷ []) ≡ option_or (first_row test log) (row_if test note)
 unfolding first_row
 first_row-push test log note =
@@ -92,27 +94,27 @@ first_row-push test log note =
     or_none None = refl
     or_none (Some r) = refl
 
-pub row_of-other : (log : List Note) (note : Note) (txn : List ℕ)
+pub row_of-other : (log : List TxnEntry) (note : TxnEntry) (txn : List ℕ)
     → row_if (λ r. bytes_eq r.txn txn) note ≡ None
     → row_of (log ++ note ∷ []) txn ≡ row_of log txn
 row_of-other log note txn h =
     last_row-push (λ r. bytes_eq r.txn txn) log note
     ∙ ap (λ o. option_or o (row_of log txn)) h
 
-pub row_of-own : (log : List Note) (r : Row) → row_of (log ++ Written r ∷ []) r.txn ≡ Some r
+pub row_of-own : (log : List TxnEntry) (r : Row) → row_of (log ++ Written r ∷ []) r.txn ≡ Some r
 row_of-own log r =
     let own : bytes_eq r.txn r.txn ≡ true = (bytes_eq-Decides r.txn r.txn).1 refl in
     last_row-push (λ q. bytes_eq q.txn r.txn) log (Written r)
     ∙ ap (λ b. option_or (cond b (Some r) None) (row_of log r.txn)) own
 
-pub row_of-written : (log : List Note) (r : Row) (txn : List ℕ) → (r.txn ≡ txn → ⊥)
+pub row_of-written : (log : List TxnEntry) (r : Row) (txn : List ℕ) → (r.txn ≡ txn → ⊥)
     → row_of (log ++ Written r ∷ []) txn ≡ row_of log txn
 row_of-written log r txn differ =
     row_of-other log (Written r) txn
     (cond_both (bytes_eq r.txn txn) (Some r) None (λ o. o ≡ None)
     (λ e. absurd (differ (same_txn r txn e))) (λ e. refl))
 
-pub row_of-found : (log : List Note) (txn : List ℕ) (s : Row) → row_of log txn ≡ Some s
+pub row_of-found : (log : List TxnEntry) (txn : List ℕ) (s : Row) → row_of log txn ≡ Some s
     → Contains log (Written s) × (s.txn ≡ txn)
 row_of-found log txn s h =
     let f = subst (IsFound (λ r. bytes_eq r.txn txn) log) h
@@ -120,7 +122,7 @@ row_of-found log txn s h =
     (f.0, same_txn s txn f.1)
 
 -- it is the row of its own transactional id
-pub row_of-own_txn : (log : List Note) (txn : List ℕ) (r : Row) → row_of log txn ≡ Some r
+pub row_of-own_txn : (log : List TxnEntry) (txn : List ℕ) (r : Row) → row_of log txn ≡ Some r
     → row_of log r.txn ≡ Some r
 row_of-own_txn log txn r h = ap (row_of log) (row_of-found log txn r h).1 ∙ h
 
@@ -199,7 +201,7 @@ row_below r id (previous e) = let f : above r.previous ≡ id + 1 = ap above e i
 row_below r id (next e) = let f : above r.next ≡ id + 1 = ap above e in grind arith
 
 -- what the log has of a note is below the next id
-pub above_below : (log : List Note) (note : Note) (id : ℕ) → Contains log note
+pub above_below : (log : List TxnEntry) (note : TxnEntry) (id : ℕ) → Contains log note
     → id < above_ids note → id < next_id log
 unfolding next_id
 above_below [] note id c b = absurd (no_element note c)
@@ -208,6 +210,6 @@ above_below (n ∷ log) note id c b =
     (λ e. let h : id < above_ids n = subst (λ x. id < above_ids x) (sym e) b in grind arith)
     (λ c. let h = above_below log note id c b in grind arith) (cons_cases n note log c)
 
-pub above_own : (log : List Note) (s : Row) (id : ℕ) → Contains log (Written s) → Names s id
+pub above_own : (log : List TxnEntry) (s : Row) (id : ℕ) → Contains log (Written s) → Names s id
     → id < next_id log
 above_own log s id c n = above_below log (Written s) id c (row_below s id n)

@@ -9,7 +9,7 @@ use Rattle.std.proofs.lemmas.List.Elements.{Contains-push_cases}
 use Rattle.std.proofs.lemmas.Slice.Eq.{bytes_eq-Decides}
 use Rattle.std.proofs.lemmas.Bool.Decides.{not_from_Decides}
 use Rattle.kx_message.specs.declared.outcome.Outcome.{Outcome}
-use Rattle.kx_model.specs.Coordinator.{Row, Note, Written, Prepare, decision, ends, first_row}
+use Rattle.kx_model.specs.Coordinator.{Row, TxnEntry, Written, Prepare, decision, ends, first_row}
 use Rattle.kx_model.specs.Coordinator.{outcome_in, outcome_of, row_if, row_of}
 use Rattle.kx_model.proofs.Notes.{decision_stays}
 use Rattle.kx_headline.proofs.CoordinatorRows.{Names, ends_decided, first_row-push, outcome_some}
@@ -29,7 +29,7 @@ pub record Shape (r : Row) : Type 0 where
   pub ending : (o : Outcome) → r.state ≡ Prepare o → (1 ≤ r.epoch) × (r.epoch ≤ 32767)
   pub resting : ((o : Outcome) → r.state ≡ Prepare o → ⊥) → r.epoch ≤ 32766
 
-pub record Sound (log : List Note) : Type 0 where
+pub record Sound (log : List TxnEntry) : Type 0 where
   -- the last row of a transactional id is past all its rows
   pub current : (r : Row) → Contains log (Written r)
       → (s : Row) × (row_of log r.txn ≡ Some s) × NotPast r s
@@ -42,7 +42,7 @@ pub record Sound (log : List Note) : Type 0 where
       → decision log id epoch ≡ outcome_of r.state
 
 -- what a row has to meet to be written next
-pub record Fits (log : List Note) (r : Row) : Type 0 where
+pub record Fits (log : List TxnEntry) (r : Row) : Type 0 where
   pub past : (s : Row) → row_of log r.txn ≡ Some s → NotPast s r
   pub its_own : (s : Row) (id : ℕ) → Contains log (Written s) → Names r id → Names s id
       → s.txn ≡ r.txn
@@ -67,7 +67,7 @@ same_or_not a b =
 
 ------ one row more
 
-module _ (log : List Note) (r : Row) where
+module _ (log : List TxnEntry) (r : Row) where
   pub old_or_new : (q : Row) → Contains (log ++ Written r ∷ []) (Written q)
       → Contains log (Written q) ⊎ (r ≡ q)
   old_or_new q c = ⊎_elim inl (λ e. inr cc) (Contains-push_cases log (Written r) (Written q) c)
@@ -139,7 +139,7 @@ module _ (log : List Note) (r : Row) where
 
 ------ a note that is no row
 
-module _ (log : List Note) (note : Note) (sound : Sound log)
+module _ (log : List TxnEntry) (note : TxnEntry) (sound : Sound log)
     (no_row : (r : Row) → note ≡ Written r → ⊥)
     (no_test : (test : Row → Bool) → row_if test note ≡ None) where
   only_old : (q : Row) → Contains (log ++ note ∷ []) (Written q) → Contains log (Written q)

@@ -23,7 +23,8 @@ use Rattle.kx_message.specs.declared.message.Message.{Message}
 use Rattle.kx_message.specs.Messages as the
 use Rattle.kx_message.specs.declared.outcome.Outcome.{Outcome}
 use Rattle.kx_message.specs.declared.outcome.Outcome.TheVariants.{Abort, Commit}
-use Rattle.kx_model.specs.Coordinator.{Row, Note, Allot, Written, State, Empty, Ongoing, Prepare}
+use Rattle.kx_model.specs.Coordinator.{Row, TxnEntry, Allot, Written, State, Empty, Ongoing}
+use Rattle.kx_model.specs.Coordinator.{Prepare}
 use Rattle.kx_model.specs.Coordinator.{Complete, ByInit, ByEnd, ByExpiry, ends, is}
 use Rattle.kx_model.specs.Coordinator.{is_complete}
 use Rattle.kx_model.specs.Coordinator.{lists, next_id, outcome_of, row_of, rows, same_outcome}
@@ -55,17 +56,18 @@ use Rattle.kx_laws.proofs.Membership.{any_holds, cons_cases, no_element}
 ------ what an answer does
 
 -- the log with the note that an answer appends
-abbrev pub log_after : List Note → Option Note → List Note
+abbrev pub log_after : List TxnEntry → Option TxnEntry → List TxnEntry
 log_after log None = log
 log_after log (Some note) = log ++ note ∷ []
 
 -- its note may be written, and so much is said where its code is 0
-pub record Does (sent : List Message) (log : List Note)
-    (Says : Option Note → Option Held → Type 0) (a : Answer) : Type 0 where
+pub record Does (sent : List Message) (log : List TxnEntry)
+    (Says : Option TxnEntry → Option Held → Type 0) (a : Answer) : Type 0 where
   pub follows : IfSome a.note (Follows sent log)
   pub says : a.code ≡ NoError → Says a.note a.held
 
-refused : {sent : List Message} {log : List Note} {Says : Option Note → Option Held → Type 0}
+refused : {sent : List Message} {log : List TxnEntry} {Says : Option TxnEntry → Option Held →
+    Type 0}
     (code : ErrorCode) → code ≢ NoError → Does sent log Says (refuses code)
 refused code h = record { follows = tt; says = λ e. absurd (h e) }
 
@@ -73,14 +75,14 @@ refused code h = record { follows = tt; says = λ e. absurd (h e) }
 
 -- a row of the transactional id has the pair, and its owner is the client; or, without one, the id
 -- is allotted now
-pub data InitSays (log : List Note) (client : ℕ) (txn : Option (List ℕ)) :
-    Option Note → Option Held → Type 0 where
-  owned : (note : Option Note) (r : Row) → Contains (log_after log note) (Written r)
+pub data InitSays (log : List TxnEntry) (client : ℕ) (txn : Option (List ℕ)) :
+    Option TxnEntry → Option Held → Type 0 where
+  owned : (note : Option TxnEntry) (r : Row) → Contains (log_after log note) (Written r)
       → r.owner ≡ client → txn ≡ Some r.txn → InitSays log client txn note (Some (own_pair r))
   allotted : txn ≡ None → InitSays log client txn (Some (Allot (next_id log)))
       (Some (record { id = next_id log; epoch = 0 }))
 
-module _ (sent : List Message) (log : List Note) (caller : Caller) (timeout : ℕ) where
+module _ (sent : List Message) (log : List TxnEntry) (caller : Caller) (timeout : ℕ) where
   abbrev pub InitDoes : Option (List ℕ) → Answer → Type 0
   InitDoes txn a = Does sent log (InitSays log caller.client txn) a
 
@@ -194,8 +196,8 @@ module _ (r : Row) (held : Held) where
       let same_epoch : held.epoch ≡ r.epoch = grind (arith, nat_tests, low, e.1) in
       λ i. record { id = same_id i; epoch = same_epoch i }
 
-  or_answer_does : {sent : List Message} {log : List Note}
-      {Says : Option Note → Option Held → Type 0} (a : Answer)
+  or_answer_does : {sent : List Message} {log : List TxnEntry}
+      {Says : Option TxnEntry → Option Held → Type 0} (a : Answer)
       → (refused_first r held ≡ None → Does sent log Says a)
       → Does sent log Says (or_answer (refused_first r held) a)
   or_answer_does {sent} {log} {Says} a h = at (refused_first r held) refl first_fails
@@ -208,7 +210,7 @@ module _ (r : Row) (held : Held) where
 ------ a partition asks to be added to a transaction
 
 -- an ongoing row of the pair lists the partition
-pub record Listed (log : List Note) (partition id epoch : ℕ) : Type 0 where
+pub record Listed (log : List TxnEntry) (partition id epoch : ℕ) : Type 0 where
   pub row : Row
   pub written : Contains log (Written row)
   pub its_id : row.id ≡ id
@@ -216,7 +218,7 @@ pub record Listed (log : List Note) (partition id epoch : ℕ) : Type 0 where
   pub going : row.state ≡ Ongoing
   pub listed : Contains row.partitions partition
 
-module _ (sent : List Message) (log : List Note) (clock : ℕ) (held : Held) (partition : ℕ) where
+module _ (sent : List Message) (log : List TxnEntry) (clock : ℕ) (held : Held) (partition : ℕ) where
   abbrev pub AddDoes : Answer → Type 0
   AddDoes a =
       Does sent log (λ note after. Listed (log_after log note) partition held.id held.epoch) a
@@ -288,9 +290,10 @@ pub data Gives (r : Row) : Held → Type 0 where
   gives_next : Gives r (held_after r)
 
 -- a row of the transactional id ends the transaction of this pair so, and gives the one after it
-pub data EndSays (log : List Note) (txn : List ℕ) (held : Held) (outcome : Outcome) :
-    Option Note → Option Held → Type 0 where
-  ended : (note : Option Note) (r : Row) (given : Held) → Contains (log_after log note) (Written r)
+pub data EndSays (log : List TxnEntry) (txn : List ℕ) (held : Held) (outcome : Outcome) :
+    Option TxnEntry → Option Held → Type 0 where
+  ended : (note : Option TxnEntry) (r : Row) (given : Held) → Contains (log_after log note)
+      (Written r)
       → r.txn ≡ txn → ends held.id held.epoch r ≡ true → Gives r given
       → outcome_of r.state ≡ Some outcome → given ≡ held_after r
       → EndSays log txn held outcome note (Some given)
@@ -346,7 +349,7 @@ ended_after r shape outcome (Complete o) e h =
     after_no_next (Some id) e = absurd cc
 
 -- a row that is raised ends the transaction of the one before
-raised_ends : (log : List Note) (s r : Row) → Raised log s r → s.epoch ≤ 32766
+raised_ends : (log : List TxnEntry) (s r : Row) → Raised log s r → s.epoch ≤ 32766
     → r.state ≡ Complete Abort → ends s.id s.epoch r ≡ true
 raised_ends log s r (higher a b c d) low now =
     ends_own s.id s.epoch r a b (ap (λ st. is_some (outcome_of st)) now)
@@ -358,7 +361,7 @@ raised_ends log s r (anew a b c d) low now =
     let at_first : (r.epoch == 0) ≡ true = grind (arith, nat_tests) in
     or_right _ _ (and_from _ _ (and_from _ _ (and_from _ _ at_last was) at_first) done)
 
-module _ (sent : List Message) (log : List Note) (sound : Sound log) (caller : Caller)
+module _ (sent : List Message) (log : List TxnEntry) (sound : Sound log) (caller : Caller)
     (held : Held) (outcome : Outcome) where
   abbrev pub EndDoes : List ℕ → Answer → Type 0
   EndDoes txn a = Does sent log (EndSays log txn held outcome) a
@@ -479,13 +482,13 @@ noting_replied sent answered a h here =
     cond_both (list_any (same_answered a) answered) answered (answered ++ a ∷ [])
     (All (IsReplied sent)) (λ e. h) (λ e. All-push (IsReplied sent) answered a h here)
 
-pub data SettleDoes (sent : List Message) (log : List Note) : Settled → Type 0 where
+pub data SettleDoes (sent : List Message) (log : List TxnEntry) : Settled → Type 0 where
   ignores : SettleDoes sent log Ignored
   notes : SettleDoes sent log Noted
   writes_row : (row : Row) → Follows sent log (Written row)
       → SettleDoes sent log (Completes row)
 
-module _ (sent : List Message) (log : List Note) (answered : List Answered) (a : Answered)
+module _ (sent : List Message) (log : List TxnEntry) (answered : List Answered) (a : Answered)
     (replied : All (IsReplied sent) answered) (here : IsReplied sent a) where
   all_replied : (r : Row) → list_all (is_answered (noting answered a) r) r.partitions ≡ true
       → (p : ℕ) → Contains r.partitions p → IsReplied sent (answered_at r p)
@@ -521,7 +524,7 @@ module _ (sent : List Message) (log : List Note) (answered : List Answered) (a :
 ------ rows, and expiry
 
 -- the rows are last rows
-pub rows_last : (log : List Note) (r : Row) → Contains (rows log) r → row_of log r.txn ≡ Some r
+pub rows_last : (log : List TxnEntry) (r : Row) → Contains (rows log) r → row_of log r.txn ≡ Some r
 rows_last log r c = among (txns log) c
   where
     at : (txn : List ℕ) (more : List Row) → (Contains more r → row_of log r.txn ≡ Some r)
@@ -544,7 +547,7 @@ overdue_ongoing now r Ongoing h = refl
 overdue_ongoing now r (Prepare o) h = absurd cc
 overdue_ongoing now r (Complete o) h = absurd cc
 
-pub expire_follows : (sent : List Message) (log : List Note) (now : ℕ)
+pub expire_follows : (sent : List Message) (log : List TxnEntry) (now : ℕ)
     → IfSome (expire log now) (λ r. Follows sent log (Written r))
 expire_follows sent log now = at (find (is_overdue now) (rows log)) refl
   where

@@ -12,8 +12,8 @@ use Rattle.kx_varint.specs.Text.{IsBytes}
 use Rattle.kx_message.specs.Message.{IsMessage, IsU32}
 use Rattle.kx_message.specs.Ranges.{IsName, IsTimeout, offsets_partition}
 use Rattle.kx_message.specs.declared.message.Message.{Message}
-use Rattle.kx_message.specs.declared.message.Node.{Node}
-use Rattle.kx_message.specs.declared.message.Node.TheVariants as node
+use Rattle.kx_message.specs.declared.message.NodeId.{NodeId}
+use Rattle.kx_message.specs.declared.message.NodeId.TheVariants as node
 use Rattle.kx_model.specs.Client.{Client, Command, Commanded, Declines, Does, command, new_client}
 use Rattle.kx_model.specs.CoordinatorNode.{Coordinated, coordinator_restarts, coordinator_takes}
 use Rattle.kx_model.specs.CoordinatorNode.{expires, reminds}
@@ -167,7 +167,7 @@ module _ (w : World) where
       let s = client_step c input in
       clients c s.state s.messages (its_number w number c e) (client_turns c input handed)
 
-  handed_is : (to : Node) (store : Store) (input : Input) → IsHanded w input
+  handed_is : (to : NodeId) (store : Store) (input : Input) → IsHanded w input
       → Turn w (handed w to store input).0
   handed_is node.Coordinator store input is = coordinator_is store input is
   handed_is (node.Partition number) store input is =
@@ -175,12 +175,12 @@ module _ (w : World) where
   handed_is (node.Client number) store input is =
       client_is number input is (client_at w number) refl
 
-  delivered_is : (to : Node) (store : Store) (o : Option Message) → IfSome o (Contains w.sent)
+  delivered_is : (to : NodeId) (store : Store) (o : Option Message) → IfSome o (Contains w.sent)
       → Turn w (delivered w to store o).0
   delivered_is to store None c = nobodys
   delivered_is to store (Some m) c = handed_is to store (Comes m) c
 
-  hand_is : (to : Node) (store : Store) (input : Input) → IsInput input
+  hand_is : (to : NodeId) (store : Store) (input : Input) → IsInput input
       → Turn w (handed_no_message w to store input).0
   hand_is to store (Comes m) fits = nobodys
   hand_is to store (Commands what) fits = handed_is to store (Commands what) fits

@@ -12,7 +12,7 @@ use Rattle.std.proofs.lemmas.List.Elements.{Contains-append_left, Contains-appen
 use Rattle.kx_message.specs.declared.message.Message.{Message}
 use Rattle.kx_message.specs.declared.outcome.Outcome.{Outcome}
 use Rattle.kx_message.specs.declared.outcome.Outcome.TheVariants.{Abort, Commit}
-use Rattle.kx_model.specs.Coordinator.{Row, Note, Written, Cause}
+use Rattle.kx_model.specs.Coordinator.{Row, TxnEntry, Written, Cause}
 use Rattle.kx_model.specs.Coordinator.{Fenced, decision, ends, first_row, is_fencing}
 use Rattle.kx_model.specs.Coordinator.{is_past, outcome_in, outcome_of, row_if, row_of}
 use Rattle.kx_model.specs.Headline.{HasOneOutcome}
@@ -63,9 +63,9 @@ parted (l ∷ log) (y ∷ earlier) later n x e =
 ------ what is barred
 
 -- the same as Fenced, for each id that some row of the transactional id names
-record Barred (log : List Note) (id epoch : ℕ) : Type 0 where
-  earlier : List Note
-  later : List Note
+record Barred (log : List TxnEntry) (id epoch : ℕ) : Type 0 where
+  earlier : List TxnEntry
+  later : List TxnEntry
   named : Row
   fence : Row
   parts : log ≡ earlier ++ Written fence ∷ later
@@ -95,7 +95,7 @@ not_both id epoch f s p n i e =
 
 ------ what one row decides
 
-abbrev decides_now : Note → ℕ → ℕ → Option Outcome
+abbrev decides_now : TxnEntry → ℕ → ℕ → Option Outcome
 decides_now note id epoch = outcome_in (row_if (ends id epoch) note)
 
 -- what a row decides, it ends
@@ -126,7 +126,8 @@ fencing_aborts o cause (by_end p c m) h = absurd cc
 fencing_aborts o cause by_init h = refl
 fencing_aborts o cause by_expiry h = refl
 
-fence_aborts : {sent : List Message} (log : List Note) (note : Note) (f : Row) (id epoch : ℕ)
+fence_aborts : {sent : List Message} (log : List TxnEntry) (note : TxnEntry) (f : Row)
+    (id epoch : ℕ)
     → Follows sent log note → note ≡ Written f → is_fencing f.cause ≡ true
     → decides_now note id epoch ≡ Some Commit → ⊥
 fence_aborts log note f id epoch (opens low) e c d = cc
@@ -151,7 +152,7 @@ fence_aborts log note f id epoch (completes s o found was m) e c d =
     no_fence : false ≡ true → ⊥
     no_fence h = cc
 
-module _ {log : List Note} (sound : Sound log) where
+module _ {log : List TxnEntry} (sound : Sound log) where
   fence_behind : (f s : Row) → Contains log (Written f) → f.txn ≡ s.txn
       → row_of log s.txn ≡ Some s → NotPast f s
   fence_behind f s c e found =
@@ -162,7 +163,7 @@ module _ {log : List Note} (sound : Sound log) where
       some_same t h = cc
 
   -- a commit that the next note decides is that of a last row, whose pair no fence is past
-  commits_late : {sent : List Message} (note : Note) (f : Row) (id epoch : ℕ)
+  commits_late : {sent : List Message} (note : TxnEntry) (f : Row) (id epoch : ℕ)
       → Follows sent log note
       → Contains log (Written f) → is_past id epoch f ≡ true
       → ((s : Row) → row_of log s.txn ≡ Some s → s.id ≡ id → f.txn ≡ s.txn)
@@ -197,7 +198,7 @@ module _ {log : List Note} (sound : Sound log) where
 
 ------ what is decided next
 
-none_first : (log : List Note) (id epoch : ℕ) → decision log id epoch ≡ None
+none_first : (log : List TxnEntry) (id epoch : ℕ) → decision log id epoch ≡ None
     → first_row (ends id epoch) log ≡ None
 none_first log id epoch d =
     at (first_row (ends id epoch) log) d (first_row_found (ends id epoch) log)
@@ -208,7 +209,7 @@ none_first log id epoch d =
         let (o, is_o) = outcome_some q.state (ends_decided id epoch q f.1) in absurd cc
 
 -- the row that decides names the id
-decider : (log : List Note) (id epoch : ℕ) (o : Outcome) → decision log id epoch ≡ Some o
+decider : (log : List TxnEntry) (id epoch : ℕ) (o : Outcome) → decision log id epoch ≡ Some o
     → (q : Row) × Contains log (Written q) × Names q id
 decider log id epoch o d =
     at (first_row (ends id epoch) log) d (first_row_found (ends id epoch) log)
@@ -222,7 +223,8 @@ decider log id epoch o d =
     at None e f = absurd cc
     at (Some q) e f = (q, f.0, names q (ends_tells id epoch q f.1))
 
-pub decision_next : (log : List Note) (note : Note) (id epoch : ℕ) → decision log id epoch ≡ None
+pub decision_next : (log : List TxnEntry) (note : TxnEntry) (id epoch : ℕ) →
+    decision log id epoch ≡ None
     → decision (log ++ note ∷ []) id epoch ≡ outcome_in (row_if (ends id epoch) note)
 decision_next log note id epoch d =
     ap outcome_in (first_row-push (ends id epoch) log note
@@ -230,10 +232,10 @@ decision_next log note id epoch d =
 
 ------ what is barred is never decided to commit
 
-abbrev NeverBarred : List Note → Type 0
+abbrev NeverBarred : List TxnEntry → Type 0
 NeverBarred log = (id epoch : ℕ) → Barred log id epoch → decision log id epoch ≡ Some Commit → ⊥
 
-module _ {sent : List Message} (mid : List Note) (note : Note) (mid_sound : Sound mid)
+module _ {sent : List Message} (mid : List TxnEntry) (note : TxnEntry) (mid_sound : Sound mid)
     (f : Follows sent mid note) (ih : NeverBarred mid) (id epoch : ℕ)
     (b : Barred (mid ++ note ∷ []) id epoch)
     (d : decision (mid ++ note ∷ []) id epoch ≡ Some Commit) where
@@ -245,7 +247,7 @@ module _ {sent : List Message} (mid : List Note) (note : Note) (mid_sound : Soun
       (sym (decision_next mid note id epoch un) ∙ d)
 
   -- it stood before
-  fenced_before : (rest : List Note) × (mid ≡ b.earlier ++ Written b.fence ∷ rest) → ⊥
+  fenced_before : (rest : List TxnEntry) × (mid ≡ b.earlier ++ Written b.fence ∷ rest) → ⊥
   fenced_before (rest, parts) = at (decision mid id epoch) refl
     where
       there : Contains mid (Written b.fence)
@@ -284,7 +286,7 @@ module _ {sent : List Message} (mid : List Note) (note : Note) (mid_sound : Soun
   barred_next = ⊎_elim fenced_now fenced_before
       (parted mid b.earlier b.later note (Written b.fence) b.parts)
 
-barred_never : {sent : List Message} {log : List Note} → History sent log → NeverBarred log
+barred_never : {sent : List Message} {log : List TxnEntry} → History sent log → NeverBarred log
 barred_never none id epoch b d =
     no_first_row b.fence (subst (λ l. Contains l (Written b.fence)) (sym b.parts)
     (Contains-append_right b.earlier (Written b.fence ∷ b.later) (Written b.fence)
@@ -293,7 +295,7 @@ barred_never (more mid note g n) id epoch b d =
     barred_next mid note (history_sound g) n.follows (barred_never g) id epoch b d
 
 -- what was fenced before it was decided is never decided to commit
-pub fenced_never : {sent : List Message} {log : List Note} → History sent log → (id epoch : ℕ)
+pub fenced_never : {sent : List Message} {log : List TxnEntry} → History sent log → (id epoch : ℕ)
     → Fenced log id epoch → decision log id epoch ≢ Some Commit
 fenced_never g id epoch f d =
     barred_never g id epoch (record {

@@ -20,7 +20,7 @@ use Rattle.kx_message.specs.declared.message.Message.{Message}
 use Rattle.kx_message.specs.declared.message.Message.TheVariants as msg
 use Rattle.kx_message.specs.Messages as the
 use Rattle.kx_model.specs.Client.{Client, new_client}
-use Rattle.kx_model.specs.Coordinator.{Row, Note, Allot, Written, ends, next_id}
+use Rattle.kx_model.specs.Coordinator.{Row, TxnEntry, Allot, Written, ends, next_id}
 use Rattle.kx_model.specs.CoordinatorNode.{Coordinated, notes_of}
 use Rattle.kx_model.specs.Headline.{Always, OneHolder}
 use Rattle.kx_model.specs.World.{World, hands, holds, notes, same_pair, start, with_client}
@@ -51,13 +51,13 @@ use Rattle.kx_headline.proofs.SentKinds
 ------ whose a pair is
 
 -- a row gives the pair to the client, or the id was allotted
-pub data Owned (log : List Note) (client : ℕ) (held : Held) : Type 0 where
+pub data Owned (log : List TxnEntry) (client : ℕ) (held : Held) : Type 0 where
   by_pair : (r : Row) → Contains log (Written r) → r.owner ≡ client → Pairs r held.id held.epoch
       → Owned log client held
   by_id : Contains log (Allot held.id) → Owned log client held
 
-owned_later : {log later : List Note} {client : ℕ} {held : Held}
-    → ((note : Note) → Contains log note → Contains later note) → Owned log client held
+owned_later : {log later : List TxnEntry} {client : ℕ} {held : Held}
+    → ((note : TxnEntry) → Contains log note → Contains later note) → Owned log client held
     → Owned later client held
 owned_later on (by_pair r c o p) = by_pair r (on (Written r) c) o p
 owned_later on (by_id c) = by_id (on (Allot _) c)
@@ -66,7 +66,7 @@ names_pair : (r : Row) (id epoch : ℕ) → Pairs r id epoch → Names r id
 names_pair r id epoch (has_now a b) = own a
 names_pair r id epoch (promised a b) = next a
 
-owned_below : (log : List Note) (client : ℕ) (held : Held) → Owned log client held
+owned_below : (log : List TxnEntry) (client : ℕ) (held : Held) → Owned log client held
     → held.id < next_id log
 owned_below log client held (by_pair r c o p) =
     above_own log r held.id c (names_pair r held.id held.epoch p)
@@ -91,7 +91,7 @@ names_ended r id epoch h = by (ends_tells id epoch r h)
 ------ what stands
 
 -- two clients that were handed an allotted id are one
-abbrev pub AllottedOnce : List Message → List Note → Type 0
+abbrev pub AllottedOnce : List Message → List TxnEntry → Type 0
 AllottedOnce sent log = (c d k l : ℕ) (held other : Held)
     → Contains sent (the.InitReply (caller_with c k) code.NoError (Some held))
     → Contains sent (the.InitReply (caller_with d l) code.NoError (Some other))
@@ -156,14 +156,14 @@ module _ (sent messages : List Message) (quiet : All HandsNone messages) where
 
 ------ the coordinator's turn
 
-next_id_grows : {sent : List Message} {log later : List Note} → Grows sent log later
+next_id_grows : {sent : List Message} {log later : List TxnEntry} → Grows sent log later
     → next_id log ≤ next_id later
 next_id_grows none = omega arith
 next_id_grows (more mid note g n) =
     let h = next_id_grows g in let e = next_id-push mid note in grind arith
 
 -- an id below the next one that is allotted later was allotted before
-allotted_before : {sent : List Message} {log later : List Note} → Grows sent log later
+allotted_before : {sent : List Message} {log later : List TxnEntry} → Grows sent log later
     → (id : ℕ) → id < next_id log → Contains later (Allot id) → Contains log (Allot id)
 allotted_before none id low c = c
 allotted_before (more mid note g n) id low c =
@@ -179,7 +179,7 @@ module _ (w : World) (h : HoldersStand w) (s : Coordinated)
   out : (m : Message) → Contains s.1 m → Out d.client w.sent (notes w) (notes_of s.0) m
   out m c = All-contains (Out d.client w.sent (notes w) (notes_of s.0)) s.1 m d.out c
 
-  on : (note : Note) → Contains (notes w) note → Contains (notes_of s.0) note
+  on : (note : TxnEntry) → Contains (notes w) note → Contains (notes_of s.0) note
   on = note_grows d.grows
 
   owned_init : (c k : ℕ) (held : Held)

@@ -10,7 +10,7 @@ use Rattle.kx_message.specs.declared.message.Held.{Held}
 use Rattle.kx_message.specs.declared.message.Message.{Message}
 use Rattle.kx_message.specs.Messages as the
 use Rattle.kx_message.specs.declared.outcome.Outcome.{Outcome}
-use Rattle.kx_model.specs.Coordinator.{Note, decision, outcome_of}
+use Rattle.kx_model.specs.Coordinator.{TxnEntry, decision, outcome_of}
 use Rattle.kx_model.specs.Headline.{HasOneOutcome}
 use Rattle.kx_model.specs.Log.{Control, Marker}
 use Rattle.kx_model.specs.World.{World, entries_at, notes}
@@ -31,7 +31,7 @@ abbrev pub AreAsked : World → Type 0
 AreAsked w = (p : ℕ) (m : Marker) → Contains (entries_at w p) (Control m) → IsAsked w m
 
 -- a marker's outcome is that of its transaction, whose epoch is one less
-pub record IsDecided (log : List Note) (id epoch : ℕ) (outcome : Outcome) : Type 0 where
+pub record IsDecided (log : List TxnEntry) (id epoch : ℕ) (outcome : Outcome) : Type 0 where
   pub own_epoch : ℕ
   pub one_less : epoch ≡ own_epoch + 1
   pub decided : decision log id own_epoch ≡ Some outcome
@@ -41,7 +41,8 @@ one_below zero h = absurd (omega arith)
 one_below (suc m) h = (m, omega arith)
 
 -- a row that waits for its markers says what is decided
-pub marks_decided : (log : List Note) (p : ℕ) (held : Held) (coordinator : ℤ) (outcome : Outcome)
+pub marks_decided : (log : List TxnEntry) (p : ℕ) (held : Held) (coordinator : ℤ)
+    (outcome : Outcome)
     → Sound log → Marks log p held coordinator outcome
     → IsDecided log held.id held.epoch outcome
 marks_decided log p held coordinator outcome sound marks =

@@ -15,7 +15,8 @@ use Rattle.kx_message.specs.declared.code.ErrorCode.TheVariants.{NoError}
 use Rattle.kx_message.specs.declared.message.Message.{Message}
 use Rattle.kx_message.specs.Messages as the
 use Rattle.kx_message.specs.declared.outcome.Outcome.{Outcome}
-use Rattle.kx_model.specs.Coordinator.{Row, Note, CoordinatorEpoch, Allot, Written, State, Empty}
+use Rattle.kx_model.specs.Coordinator.{Row, TxnEntry, CoordinatorEpoch, Allot, Written, State}
+use Rattle.kx_model.specs.Coordinator.{Empty}
 use Rattle.kx_model.specs.Coordinator.{Ongoing, Prepare, Complete, coordinator_epoch}
 use Rattle.kx_model.specs.Coordinator.{has_under_way, is, is_at, last_row, lists, next_id, owed}
 use Rattle.kx_model.specs.Coordinator.{row_if, row_of}
@@ -37,7 +38,7 @@ pub data UnderWay (epoch : ℕ) (s : Row) : Type 0 where
   going : s.state ≡ Ongoing → s.epoch ≡ epoch → UnderWay epoch s
   ending : (o : Outcome) → s.state ≡ Prepare o → s.epoch ≡ epoch + 1 → UnderWay epoch s
 
-pub record IsOwed (log : List Note) (p id epoch : ℕ) : Type 0 where
+pub record IsOwed (log : List TxnEntry) (p id epoch : ℕ) : Type 0 where
   pub row : Row
   pub current : row_of log row.txn ≡ Some row
   pub its_id : row.id ≡ id
@@ -50,20 +51,20 @@ pub record IsAnswered (sent : List Message) (p id epoch : ℕ) : Type 0 where
   pub answered : Contains sent
       (the.MarkerReply p txn (record { id = id; epoch = epoch }) NoError)
 
-abbrev pub OwedOrAnswered : List Message → List Note → ℕ → ℕ → ℕ → Type 0
+abbrev pub OwedOrAnswered : List Message → List TxnEntry → ℕ → ℕ → ℕ → Type 0
 OwedOrAnswered sent log p id epoch = IsOwed log p id epoch ⊎ IsAnswered sent p id (epoch + 1)
 
-abbrev pub Owes : List Message → List Note → ℕ → Type 0
+abbrev pub Owes : List Message → List TxnEntry → ℕ → Type 0
 Owes sent log p = (id epoch : ℕ) → Listed log p id epoch → OwedOrAnswered sent log p id epoch
 
 ------ one note more
 
-module _ (sent : List Message) (log : List Note) (p : ℕ) where
+module _ (sent : List Message) (log : List TxnEntry) (p : ℕ) where
   some_same : (s t : Row) → Some s ≡ Some t → s ≡ t
   some_same s t h = cc
 
   -- another transactional id's row changes nothing, nor does a note that is no row
-  other : (note : Note) (id epoch : ℕ) (o : IsOwed log p id epoch)
+  other : (note : TxnEntry) (id epoch : ℕ) (o : IsOwed log p id epoch)
       → row_of (log ++ note ∷ []) o.row.txn ≡ row_of log o.row.txn
       → IsOwed (log ++ note ∷ []) p id epoch
   other note id epoch o same = record {
@@ -129,7 +130,7 @@ module _ (sent : List Message) (log : List Note) (p : ℕ) where
       }
 
   -- what an older row listed
-  old_owed : (note : Note) → Follows sent log note → (id epoch : ℕ) → IsOwed log p id epoch
+  old_owed : (note : TxnEntry) → Follows sent log note → (id epoch : ℕ) → IsOwed log p id epoch
       → OwedOrAnswered sent (log ++ note ∷ []) p id epoch
   old_owed note (opens low) id epoch o =
       let k = CoordinatorEpoch (coordinator_epoch log +ℤ pos 1) in
@@ -163,7 +164,7 @@ module _ (sent : List Message) (log : List Note) (p : ℕ) where
       (λ i l u. inr (finished s x id epoch was i u (m p l)))
 
   -- a row that lists anew is the last one
-  new_owed : (note : Note) → Follows sent log note → (r : Row) → note ≡ Written r
+  new_owed : (note : TxnEntry) → Follows sent log note → (r : Row) → note ≡ Written r
       → r.state ≡ Ongoing → Contains r.partitions p → IsOwed (log ++ note ∷ []) p r.id r.epoch
   new_owed note (opens low) r e g l = absurd cc
   new_owed note (allots caller t m) r e g l = absurd cc
@@ -181,7 +182,7 @@ module _ (sent : List Message) (log : List Note) (p : ℕ) where
   new_owed note (completes s x found was m) r e g l =
       let h : completed log s x ≡ r = cc in let s = ap (λ x. x.state) h in absurd cc
 
-  owes_next : (note : Note) → Follows sent log note → Owes sent log p
+  owes_next : (note : TxnEntry) → Follows sent log note → Owes sent log p
       → Owes sent (log ++ note ∷ []) p
   owes_next note f owes id epoch l =
       ⊎_elim old new (Contains-push_cases log note (Written l.row) l.written)
@@ -203,7 +204,7 @@ module _ (sent : List Message) (log : List Note) (p : ℕ) where
           (subst (IsOwed (log ++ note ∷ []) p l.row.id) l.its_epoch
           (new_owed note f l.row e l.going l.listed)))
 
-pub owes : {sent : List Message} {log : List Note} → History sent log → (p : ℕ)
+pub owes : {sent : List Message} {log : List TxnEntry} → History sent log → (p : ℕ)
     → Owes sent log p
 owes none p id epoch l = absurd (no_first_row l.row l.written)
 owes {sent} (more mid note g n) p id epoch l =
@@ -213,7 +214,7 @@ owes {sent} (more mid note g n) p id epoch l =
 
 -- of two tests, the second that of rows that pass the first too: the last row of the second is that
 -- of the first, where it passes it
-last_subset : (t u : Row → Bool) (log : List Note) (s : Row)
+last_subset : (t u : Row → Bool) (log : List TxnEntry) (s : Row)
     → ((r : Row) → Contains log (Written r) → t r ≡ true → u r ≡ true) → t s ≡ true
     → last_row u log ≡ Some s → last_row t log ≡ Some s
 unfolding last_row
@@ -222,7 +223,7 @@ last_subset t u (n ∷ log) s sub h e =
     at (last_row u log) (last_row_found u log) refl (last_row t log) (last_row_found t log) refl
     (last_subset t u log s (λ r c. sub r (contains_tail n (Written r) log c)) h) e
   where
-    own_row : (n : Note) → row_if u n ≡ Some s → row_if t n ≡ Some s
+    own_row : (n : TxnEntry) → row_if u n ≡ Some s → row_if t n ≡ Some s
     own_row (CoordinatorEpoch k) e = absurd cc
     own_row (Allot i) e = absurd cc
     own_row (Written r) e = if_own (u r) e
@@ -267,7 +268,7 @@ at_state row_epoch epoch s same (ending o g e) Empty h = absurd cc
 at_state row_epoch epoch s same (ending o g e) (Complete x) h = absurd cc
 
 -- what is owed is owed by the last row that names the id
-pub owed_is : (log : List Note) → Sound log → (p id epoch : ℕ) → IsOwed log p id epoch
+pub owed_is : (log : List TxnEntry) → Sound log → (p id epoch : ℕ) → IsOwed log p id epoch
     → owed log p id epoch ≡ true
 owed_is log sound p id epoch o =
     let s = o.row in

@@ -8,7 +8,8 @@ use Rattle.std.proofs.lemmas.List.Elements.{Contains-push_cases}
 use Rattle.kx_message.specs.declared.message.Message.{Message}
 use Rattle.kx_message.specs.declared.outcome.Outcome.{Outcome}
 use Rattle.kx_message.specs.declared.outcome.Outcome.TheVariants.{Abort}
-use Rattle.kx_model.specs.Coordinator.{Row, Note, CoordinatorEpoch, Allot, Written, Cause, ByEnd}
+use Rattle.kx_model.specs.Coordinator.{Row, TxnEntry, CoordinatorEpoch, Allot, Written, Cause}
+use Rattle.kx_model.specs.Coordinator.{ByEnd}
 use Rattle.kx_model.specs.Coordinator.{Complete, Prepare, coordinator_epoch, ends}
 use Rattle.kx_model.specs.Coordinator.{next_id, outcome_of, row_of}
 use Rattle.kx_model.specs.Requests.{completed, first_use, prepared, with_added}
@@ -30,14 +31,14 @@ pub data Pairs (r : Row) (id epoch : ℕ) : Type 0 where
   has_now : r.id ≡ id → r.epoch ≡ epoch → Pairs r id epoch
   promised : r.next ≡ Some id → epoch ≡ 0 → Pairs r id epoch
 
-pub record OneOwner (log : List Note) : Type 0 where
+pub record OneOwner (log : List TxnEntry) : Type 0 where
   pub one : (r s : Row) (id epoch : ℕ) → Contains log (Written r) → Contains log (Written s)
       → Pairs r id epoch → Pairs s id epoch → r.owner ≡ s.owner
   pub ended : (r s : Row) (id epoch : ℕ) → Contains log (Written r) → Contains log (Written s)
       → ends id epoch r ≡ true → Pairs s id epoch → s.owner ≡ r.owner
 
 -- what a row has to meet
-record Keeps (log : List Note) (n : Row) : Type 0 where
+record Keeps (log : List TxnEntry) (n : Row) : Type 0 where
   pairs : (q : Row) (id epoch : ℕ) → Contains log (Written q) → Pairs n id epoch
       → Pairs q id epoch → q.owner ≡ n.owner
   ends_it : (q : Row) (id epoch : ℕ) → Contains log (Written q) → ends id epoch n ≡ true
@@ -45,7 +46,7 @@ record Keeps (log : List Note) (n : Row) : Type 0 where
   ended_by : (q : Row) (id epoch : ℕ) → Contains log (Written q) → ends id epoch q ≡ true
       → Pairs n id epoch → n.owner ≡ q.owner
 
-module _ (log : List Note) (n : Row) (ow : OneOwner log) (k : Keeps log n) where
+module _ (log : List TxnEntry) (n : Row) (ow : OneOwner log) (k : Keeps log n) where
   one_next : (r s : Row) (id epoch : ℕ) → Contains log (Written r) ⊎ (n ≡ r)
       → Contains log (Written s) ⊎ (n ≡ s) → Pairs r id epoch → Pairs s id epoch
       → r.owner ≡ s.owner
@@ -77,7 +78,7 @@ module _ (log : List Note) (n : Row) (ow : OneOwner log) (k : Keeps log n) where
         ended_next r s id epoch (old_or_new log n r c) (old_or_new log n s d);
   }
 
-module _ {log : List Note} (sound : Sound log) where
+module _ {log : List TxnEntry} (sound : Sound log) where
   new_id : (q : Row) (id epoch : ℕ) → Contains log (Written q) → next_id log ≡ id
       → Pairs q id epoch → ⊥
   new_id q id epoch c e (has_now a b) =
@@ -242,7 +243,7 @@ module _ {log : List Note} (sound : Sound log) where
       un q id epoch c x (promised a b) = cc
 
 -- a note that is no row
-no_row_owner : (log : List Note) (note : Note) → OneOwner log
+no_row_owner : (log : List TxnEntry) (note : TxnEntry) → OneOwner log
     → ((r : Row) → note ≡ Written r → ⊥) → OneOwner (log ++ note ∷ [])
 no_row_owner log note ow no_row = record {
   one = λ r s id epoch c d. ow.one r s id epoch (old r c) (old s d);
@@ -254,7 +255,8 @@ no_row_owner log note ow no_row = record {
         ⊎_elim (λ c. c) (λ e. absurd (no_row r e)) (Contains-push_cases log note (Written r) c)
 
 -- each note that may be written keeps one owner to a pair
-owner_next : {sent : List Message} {log : List Note} {note : Note} → Sound log → OneOwner log
+owner_next : {sent : List Message} {log : List TxnEntry} {note : TxnEntry} → Sound log →
+    OneOwner log
     → Follows sent log note → OneOwner (log ++ note ∷ [])
 owner_next {log = log} sound ow (opens low) =
     no_row_owner log (CoordinatorEpoch (coordinator_epoch log +ℤ pos 1)) ow (λ r e. cc)
@@ -281,7 +283,7 @@ owner_next {log = log} sound ow (completes s o found was m) =
     (keeps_completed sound ow found r o was refl refl
     (is_completed log s o (ending_range sound found r o was).1))
 
-pub one_owner : {sent : List Message} {log : List Note} → History sent log → OneOwner log
+pub one_owner : {sent : List Message} {log : List TxnEntry} → History sent log → OneOwner log
 one_owner none = record {
   one = λ r s id epoch c. absurd (no_first_row r c);
   ended = λ r s id epoch c. absurd (no_first_row r c);
@@ -291,7 +293,7 @@ one_owner (more mid note g n) = owner_next (history_sound g) (one_owner g) n.fol
 ------ ids that were allotted
 
 -- an id that the new row names is named by an older row, or is the next id
-new_names : {sent : List Message} {log : List Note} {note : Note} → Sound log
+new_names : {sent : List Message} {log : List TxnEntry} {note : TxnEntry} → Sound log
     → Follows sent log note → (r : Row) → note ≡ Written r → (id : ℕ) → Names r id
     → ((s : Row) × Contains log (Written s) × Names s id) ⊎ (next_id log ≡ id)
 new_names {sent = sent} {log = log} sound f r e id n = by f e
@@ -338,7 +340,7 @@ new_names {sent = sent} {log = log} sound f r e id n = by f e
     as_new : (q : Row) → Written q ≡ Written r → Names q id
     as_new q same = let h : q ≡ r = cc in subst (λ x. Names x id) (sym h) n
 
-    by : {note : Note} → Follows sent log note → note ≡ Written r → Old ⊎ (next_id log ≡ id)
+    by : {note : TxnEntry} → Follows sent log note → note ≡ Written r → Old ⊎ (next_id log ≡ id)
     by (opens low) same = absurd cc
     by (allots c t m) same = absurd cc
     by (begins txn c t un m) same =
@@ -359,7 +361,8 @@ new_names {sent = sent} {log = log} sound f r e id n = by f e
         finishes s q (there sound found)
         (is_completed log s o (ending_range sound found q o was).1) refl (as_new q same)
 
-pub new_allotment : {sent : List Message} {log : List Note} {note : Note} → Follows sent log note
+pub new_allotment : {sent : List Message} {log : List TxnEntry} {note : TxnEntry} →
+    Follows sent log note
     → (id : ℕ) → note ≡ Allot id → next_id log ≡ id
 new_allotment (opens low) id e = absurd cc
 new_allotment (allots c t m) id e = cc
@@ -370,15 +373,15 @@ new_allotment (takes_over s c t found resting above m) id e = absurd cc
 new_allotment (gives_up s c found resting m) id e = absurd cc
 new_allotment (completes s o found was m) id e = absurd cc
 
-pub allotted_below : (log : List Note) (id : ℕ) → Contains log (Allot id) → id < next_id log
+pub allotted_below : (log : List TxnEntry) (id : ℕ) → Contains log (Allot id) → id < next_id log
 allotted_below log id c = above_below log (Allot id) id c (omega arith)
 
 -- no row names an id that was allotted
-abbrev pub Unnamed : List Note → Type 0
+abbrev pub Unnamed : List TxnEntry → Type 0
 Unnamed log = (id : ℕ) → Contains log (Allot id) → (r : Row) → Contains log (Written r)
     → Names r id → ⊥
 
-unnamed_next : {sent : List Message} (log : List Note) (note : Note) → Sound log
+unnamed_next : {sent : List Message} (log : List TxnEntry) (note : TxnEntry) → Sound log
     → Follows sent log note → Unnamed log → Unnamed (log ++ note ∷ [])
 unnamed_next log note sound f ih id c r d n =
     by (Contains-push_cases log note (Allot id) c) (Contains-push_cases log note (Written r) d)
@@ -392,7 +395,7 @@ unnamed_next log note sound f ih id c r d n =
     by (inr e) (inl d) = fresh sound r id d (new_allotment f id e) n
     by (inr e) (inr g) = let h : Allot id ≡ Written r = sym e ∙ g in cc
 
-pub unnamed : {sent : List Message} {log : List Note} → History sent log → Unnamed log
+pub unnamed : {sent : List Message} {log : List TxnEntry} → History sent log → Unnamed log
 unnamed none id c r d n = no_first_row r d
 unnamed (more mid note g x) id c r d n =
     unnamed_next mid note (history_sound g) x.follows (unnamed g) id c r d n

@@ -1,19 +1,18 @@
 -- Requests are read exactly where a text spells them.
-use Rattle.std.proofs.Common.{◌≡◌, ℕ, ℤ, pos, negsuc, ◌+◌, ◌<◌, Bool, true, false, cond, ltb, eqb}
+use Rattle.std.proofs.Common.{◌≡◌, ℕ, ℤ, pos, negsuc, ◌<◌, Bool, true, false, cond, ltb, eqb}
 use Rattle.std.proofs.Common.{List, [], ◌∷◌, ◌++◌, length, Option, Some, None, Result, Ok, Err, refl}
-use Rattle.std.proofs.Common.{sym, ap, ◌∙◌, subst, arith}
+use Rattle.std.proofs.Common.{sym, ap, ◌∙◌, subst}
 use Rattle.std.specs.List.{find}
 use Rattle.std.specs.Int.{w16}
 use Rattle.std.proofs.lemmas.Bool.{eqb-true}
 use Rattle.std.proofs.lemmas.List.{append-nil}
 use Rattle.kx_varint.specs.Text.{IsBytes, ◌⊳◌}
-use Rattle.kx_varint.proofs.Agree.{Took}
 use Rattle.kx_varint.proofs.FixedWidth.{wide16}
 use Rattle.kx_kafka_types.specs.declared.version.Version.{Version}
 use Rattle.kx_kafka_types.specs.declared.fault.KafkaFault.{KafkaFault}
 use Rattle.kx_kafka_types.specs.declared.fault.KafkaFault.TheVariants as fault
 use Rattle.kx_kafka_types.specs.Schema.{Values}
-use Rattle.kx_kafka_types.specs.Reading.{Reader, ◌>>=◌, goes_on, gives, judged, fields_at}
+use Rattle.kx_kafka_types.specs.Reading.{◌>>=◌}
 use Rattle.kx_kafka_types.specs.Spelling.{SpellsNullable, SpellsEnd, Spells}
 use Rattle.kx_kafka_types.proofs.Agree.{Agrees, ok_is, same, after, mapped, nothing}
 use Rattle.kx_kafka_types.proofs.Exact.{fields_agree, nullable_agrees, end_agrees}

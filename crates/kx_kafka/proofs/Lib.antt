@@ -1,3 +1,5 @@
 pub mod Bodies
-pub mod Fronts
 pub mod Exact
+pub mod Fronts
+pub mod OneText
+pub mod Streams

@@ -7,6 +7,8 @@ use Rattle.kx_kafka_types.specs.declared.version.Version.{Version}
 use Rattle.kx_kafka_types.specs.Schema.{Fields}
 use Rattle.kx_kafka.specs.declared.api_key.ApiKey.{ApiKey}
 use Rattle.kx_kafka.specs.declared.api_key.ApiKey.TheVariants as api
+use Rattle.kx_kafka.specs.declared.isolation.IsolationLevel.{IsolationLevel}
+use Rattle.kx_kafka.specs.declared.isolation.IsolationLevel.TheVariants as level
 use Rattle.kx_kafka.specs.Layouts as layout
 
 abbrev pub number_of : ApiKey → ℕ
@@ -39,6 +41,20 @@ all_keys =
 unfoldable pub key_with : ℤ → Option ApiKey
 key_with (pos n) = find (λ key. number_of key == n) all_keys
 key_with (negsuc n) = None
+
+------ isolation levels (Kafka protocol guide, Fetch and ListOffsets, "isolation_level")
+
+abbrev pub level_number : IsolationLevel → ℕ
+level_number level.ReadUncommitted = 0
+level_number level.ReadCommitted = 1
+
+abbrev pub all_levels : List IsolationLevel
+all_levels = level.ReadUncommitted ∷ level.ReadCommitted ∷ []
+
+-- the level with this number
+unfoldable pub level_with : ℤ → Option IsolationLevel
+level_with (pos n) = find (λ l. level_number l == n) all_levels
+level_with (negsuc n) = None
 
 ------ versions
 

@@ -1,6 +1,7 @@
 -- Frames: a request or a response behind its length (Kafka protocol guide, "Protocol").
-use Rattle.std.specs.Prelude.{◌≡◌, ℕ, ℤ, List, ◌++◌, length, take, drop, Option, Some, None}
-use Rattle.std.specs.Prelude.{Result, Ok, Err, nat_lt, if◌then◌else◌}
+use Rattle.std.specs.Prelude.{◌≡◌, ℕ, ℤ, List, [], ◌∷◌, ◌++◌, length, take, drop}
+use Rattle.std.specs.Prelude.{◌≤◌, Result, Ok, Err, nat_lt, if◌then◌else◌}
+use Rattle.std.specs.List.{flat_map}
 use Rattle.std.specs.Int.{w32}
 use Rattle.kx_varint.specs.BigEndian.{unsigned_field, unsigned_text, signed_text}
 use Rattle.kx_varint.specs.declared.fault.VarFault.{VarFault}
@@ -31,6 +32,10 @@ frame_at bytes = of_length (unsigned_field w32 bytes)
 unfoldable pub frame_text : List ℕ → List ℕ
 frame_text text = unsigned_text w32 (length text) ++ text
 
+-- no longer than the limit
+abbrev pub FitsFrame : List ℕ → Type 0
+FitsFrame text = length text ≤ longest_frame
+
 -- a response: the correlation id of its request, in a flexible version that there are no tagged
 -- fields, and its fields ("Response Header v0" and "v1")
 unfoldable pub response_text : Version → ℤ → (fields : Fields) → Values fields → List ℕ
@@ -42,3 +47,23 @@ abbrev pub Passed : Front → List ℕ → List ℕ → Type 0
 Passed (Whole text rest) old new = new ≡ rest
 Passed More old new = new ≡ old
 Passed Beyond old new = new ≡ old
+
+------ a stream in pieces
+
+-- the pieces, one behind the other
+abbrev pub joined : List (List ℕ) → List ℕ
+joined = flat_map (λ piece. piece)
+
+-- the frames of these texts, and then less than a frame
+abbrev pub Splits : List ℕ → List (List ℕ) → List ℕ → Type 0
+Splits bytes [] rest = (bytes ≡ rest) × (frame_at bytes ≡ More)
+Splits bytes (text ∷ texts) rest =
+    (behind : List ℕ) × (frame_at bytes ≡ Whole text behind) × Splits behind texts rest
+
+-- a stream that holds these bytes is fed the pieces, and behind each piece whatever frames are
+-- whole are passed: these texts come, and no others
+abbrev pub Comes : List ℕ → List (List ℕ) → List (List ℕ) → Type 0
+Comes held [] texts = texts ≡ []
+Comes held (piece ∷ pieces) texts =
+    (first others : List (List ℕ)) × (rest : List ℕ) × Splits (held ++ piece) first rest
+    × (texts ≡ first ++ others) × Comes rest pieces others

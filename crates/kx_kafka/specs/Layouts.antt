@@ -256,8 +256,8 @@ find_coordinator_response =
 
 ------ a topic with partitions, as several APIs have it
 
-abbrev pub topic_partitions : Fields
-topic_partitions =
+abbrev pub topic_partition : Fields
+topic_partition =
     string  -- name
     ⨟ array (One Int32)  -- partitions
     ⨟ End
@@ -281,7 +281,7 @@ add_partitions_to_txn_request =
     string  -- transactional_id
     ⨟ int64  -- producer_id
     ⨟ int16  -- producer_epoch
-    ⨟ array topic_partitions  -- topics
+    ⨟ array topic_partition  -- topics
     ⨟ End
 
 abbrev pub add_partitions_to_txn_response : Fields
@@ -392,7 +392,7 @@ offset_commit_response =
 abbrev pub offset_fetch_request : Fields
 offset_fetch_request =
     string  -- group_id
-    ⨟ NullableArray 2 topic_partitions  -- topics
+    ⨟ NullableArray 2 topic_partition  -- topics
     ⨟ since 7 Boolean false  -- require_stable
     ⨟ End
 

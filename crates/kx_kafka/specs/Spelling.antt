@@ -1,5 +1,5 @@
 -- What the text of a request is.
-use Rattle.std.specs.Prelude.{◌≡◌, ℕ, pos, List, Option, Some}
+use Rattle.std.specs.Prelude.{◌≡◌, ℕ, pos, List, Some}
 use Rattle.std.specs.Int.{w16}
 use Rattle.kx_varint.specs.Text.{◌⊳◌}
 use Rattle.kx_kafka_types.specs.Spelling.{SpellsNullable, SpellsEnd, Spells}

@@ -79,7 +79,7 @@ pub struct FetchRequest<'a> {
     pub min_bytes: i32,
     /// How many bytes to answer at most.
     pub max_bytes: i32,
-    /// Which records: 0 all, 1 those of committed transactions.
+    /// Which records, by the number of an [`IsolationLevel`](crate::IsolationLevel).
     pub isolation_level: i8,
     /// The topics.
     pub topics: Array<FetchTopic<'a>>,

@@ -1,4 +1,4 @@
-//! Frames: a request or a response behind its length, in a stream that comes in pieces.
+//! Frames: a request or a response after its length, in a stream that comes in pieces.
 ghost use Rattle.std.specs.Prelude.{◌≡◌, ◌≤◌, ◌++◌, [], List, ℕ, length, take, drop, IfOk, OnOk};
 ghost use Rattle.std.specs.Prelude.{OnErr, MatchResult, MatchOption};
 ghost use Rattle.kx_message.specs.Sizes.{longest_frame};
@@ -12,7 +12,7 @@ use kx_varint::{put_i32, put_u32, read_u32};
 use std::alloc::Global;
 use std::marker::Model;
 
-// The text of the frame at the front, and the bytes behind it; None where more is needed.
+// The text of the frame at the front, and the bytes after it; None where more is needed.
 #[tactic(auto, unfolding(crate::specs::Frames::frame_at))]
 fn front_of(bytes: &[u8]) -> Result<Option<(&[u8], &[u8])>, KafkaFault>
     ensures { MatchResult result
@@ -120,7 +120,10 @@ impl Frames {
     }
 }
 
-// A text behind its length.
+// Room for most responses without records, so that their texts don't grow byte by byte.
+const SHORT: usize = 256;
+
+// A text after its length.
 #[tactic(auto, unfolding(crate::specs::Frames::frame_text))]
 fn framed(alloc: Global, text: &[u8]) -> Result<Vec<u8>, KafkaFault>
     ensures text { IfOk result (λ frame. frame.items ≡ frame_text text.now) }
@@ -139,7 +142,7 @@ fn framed(alloc: Global, text: &[u8]) -> Result<Vec<u8>, KafkaFault>
 ///
 /// # Errors
 ///
-/// [`KafkaFault::TooLong`] where the frame would have more than 2097152 bytes behind its length, or
+/// [`KafkaFault::TooLong`] where the frame would have more than 2097152 bytes after its length, or
 /// a field more than its length can say; [`KafkaFault::Field`] for null in a version that has none;
 /// [`KafkaFault::Memory`].
 #[tactic(auto, using(kx_kafka_types::proofs::Onto::onto_is), unfolding(crate::specs::Frames::response_text))]
@@ -155,7 +158,7 @@ pub fn response_frame<T: Writes>(
     ensures within { OnOk result (length
         (response_text version correlation_id T.fields (T.values response.now)) ≤ longest_frame) }
 {
-    let mut text = Vec::new(alloc);
+    let mut text = Vec::with_capacity(alloc, SHORT)?;
     put_i32(&mut text, correlation_id)?;
     put_end(&mut text, version)?;
     response.put(&mut text, version)?;

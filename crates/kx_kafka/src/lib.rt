@@ -11,6 +11,7 @@ mod front;
 mod groups;
 mod header;
 mod init_producer_id;
+mod isolation;
 mod laws;
 mod list_offsets;
 mod metadata;
@@ -36,8 +37,9 @@ pub use groups::{
 };
 pub use header::RequestHeader;
 pub use init_producer_id::{InitProducerIdRequest, InitProducerIdResponse};
+pub use isolation::IsolationLevel;
 pub use kx_kafka_types::{Array, FieldReader, Int32, KafkaFault, Struct, Version, Writes};
-pub use laws::requests_are_read_as_spelled;
+pub use laws::{frames_are_read_as_written, requests_are_read_as_spelled};
 pub use list_offsets::{
     ListOffsetsPartition, ListOffsetsPartitionResponse, ListOffsetsRequest, ListOffsetsResponse,
     ListOffsetsTopic, ListOffsetsTopicResponse,
@@ -57,7 +59,7 @@ pub use produce::{
     TopicProduceData, TopicProduceResponse,
 };
 pub use request::{Asks, Request, read_request};
-pub use topics::{PartitionError, TopicErrors, TopicPartitions};
+pub use topics::{PartitionError, TopicErrors, TopicPartition};
 pub use transactions::{
     AddOffsetsToTxnRequest, AddOffsetsToTxnResponse, AddPartitionsToTxnRequest,
     AddPartitionsToTxnResponse, EndTxnRequest, EndTxnResponse,

@@ -69,7 +69,8 @@ impl<'a> Struct for ListOffsetsTopic<'a> {
 pub struct ListOffsetsRequest<'a> {
     /// The number of the broker that asks, -1 for a client.
     pub replica_id: i32,
-    /// Which records: 0 all, 1 those of committed transactions; from version 2 on.
+    /// Which records, by the number of an [`IsolationLevel`](crate::IsolationLevel); from version 2
+    /// on, 0 before.
     pub isolation_level: i8,
     /// The topics.
     pub topics: Array<ListOffsetsTopic<'a>>,

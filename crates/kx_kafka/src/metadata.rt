@@ -107,9 +107,9 @@ pub struct MetadataResponsePartition<'a> {
     pub leader_id: i32,
     /// The brokers that have a copy.
     pub replica_nodes: &'a [i32],
-    /// Those whose copies are in sync.
+    /// The brokers whose copies are in sync.
     pub isr_nodes: &'a [i32],
-    /// Those that are offline; from version 5 on.
+    /// The brokers that are offline; from version 5 on.
     pub offline_replicas: &'a [i32],
 }
 

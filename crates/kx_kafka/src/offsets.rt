@@ -1,5 +1,5 @@
 //! A group's offsets: committed, in a transaction or outside, and fetched.
-use crate::topics::{TopicErrors, TopicPartitions};
+use crate::topics::{TopicErrors, TopicPartition};
 use kx_kafka_types::{
     Array, FieldReader, KafkaFault, Struct, Version, Writes, put_array, put_end, put_i16_since,
     put_i32_since, put_nullable_text, put_text,
@@ -291,7 +291,7 @@ pub struct OffsetFetchRequest<'a> {
     /// The group.
     pub group_id: &'a [u8],
     /// The topics; `None`, from version 2 on, for all.
-    pub topics: Option<Array<TopicPartitions<'a>>>,
+    pub topics: Option<Array<TopicPartition<'a>>>,
     /// Whether no offset is to be answered while one is pending; from version 7 on.
     pub require_stable: bool,
 }
@@ -301,14 +301,14 @@ impl<'a> Struct for OffsetFetchRequest<'a> {
 
     ghost use Rattle.std.specs.Prelude.{option_map};
     ghost use Rattle.kx_kafka_types.specs.Rows.{elements};
-    ghost use Rattle.kx_kafka.specs.Layouts.{offset_fetch_request, topic_partitions};
+    ghost use Rattle.kx_kafka.specs.Layouts.{offset_fetch_request, topic_partition};
 
     ghost fields = { offset_fetch_request };
 
     ghost values = { λ it. (
       it.group_id.now,
       (
-        option_map (elements topic_partitions) it.topics,
+        option_map (elements topic_partition) it.topics,
         (
           it.require_stable,
           tt,

@@ -4,23 +4,23 @@ use kx_kafka_types::{
 };
 use kx_varint::{put_i16, put_i32};
 
-/// A topic and numbers of its partitions.
+/// A topic and numbers of its partitions, as Kafka's consumer protocol has its `TopicPartition`.
 #[derive(Drop)]
-pub struct TopicPartitions<'a> {
+pub struct TopicPartition<'a> {
     /// The name of the topic.
     pub name: &'a [u8],
     /// The numbers of its partitions.
     pub partitions: Array<Int32<'a>>,
 }
 
-impl<'a> Struct for TopicPartitions<'a> {
+impl<'a> Struct for TopicPartition<'a> {
     type Reader = FieldReader<'a>;
 
     ghost use Rattle.kx_kafka_types.specs.Schema.{Int32, One};
     ghost use Rattle.kx_kafka_types.specs.Rows.{elements};
-    ghost use Rattle.kx_kafka.specs.Layouts.{topic_partitions};
+    ghost use Rattle.kx_kafka.specs.Layouts.{topic_partition};
 
-    ghost fields = { topic_partitions };
+    ghost fields = { topic_partition };
 
     ghost values = { λ it. (it.name.now, (elements (One Int32) it.partitions, tt)) };
 
@@ -28,7 +28,7 @@ impl<'a> Struct for TopicPartitions<'a> {
         let name = reader.text(version)?;
         let partitions = Array::read(reader, version)?;
         reader.end(version)?;
-        Ok(TopicPartitions { name, partitions })
+        Ok(TopicPartition { name, partitions })
     }
 }
 

@@ -1,5 +1,5 @@
 //! A transaction's partitions and groups, and its end.
-use crate::topics::{TopicErrors, TopicPartitions};
+use crate::topics::{TopicErrors, TopicPartition};
 use kx_kafka_types::{Array, FieldReader, KafkaFault, Struct, Version, Writes, put_array, put_end};
 use kx_varint::{put_i16, put_i32};
 
@@ -13,14 +13,14 @@ pub struct AddPartitionsToTxnRequest<'a> {
     /// The epoch of the producer.
     pub producer_epoch: i16,
     /// The topics.
-    pub topics: Array<TopicPartitions<'a>>,
+    pub topics: Array<TopicPartition<'a>>,
 }
 
 impl<'a> Struct for AddPartitionsToTxnRequest<'a> {
     type Reader = FieldReader<'a>;
 
     ghost use Rattle.kx_kafka_types.specs.Rows.{elements};
-    ghost use Rattle.kx_kafka.specs.Layouts.{add_partitions_to_txn_request, topic_partitions};
+    ghost use Rattle.kx_kafka.specs.Layouts.{add_partitions_to_txn_request, topic_partition};
 
     ghost fields = { add_partitions_to_txn_request };
 
@@ -30,7 +30,7 @@ impl<'a> Struct for AddPartitionsToTxnRequest<'a> {
         it.producer_id,
         (
           it.producer_epoch,
-          (elements topic_partitions it.topics, tt),
+          (elements topic_partition it.topics, tt),
         ),
       ),
     ) };

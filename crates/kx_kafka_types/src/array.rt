@@ -30,8 +30,8 @@ pub trait Reading: Copy {
     ///
     /// # Errors
     ///
-    /// [`KafkaFault::Short`], or [`KafkaFault::Field`] where it is negative, but for -1 in a version
-    /// that may have null.
+    /// [`KafkaFault::Short`], or [`KafkaFault::Field`] where it is negative, but for -1 in a
+    /// version that may have null.
     fn nullable_array_len(
         &mut self,
         version: Version,
@@ -96,7 +96,7 @@ impl<T: Struct> Model for Array<T> {
 }
 
 impl<T: Struct> Array<T> {
-    /// Reads an array through: how many structs it has, and the structs, one behind the other.
+    /// Reads an array through: how many structs it has, and the structs, one after the other.
     ///
     /// # Errors
     ///

@@ -153,7 +153,7 @@ impl<'a> FieldReader<'a> {
         Ok(unfolded(n))
     }
 
-    // How many bytes follow, behind a length of two bytes.
+    // How many bytes follow, after a length of two bytes.
     #[tactic(auto, unfolding(crate::specs::Reading::length_at))]
     fn short_length(&mut self, version: Version) -> Result<Option<u32>, KafkaFault>
         ensures { MatchResult result
@@ -167,7 +167,7 @@ impl<'a> FieldReader<'a> {
         length_of(i32::from(n))
     }
 
-    // How many bytes or elements follow, behind a length of four bytes.
+    // How many bytes or elements follow, after a length of four bytes.
     #[tactic(auto, unfolding(crate::specs::Reading::length_at))]
     fn long_length(&mut self, version: Version) -> Result<Option<u32>, KafkaFault>
         ensures { MatchResult result

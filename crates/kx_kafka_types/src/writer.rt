@@ -191,8 +191,8 @@ pub fn put_end(out: &mut Vec<u8>, version: Version) -> Result<(), KafkaFault>
 ///
 /// # Errors
 ///
-/// [`KafkaFault::TooLong`] for more than 2147483647 structs, [`KafkaFault::Memory`]. What one of them
-/// is refused for is answered too.
+/// [`KafkaFault::TooLong`] for more than 2147483647 structs, [`KafkaFault::Memory`]. What one of
+/// them is refused for is answered too.
 #[tactic(auto, unfolding(crate::specs::Writing::array_text))]
 pub fn put_array<T: Writes>(
     out: &mut Vec<u8>,

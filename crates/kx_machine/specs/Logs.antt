@@ -2,7 +2,7 @@
 use Rattle.std.specs.Prelude.{List, []}
 use Rattle.kx_machine.specs.Meaning.{NodeState, AtCoordinator, AtPartition, AtClient}
 use Rattle.kx_machine.specs.Meaning.{AtProcessor}
-use Rattle.kx_model.specs.Coordinator.{Note}
+use Rattle.kx_model.specs.Coordinator.{TxnEntry}
 use Rattle.kx_model.specs.Log.{Stored}
 
 -- its record batches
@@ -13,7 +13,7 @@ batches_of (AtClient c) = []
 batches_of (AtProcessor p) = []
 
 -- its entries of transactions
-abbrev pub notes_of : NodeState → List Note
+abbrev pub notes_of : NodeState → List TxnEntry
 notes_of (AtCoordinator co) = co.disk.kept
 notes_of (AtPartition number p) = []
 notes_of (AtClient c) = []

@@ -1,6 +1,6 @@
 -- Inputs, notes and steps in the words of the definitions.
 use Rattle.std.specs.Prelude.{◌≡◌, ℕ, ℤ, Bool, true, false, not, ◌&&◌}
-use Rattle.std.specs.Prelude.{List, [], ◌∷◌, is_some}
+use Rattle.std.specs.Prelude.{List, [], ◌∷◌, length, Option, Some, None, is_some}
 use Rattle.kx_client.specs.declared.fault.ClientFault.{ClientFault}
 use Rattle.kx_client.specs.declared.fault.ClientFault.TheVariants as fault
 use Rattle.kx_machine.specs.declared.input.Command as running
@@ -18,8 +18,10 @@ use Rattle.kx_message.specs.declared.code.ErrorCode.TheVariants.{NoError}
 use Rattle.kx_message.specs.declared.payload.PartitionOffset.{PartitionOffset}
 use Rattle.kx_model.specs.Client as model
 use Rattle.kx_model.specs.Client.{Client, new_client}
+use Rattle.kx_model.specs.Coordinator.{TxnEntry}
 use Rattle.kx_model.specs.CoordinatorNode.{Coordinator, new_coordinator}
-use Rattle.kx_model.specs.Disk.{Store}
+use Rattle.kx_model.specs.Disk.{Store, Fails}
+use Rattle.kx_model.specs.Log.{Stored}
 use Rattle.kx_model.specs.PartitionNode.{Partition, empty_partition}
 use Rattle.kx_model.specs.Step.{Input, Comes, Commands, Expires, Reminds, Drops, Puts, Restarts}
 use Rattle.kx_model.specs.Step.{StepNote, Done, Declined, PutAt, Coded, Unread, Unwritten}
@@ -27,6 +29,7 @@ use Rattle.kx_model.specs.Step.{RunsOut, NodeStep, coordinator_step, partition_s
 use Rattle.kx_partition.specs.declared.answer.Produced.{Produced}
 use Rattle.kx_partition.specs.declared.answer.Produced.TheVariants as produced
 use Rattle.kx_system.specs.Processor.{Processor, processor_step}
+use Rattle.kx_txnlog.specs.Layout.{entry_text}
 
 ------ inputs
 
@@ -137,6 +140,35 @@ abbrev pub finds : NodeState → Input → StepNote → Bool
 finds before (Restarts now) n = finds_by before n
 finds before input n = false
 
+------ the entry that a step appends
+
+abbrev pub batch_bytes : Option Stored → Option ℕ
+batch_bytes None = None
+batch_bytes (Some batch) = Some (length batch.text)
+
+abbrev pub note_bytes : Option TxnEntry → Option ℕ
+note_bytes None = None
+note_bytes (Some note) = Some (length (entry_text note))
+
+-- the length of the entry behind a log, in bytes
+abbrev pub bytes_behind : NodeState → Option ℕ
+bytes_behind (AtCoordinator co) = note_bytes co.disk.hidden
+bytes_behind (AtPartition number p) = batch_bytes p.disk.hidden
+bytes_behind (AtClient c) = None
+bytes_behind (AtProcessor p) = None
+
+-- by what stands behind a log after a failed append that left nothing, and after one that left all
+abbrev pub appended_bytes : (nothing all : Option ℕ) → Option ℕ
+appended_bytes None all = all
+appended_bytes (Some bytes) all = None
+
+-- the length in bytes of the entry that a node appends in a step, if it appends one: where its
+-- store fails, that entry is left whole, or nothing is
+abbrev pub entry_bytes : NodeState → Input → Option ℕ
+entry_bytes before input =
+    appended_bytes (bytes_behind (node_step before (Fails false) input).state)
+    (bytes_behind (node_step before (Fails true) input).state)
+
 ------ a step
 
 abbrev pub taken_of : NodeState → Input → NodeStep NodeState → Taken
@@ -147,10 +179,11 @@ taken_of before input s = record {
   found = finds before input s.note;
 }
 
--- a node took an input by a step of the definitions, in which the store did what it may
-pub record IsTaken (before : NodeState) (input : Input) (Allows : Store → Type 0)
+-- a node took an input by a step of the definitions, in which the store did what it may, with an
+-- entry of this length
+pub record IsTaken (before : NodeState) (input : Input) (Allows : Option ℕ → Store → Type 0)
     (StandsFor : NodeState → Type 0) (taken : Taken) : Type 0 where
   pub store : Store
-  pub allowed : Allows store
+  pub allowed : Allows (entry_bytes before input) store
   pub stands : StandsFor (node_step before store input).state
   pub answer : taken ≡ taken_of before input (node_step before store input)

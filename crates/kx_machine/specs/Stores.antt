@@ -1,5 +1,6 @@
--- What a store may do in the next step, by what is known of the calls that come.
-use Rattle.std.specs.Prelude.{◌≡◌, ◌≤◌, ◌==◌, ℕ, Bool, true, false}
+-- What a store may do in the next step, by what is known of the calls that come, and by the length
+-- of the entry that the step appends, if it appends one.
+use Rattle.std.specs.Prelude.{◌≡◌, ◌≤◌, ◌==◌, ℕ, Bool, true, false, nat_le, Option, IfSome}
 use Rattle.kx_batch.specs.Batch.{batch_limit}
 use Rattle.kx_log.specs.Store.{AppendPlan, AppendsWork, FailsBehind, AnyMayFail, LoadPlan}
 use Rattle.kx_log.specs.Store.{LoadsWork, NextLoadFails, AnyLoadMayFail}
@@ -7,27 +8,30 @@ use Rattle.kx_machine.specs.declared.machine.StoreMode.{StoreMode}
 use Rattle.kx_machine.specs.declared.machine.StoreMode.TheVariants as mode
 use Rattle.kx_model.specs.Disk.{Store, Works, Fails, CannotLoad}
 
--- an append is to fail and leave this many bytes: nothing, all of any entry, or a part
-abbrev pub FailsWith : ℕ → Store → Type 0
-FailsWith keep Works = ⊥
-FailsWith keep CannotLoad = ⊥
-FailsWith keep (Fails whole) = (keep ≡ 0 → whole ≡ false) × (batch_limit ≤ keep → whole ≡ true)
+-- an append is to fail and leave this many bytes: nothing, all of any entry, or a part; so the
+-- whole of an entry stays exactly where it is no longer than that
+abbrev pub FailsWith : ℕ → Option ℕ → Store → Type 0
+FailsWith keep size Works = ⊥
+FailsWith keep size CannotLoad = ⊥
+FailsWith keep size (Fails whole) =
+    (keep ≡ 0 → whole ≡ false) × (batch_limit ≤ keep → whole ≡ true)
+    × IfSome size (λ bytes. whole ≡ nat_le bytes keep)
 
-abbrev pub FailsFirst : Bool → ℕ → Store → Type 0
-FailsFirst true keep store = FailsWith keep store
-FailsFirst false keep store = Unit {0}
+abbrev pub FailsFirst : Bool → ℕ → Option ℕ → Store → Type 0
+FailsFirst true keep size store = FailsWith keep size store
+FailsFirst false keep size store = Unit {0}
 
-abbrev pub Allows : AppendPlan → LoadPlan → Store → Type 0
-Allows AppendsWork LoadsWork store = store ≡ Works
-Allows AppendsWork NextLoadFails store = store ≡ CannotLoad
-Allows AppendsWork AnyLoadMayFail store = Unit {0}
-Allows (FailsBehind ahead keep) LoadsWork store = FailsFirst (ahead == 0) keep store
-Allows (FailsBehind ahead keep) NextLoadFails store = Unit {0}
-Allows (FailsBehind ahead keep) AnyLoadMayFail store = Unit {0}
-Allows AnyMayFail loads store = Unit {0}
+abbrev pub Allows : AppendPlan → LoadPlan → Option ℕ → Store → Type 0
+Allows AppendsWork LoadsWork size store = store ≡ Works
+Allows AppendsWork NextLoadFails size store = store ≡ CannotLoad
+Allows AppendsWork AnyLoadMayFail size store = Unit {0}
+Allows (FailsBehind ahead keep) LoadsWork size store = FailsFirst (ahead == 0) keep size store
+Allows (FailsBehind ahead keep) NextLoadFails size store = Unit {0}
+Allows (FailsBehind ahead keep) AnyLoadMayFail size store = Unit {0}
+Allows AnyMayFail loads size store = Unit {0}
 
 -- the store of the definitions that a mode is
-abbrev pub IsMode : StoreMode → Store → Type 0
-IsMode mode.Works store = store ≡ Works
-IsMode (mode.Fails keep) store = FailsWith keep store
-IsMode mode.CannotLoad store = store ≡ CannotLoad
+abbrev pub IsMode : StoreMode → Option ℕ → Store → Type 0
+IsMode mode.Works size store = store ≡ Works
+IsMode (mode.Fails keep) size store = FailsWith keep size store
+IsMode mode.CannotLoad size store = store ≡ CannotLoad

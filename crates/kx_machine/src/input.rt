@@ -24,9 +24,9 @@ pub enum Command {
     Offsets(Offsets),
     /// Ends the transaction.
     End(Outcome),
-    /// Hands out again what is unanswered.
+    /// Sends again what is unanswered.
     Resend,
-    /// Hands out the next request of a processor. No other client has one.
+    /// Sends the next request of a processor. No other client has one.
     Poll,
 }
 
@@ -37,20 +37,20 @@ pub enum Input {
     Deliver(Message),
     /// A client is told to do something.
     Command(Command),
-    /// It is this moment, in milliseconds: the coordinator ends a transaction that has lasted too
+    /// The time is this, in milliseconds: the coordinator ends a transaction that has lasted too
     /// long.
     Expire(u64),
-    /// The coordinator hands out again the markers that weren't answered.
+    /// The coordinator sends again the markers that weren't answered.
     Remind,
     /// A member of a group is dropped from it.
     Drop(GroupId, ClientId),
     /// A batch of these values, of no producer, is put.
     Put(Values),
-    /// The node is opened again, at this moment in milliseconds: its log is kept, all else is lost.
+    /// The node is opened again, at this time in milliseconds: its log is kept, all else is lost.
     Restart(u64),
 }
 
-/// A copy of the same command, or want of memory.
+/// A copy of the command, or an error where memory runs out.
 impl Clone for Command {
     ghost is_clone = { λ command copy. copy ≡ command };
 
@@ -69,7 +69,7 @@ impl Clone for Command {
     }
 }
 
-/// A copy of the same input, or want of memory.
+/// A copy of the input, or an error where memory runs out.
 impl Clone for Input {
     ghost is_clone = { λ input copy. copy ≡ input };
 

@@ -1,6 +1,6 @@
 //! The nodes of the system as machines: what a node is handed, what it does with it, and what it
-//! hands out. Each kind of node is a [`Machine`], whose step is that of the definitions: it stands
-//! for a node of theirs before the step and after it.
+//! sends. Each kind of node is a [`Machine`], whose step is that of the definitions: it stands for
+//! a node of theirs before the step and after it.
 #![tactic(auto)]
 
 mod fits;

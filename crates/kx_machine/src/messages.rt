@@ -31,7 +31,7 @@ impl Model for Messages {
     ghost view = { λ m. items_of m.items };
 }
 
-/// A copy of the same messages, or out of memory.
+/// A copy of the messages, or out of memory.
 impl Clone for Messages {
     ghost is_clone = { λ messages copy. copy ≡ messages };
 
@@ -44,14 +44,14 @@ impl Clone for Messages {
 }
 
 impl Messages {
-    /// No messages. Takes no memory.
+    /// An empty list. Takes no memory.
     pub fn none(alloc: Global) -> Messages
         ensures { result ≡ [] }
     {
         Messages::from_vec(Vec::new(alloc))
     }
 
-    /// One message. Takes no memory.
+    /// A list of one message. Takes no memory.
     pub fn one(message: Message) -> Messages
         ensures { result ≡ message ∷ [] }
     {

@@ -19,7 +19,7 @@ pub enum Closing {
 /// What a step answers beside its messages.
 #[derive(Clone, Copy, Debug, PartialEq, Eq)]
 pub enum Note {
-    /// Nothing more.
+    /// The step has nothing to say beside its messages.
     Done,
     /// A client refuses the command, and nothing is changed.
     Refused(ClientFault),
@@ -36,7 +36,7 @@ pub enum Note {
 /// What a node answers to one input.
 #[derive(Clone, Drop)]
 pub struct Taken {
-    /// The messages that it hands out.
+    /// The messages that it sends.
     pub messages: Messages,
     /// What it answers beside them.
     pub note: Note,

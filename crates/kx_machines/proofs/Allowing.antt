@@ -1,6 +1,6 @@
 -- What the machine inside takes as its store allows, the machine of any kind takes as its own does.
 -- A client has no store, so that what it takes it takes whatever a store may do.
-use Rattle.std.proofs.Common.{◌≡◌, Result, Ok, Err, MatchResult, subst, sym}
+use Rattle.std.proofs.Common.{◌≡◌, ℕ, Option, Result, Ok, Err, MatchResult, subst, sym}
 use Rattle.kx_machines.specs.Any.{any_allows, any_stands}
 use Rattle.kx_machines.specs.Brokers.{broker_allows, broker_stands}
 use Rattle.kx_machines.specs.declared.any.AnyMachine.{AnyMachine}
@@ -8,7 +8,7 @@ use Rattle.kx_machines.specs.declared.any.AnyMachine.TheVariants.{Broker, Client
 use Rattle.kx_machines.specs.declared.broker.BrokerMachine.{BrokerMachine}
 use Rattle.kx_client_node.specs.Clients.{any_store, state_of}
 use Rattle.kx_client_node.specs.declared.any_client.AnyClient.{AnyClient}
-use Rattle.kx_machine.specs.Meaning.{IsTaken, NodeState}
+use Rattle.kx_machine.specs.Meaning.{IsTaken, NodeState, entry_bytes}
 use Rattle.kx_machine.specs.declared.taken.Taken.{Taken}
 use Rattle.kx_model.specs.Disk.{Store}
 use Rattle.kx_model.specs.Step.{Input}
@@ -18,7 +18,7 @@ module _ {S F : Type 0} (machine : AnyMachine S F) (before after : AnyClient F)
     (is : machine ≡ Client before) (image_of : F → Images) (state : NodeState) (input : Input)
   where
     -- the client inside answers so, and the machine does
-    abbrev Took : (Store → Type 0) → {E : Type 0} → Result Taken E → Type 0
+    abbrev Took : (Option ℕ → Store → Type 0) → {E : Type 0} → Result Taken E → Type 0
     Took allows answer = MatchResult answer
         (IsTaken state input allows (λ s. s ≡ state_of image_of after))
         (λ refused. state ≡ state_of image_of after)
@@ -27,7 +27,8 @@ module _ {S F : Type 0} (machine : AnyMachine S F) (before after : AnyClient F)
         → Took (any_allows machine) answer
     by_answer (Ok taken) took = record {
       store = took.store;
-      allowed = subst (λ (m : AnyMachine S F). any_allows m took.store) (sym is) tt;
+      allowed = subst (λ (m : AnyMachine S F). any_allows m (entry_bytes state input) took.store)
+          (sym is) tt;
       stands = took.stands;
       answer = took.answer;
     }
@@ -43,7 +44,7 @@ module _ {S F : Type 0} (machine : AnyMachine S F) (before after : BrokerMachine
     (is : machine ≡ Broker before) (image_of : F → Images) (state : NodeState) (input : Input)
   where
     -- the broker's machine inside answers so, and the machine does
-    abbrev Did : (Store → Type 0) → {E : Type 0} → Result Taken E → Type 0
+    abbrev Did : (Option ℕ → Store → Type 0) → {E : Type 0} → Result Taken E → Type 0
     Did allows answer = MatchResult answer
         (IsTaken state input allows (λ s. broker_stands s after))
         (λ refused. broker_stands state after)

@@ -1,5 +1,5 @@
 -- Machines of every kind behind one type.
-use Rattle.std.specs.Prelude.{◌≡◌, ℕ}
+use Rattle.std.specs.Prelude.{◌≡◌, ℕ, Option}
 use Rattle.kx_client_node.specs.Clients.{any_store, state_of}
 use Rattle.kx_machine.specs.Meaning.{NodeState}
 use Rattle.kx_machines.specs.Brokers.{broker_allows, broker_failures, broker_stands}
@@ -13,8 +13,8 @@ abbrev pub any_stands : {S F : Type 0} → (F → Images) → NodeState → AnyM
 any_stands image_of state (any.Broker m) = broker_stands state m
 any_stands image_of state (any.Client c) = state ≡ state_of image_of c
 
--- what its store may do in the next step
-abbrev pub any_allows : {S F : Type 0} → AnyMachine S F → Store → Type 0
+-- what its store may do in the next step, with an entry of this length
+abbrev pub any_allows : {S F : Type 0} → AnyMachine S F → Option ℕ → Store → Type 0
 any_allows (any.Broker m) = broker_allows m
 any_allows (any.Client c) = any_store
 

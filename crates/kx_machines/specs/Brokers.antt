@@ -1,5 +1,5 @@
 -- The machines of a broker behind one type.
-use Rattle.std.specs.Prelude.{ℕ}
+use Rattle.std.specs.Prelude.{ℕ, Option}
 use Rattle.kx_broker.specs.Offsets.{StandsForGroups}
 use Rattle.kx_broker.specs.Serving.{MayDo, StandsFor}
 use Rattle.kx_coord_node.specs.Stands as coordinator
@@ -15,8 +15,8 @@ broker_stands state (broker.Coordinator m) = Stands state m
 broker_stands state (broker.Partition m) = StandsFor state m
 broker_stands state (broker.Offsets m) = StandsForGroups state m
 
--- what its store may do in the next step
-abbrev pub broker_allows : {S : Type 0} → BrokerMachine S → Store → Type 0
+-- what its store may do in the next step, with an entry of this length
+abbrev pub broker_allows : {S : Type 0} → BrokerMachine S → Option ℕ → Store → Type 0
 broker_allows (broker.Coordinator m) = coordinator.MayDo m
 broker_allows (broker.Partition m) = MayDo m
 broker_allows (broker.Offsets m) = MayDo m

@@ -24,11 +24,11 @@ fn empty_store(alloc: Global) -> LocalStore
     FaultStore::new(MemStore::new(Vec::new(alloc)), 0, 0)
 }
 
-/// The coordinator, as it is made: its log is in memory, and it is moment 0.
+/// The coordinator, as it is made: its log is in memory, and it is time 0.
 ///
 /// # Errors
 ///
-/// Only for want of memory.
+/// Only where memory runs out.
 pub fn local_coordinator(alloc: Global) -> Result<CoordinatorMachine<LocalStore>, AllocError>
     ensures { IfOk result (Stands (AtCoordinator new_coordinator)) }
 {
@@ -43,7 +43,7 @@ pub fn local_coordinator(alloc: Global) -> Result<CoordinatorMachine<LocalStore>
 ///
 /// # Errors
 ///
-/// Only for want of memory.
+/// Only where memory runs out.
 pub fn local_partition(
     alloc: Global,
     number: PartitionId,
@@ -61,7 +61,7 @@ pub fn local_partition(
 ///
 /// # Errors
 ///
-/// Only for want of memory.
+/// Only where memory runs out.
 pub fn local_offsets(alloc: Global) -> Result<OffsetsMachine<LocalStore>, AllocError>
     ensures { IfOk result (StandsForGroups (AtPartition offsets_partition empty_partition)) }
 {

@@ -1,4 +1,5 @@
-//! The program: its words, standard streams and exit status. What it does with them is kx_program's.
+//! The program: its words, standard streams and exit status. What it does with them is
+//! kx_program's.
 #![tactic(auto)]
 
 use kx_program::{failed, run};

@@ -46,7 +46,7 @@ impl Model for Group {
 }
 
 impl Group {
-    /// One of which nothing is known.
+    /// A group of which nothing is known.
     pub(crate) fn new(alloc: Global) -> Group
         ensures { result.standing ≡ unknown }
     {
@@ -150,7 +150,7 @@ impl Group {
     {
         self.generation += 1;
         self.members.retain(|other| *other != member);
-        // Whether it is new among them is let go: it is, as `here` says.
+        // Whether it is new among them is dropped: it is, as `here` says.
         let _ = self.gone.insert(member).unwrap();
     }
 }

@@ -112,7 +112,7 @@ impl Members {
     ///
     /// # Errors
     ///
-    /// Only for want of memory.
+    /// Only where memory runs out.
     pub fn reserve(&mut self, group: GroupId) -> Result<(), AllocError>
         ensures same { (other : List ℕ)
             → standing_in self.new other ≡ standing_in self.old other }

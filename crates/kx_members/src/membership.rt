@@ -9,7 +9,7 @@ use kx_offsets::Fact;
 pub enum Membership {
     /// The client is a member already. Nothing is to be changed.
     Already,
-    /// It is refused, with this code. Nothing is to be changed.
+    /// The request is refused, with this code. Nothing changes.
     Refused(ErrorCode),
     /// This is to be appended to the offsets partition.
     Changes(Fact),

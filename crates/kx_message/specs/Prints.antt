@@ -10,10 +10,10 @@ use Rattle.kx_message.specs.declared.display.Header.{Header}
 use Rattle.kx_message.specs.declared.message.Held.{Held}
 use Rattle.kx_message.specs.declared.message.Message.{Message}
 use Rattle.kx_message.specs.declared.message.Message.TheVariants as msg
-use Rattle.kx_message.specs.declared.message.Node.{Node}
-use Rattle.kx_message.specs.declared.message.Node.TheVariants.{Coordinator, Partition, Client}
+use Rattle.kx_message.specs.declared.message.NodeId.{NodeId}
+use Rattle.kx_message.specs.declared.message.NodeId.TheVariants.{Coordinator, Partition, Client}
 
-abbrev pub node_text : Node → List ℕ
+abbrev pub node_text : NodeId → List ℕ
 node_text Coordinator = codes "co"
 node_text (Partition partition) = codes "p" ++ partition_text partition
 node_text (Client client) = codes "c" ++ decimal client

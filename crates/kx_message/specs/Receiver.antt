@@ -3,10 +3,10 @@
 use Rattle.kx_message.specs.Ranges.{offsets_partition}
 use Rattle.kx_message.specs.declared.message.Message.{Message}
 use Rattle.kx_message.specs.declared.message.Message.TheVariants as msg
-use Rattle.kx_message.specs.declared.message.Node.{Node}
-use Rattle.kx_message.specs.declared.message.Node.TheVariants.{Coordinator, Partition, Client}
+use Rattle.kx_message.specs.declared.message.NodeId.{NodeId}
+use Rattle.kx_message.specs.declared.message.NodeId.TheVariants.{Coordinator, Partition, Client}
 
-abbrev pub receiver_of : Message → Node
+abbrev pub receiver_of : Message → NodeId
 receiver_of (msg.InitProducerId it) = Coordinator
 receiver_of (msg.EndTxn it) = Coordinator
 receiver_of (msg.AddPartition it) = Coordinator

@@ -5,7 +5,10 @@ ghost use Rattle.kx_message.specs.Copies.{HoldsNoList};
 use crate::message::Message;
 use std::alloc::AllocError;
 
-/// A copy of the message, or want of memory, which a message without bytes and lists never meets.
+/// A copy of the message, or an error where memory runs out, which a message without bytes and
+/// lists never meets.
+// Written by hand, over derived copies of its parts, so that its contract says which messages take
+// no memory.
 impl Clone for Message {
     ghost is_clone = { λ message copy. copy ≡ message };
 

@@ -7,7 +7,7 @@ ghost use Rattle.kx_message.specs.Prints.{node_text, txn_word, held_words, optio
 ghost use Rattle.kx_message.specs.Prints.{header_of, header_words, message_text};
 ghost use Rattle.kx_message.specs.declared.message.Message.TheVariants as msg;
 
-use crate::message::{Held, Message, Node, Raised};
+use crate::message::{Held, Message, NodeId, Raised};
 use crate::{
     AddPartition, AddReply, EndReply, EndTxn, Fetch, FetchReply, InitProducerId, InitReply, Join,
     JoinReply, Leave, LeaveReply, MarkerReply, OffsetFetch, OffsetFetchReply, OffsetsReply,
@@ -16,14 +16,14 @@ use crate::{
 use std::fmt;
 
 /// As `co` for the coordinator, `p` and the partition, or `c` and the client's number.
-impl fmt::Display for Node {
+impl fmt::Display for NodeId {
     ghost output = { λ node. Some (node_text node) };
 
     fn fmt<W: fmt::Write>(&self, f: &mut fmt::Formatter<W>) -> fmt::Result {
         match self {
-            Node::Coordinator => f.write_str("co"),
-            Node::Partition(partition) => write!(f, "p{partition}"),
-            Node::Client(client) => write!(f, "c{client}"),
+            NodeId::Coordinator => f.write_str("co"),
+            NodeId::Partition(partition) => write!(f, "p{partition}"),
+            NodeId::Client(client) => write!(f, "c{client}"),
         }
     }
 }
@@ -104,7 +104,7 @@ fn from_producer(batch: &[u8]) -> Option<&[u8]>
     Some(rest)
 }
 
-// The number at the front of some bytes, and the bytes behind it; so the two below.
+// The number at the front of some bytes, and the bytes after it; so the two below.
 #[tactic(auto, unfolding(crate::specs::Reader::signed))]
 fn front_i64(bytes: &[u8]) -> Option<(i64, &[u8])>
     ensures { MatchOption result (signed w64 bytes.now ≡ None)
@@ -386,7 +386,7 @@ impl fmt::Display for OffsetFetchReply {
     }
 }
 
-/// The message's name and its numbers, as a script's line has them behind the nodes.
+/// The message's name and its numbers, as a script's line has them after the nodes.
 impl fmt::Display for Message {
     ghost output = { λ message. Some (message_text message) };
 

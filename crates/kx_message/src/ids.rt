@@ -8,7 +8,7 @@ use crate::fault::ValueFault;
 use std::fmt;
 use std::marker::Model;
 
-/// The id of a producer, 0 to 2^63 - 1, which its coordinator hands out (KIP-98).
+/// The id of a producer, 0 to 2^63 - 1, which its coordinator assigns (KIP-98).
 #[derive(Clone, Copy, Debug, PartialEq, Eq, PartialOrd, Ord, Hash)]
 pub struct ProducerId(u64);
 

@@ -10,7 +10,7 @@ pub use fault::ValueFault;
 pub use group_id::GroupId;
 pub use ids::{ClientId, Epoch, ProducerId};
 pub use layout::{LONGEST_FRAME, fields_len, kind};
-pub use message::{Held, Message, Node, Raised};
+pub use message::{Held, Message, NodeId, Raised};
 pub use outcome::Outcome;
 pub use partition::PartitionId;
 pub use payload::{AbortedTxn, AbortedTxns, Bytes, Offsets, PartitionOffset};

@@ -70,7 +70,7 @@ impl TryFrom<Held> for Raised {
 
 /// Where a message goes.
 #[derive(Clone, Copy, Debug, PartialEq, Eq)]
-pub enum Node {
+pub enum NodeId {
     /// The coordinator of transactions.
     Coordinator,
     /// The server of a partition, the offsets partition among them.
@@ -127,30 +127,30 @@ pub enum Message {
 impl Message {
     /// Where the message goes: a request to the coordinator, to the partition that it names or to
     /// the offsets partition, a reply to its client or to the coordinator.
-    pub fn receiver(&self) -> Node
+    pub fn receiver(&self) -> NodeId
         ensures { result ≡ receiver_of self.now }
     {
         match self {
             Message::InitProducerId(_)
             | Message::EndTxn(_)
             | Message::AddPartition(_)
-            | Message::MarkerReply(_) => Node::Coordinator,
-            Message::Produce(produce) => Node::Partition(produce.partition),
-            Message::WriteMarker(marker) => Node::Partition(marker.partition),
-            Message::AddReply(reply) => Node::Partition(reply.partition),
-            Message::Fetch(fetch) => Node::Partition(fetch.partition),
+            | Message::MarkerReply(_) => NodeId::Coordinator,
+            Message::Produce(produce) => NodeId::Partition(produce.partition),
+            Message::WriteMarker(marker) => NodeId::Partition(marker.partition),
+            Message::AddReply(reply) => NodeId::Partition(reply.partition),
+            Message::Fetch(fetch) => NodeId::Partition(fetch.partition),
             Message::Join(_)
             | Message::Leave(_)
             | Message::TxnOffsetCommit(_)
-            | Message::OffsetFetch(_) => Node::Partition(PartitionId::OFFSETS),
-            Message::InitReply(reply) => Node::Client(reply.caller.client),
-            Message::EndReply(reply) => Node::Client(reply.caller.client),
-            Message::ProduceReply(reply) => Node::Client(reply.caller.client),
-            Message::FetchReply(reply) => Node::Client(reply.caller.client),
-            Message::JoinReply(reply) => Node::Client(reply.caller.client),
-            Message::LeaveReply(reply) => Node::Client(reply.caller.client),
-            Message::OffsetsReply(reply) => Node::Client(reply.caller.client),
-            Message::OffsetFetchReply(reply) => Node::Client(reply.caller.client),
+            | Message::OffsetFetch(_) => NodeId::Partition(PartitionId::OFFSETS),
+            Message::InitReply(reply) => NodeId::Client(reply.caller.client),
+            Message::EndReply(reply) => NodeId::Client(reply.caller.client),
+            Message::ProduceReply(reply) => NodeId::Client(reply.caller.client),
+            Message::FetchReply(reply) => NodeId::Client(reply.caller.client),
+            Message::JoinReply(reply) => NodeId::Client(reply.caller.client),
+            Message::LeaveReply(reply) => NodeId::Client(reply.caller.client),
+            Message::OffsetsReply(reply) => NodeId::Client(reply.caller.client),
+            Message::OffsetFetchReply(reply) => NodeId::Client(reply.caller.client),
         }
     }
 }

@@ -8,9 +8,6 @@ use crate::fault::ValueFault;
 use std::fmt;
 use std::marker::Model;
 
-/// How many partitions keep the records of producers.
-const DATA_PARTITIONS: u16 = 16;
-
 /// A partition: 0 to 15, which keep the records of producers, or 65535, which keeps the offsets of
 /// consumer groups.
 #[derive(Clone, Copy, Debug, PartialEq, Eq, PartialOrd, Ord, Hash)]
@@ -27,6 +24,9 @@ impl Model for PartitionId {
 }
 
 impl PartitionId {
+    /// How many data partitions there can be, which keep the records of producers: 0 to 15.
+    pub const DATA_COUNT: u16 = 16;
+
     /// The partition that keeps the offsets of consumer groups.
     pub const OFFSETS: PartitionId = PartitionId(65_535);
 
@@ -55,7 +55,7 @@ impl TryFrom<u16> for PartitionId {
         × IsOkUnless r ValueFault.Partition };
 
     fn try_from(number: u16) -> Result<Self, ValueFault> {
-        if number < DATA_PARTITIONS || number == PartitionId::OFFSETS.0 {
+        if number < PartitionId::DATA_COUNT || number == PartitionId::OFFSETS.0 {
             Ok(PartitionId(number))
         } else {
             Err(ValueFault::Partition)

@@ -1,6 +1,9 @@
 //! What messages carry besides small values: batches of records as they stand, and lists of pairs.
 //! Each is a vector that contracts see as a list, and is made of one and given back as one without
 //! taking memory.
+//!
+//! Three types in one form, and not one list over any type: each has a name and a sentence of its
+//! own, and Offsets keeps its count within its range.
 ghost use Rattle.std.specs.Prelude.{◌≡◌, ◌≤◌, length, nat_eq};
 ghost use Rattle.std.specs.Cmp.Lexicographic.{pointwise};
 ghost use Rattle.std.specs.Cmp.Rules.{comparing};
@@ -25,7 +28,7 @@ impl Model for Bytes {
     ghost view = { λ bytes. bytes.bytes.items };
 }
 
-/// A copy of the same list, or want of memory.
+/// A copy of the list, or an error where memory runs out.
 impl Clone for Bytes {
     ghost is_clone = { λ list copy. copy ≡ list };
 
@@ -36,6 +39,8 @@ impl Clone for Bytes {
 }
 
 /// Whether both are the same list.
+// Written by hand: a derive compares what contracts see, and they see the list without its
+// allocator.
 impl PartialEq for Bytes {
     ghost eq = { pointwise nat_eq };
 
@@ -58,7 +63,7 @@ impl Bytes {
         Bytes { bytes }
     }
 
-    /// The bytes, lent.
+    /// The bytes, borrowed.
     pub fn as_slice(&self) -> &[u8]
         ensures { result.now ≡ self.now }
     {
@@ -101,7 +106,7 @@ impl Model for Offsets {
     ghost invariant = { λ offsets. IsOffsetCount (length offsets.offsets.items) };
 }
 
-/// A copy of the same list, or want of memory.
+/// A copy of the list, or an error where memory runs out.
 impl Clone for Offsets {
     ghost is_clone = { λ list copy. copy ≡ list };
 
@@ -141,7 +146,7 @@ impl Offsets {
         Offsets { offsets }
     }
 
-    /// The offsets, lent.
+    /// The offsets, borrowed.
     pub fn as_slice(&self) -> &[PartitionOffset]
         ensures value { result.now ≡ self.now }
         ensures within { IsOffsetCount (length self.now) }
@@ -182,7 +187,7 @@ impl Model for AbortedTxns {
     ghost view = { λ aborted. aborted.aborted.items };
 }
 
-/// A copy of the same list, or want of memory.
+/// A copy of the list, or an error where memory runs out.
 impl Clone for AbortedTxns {
     ghost is_clone = { λ list copy. copy ≡ list };
 
@@ -215,7 +220,7 @@ impl AbortedTxns {
         AbortedTxns { aborted }
     }
 
-    /// The transactions, lent.
+    /// The transactions, borrowed.
     pub fn as_slice(&self) -> &[AbortedTxn]
         ensures { result.now ≡ self.now }
     {

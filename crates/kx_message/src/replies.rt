@@ -1,6 +1,6 @@
 //! What is answered, each reply with the fields that its frame spells, in the frame's order. A
-//! client's reply repeats its [`Caller`]; what stands behind a code other than 0 is as the answer
-//! to the request says.
+//! client's reply repeats its [`Caller`]; what stands after a code other than 0 is as the answer to
+//! the request says.
 use crate::payload::{AbortedTxns, Bytes};
 use crate::requests::Caller;
 use crate::{ErrorCode, Held, PartitionId, Raised, TxnId};
@@ -83,7 +83,7 @@ pub struct FetchReply {
     pub end: i64,
     /// The aborted transactions among the batches.
     pub aborted: AbortedTxns,
-    /// The record batches, one behind the other.
+    /// The record batches, one after the other.
     pub batches: Bytes,
 }
 

@@ -1,4 +1,7 @@
 //! The id of a transaction.
+//!
+//! Two types over one name, in two files alike but for their words: a macro can't write functions
+//! with contracts.
 ghost use Rattle.std.specs.Prelude.{◌≡◌, Some};
 ghost use Rattle.kx_message.specs.Ranges.{IsName};
 ghost use Rattle.kx_message.specs.Names.{TakesName};

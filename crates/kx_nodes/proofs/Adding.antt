@@ -1,5 +1,5 @@
 -- A step is added to a trace, and the machine stands for the node after it.
-use Rattle.std.proofs.Common.{◌≡◌, List, [], ◌∷◌, ◌++◌, refl, sym, subst}
+use Rattle.std.proofs.Common.{◌≡◌, ℕ, Option, List, [], ◌∷◌, ◌++◌, refl, sym, subst}
 use Rattle.kx_machine.specs.Meaning.{IsTaken, NodeState, input_of, node_step}
 use Rattle.kx_machine.specs.declared.input.Input.{Input}
 use Rattle.kx_machine.specs.declared.taken.Taken.{Taken}
@@ -32,8 +32,8 @@ module _ {B M : Type 0} (made_as : B → NodeState) (Stands : NodeState → M �
     stands = stands;
   }
 
-  module _ (steps : List Step) (old new : M) (Allows : Store → Type 0) (before : NodeState)
-      (input : Input) (taken : Taken)
+  module _ (steps : List Step) (old new : M) (Allows : Option ℕ → Store → Type 0)
+      (before : NodeState) (input : Input) (taken : Taken)
       (runs : RunsAs made_as Stands (recorded made steps old) before)
       (t : IsTaken before (input_of input) Allows (λ s. Stands s new) taken) where
     takes : (m : Mark) → m ≡ mark_of taken

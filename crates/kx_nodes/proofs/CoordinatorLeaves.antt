@@ -10,7 +10,8 @@ use Rattle.kx_message.specs.declared.message.Message.{Message}
 use Rattle.kx_message.specs.declared.message.Message.TheVariants as msg
 use Rattle.kx_message.specs.declared.outcome.Outcome.{Outcome}
 use Rattle.kx_message.specs.declared.outcome.Outcome.TheVariants.{Abort, Commit}
-use Rattle.kx_model.specs.Coordinator.{Note, Row, State, Empty, Ongoing, Prepare, Complete, Written}
+use Rattle.kx_model.specs.Coordinator.{TxnEntry, Row, State, Empty, Ongoing, Prepare, Complete}
+use Rattle.kx_model.specs.Coordinator.{Written}
 use Rattle.kx_model.specs.Coordinator.{ends, epoch_after, lists, row_of}
 use Rattle.kx_model.specs.CoordinatorNode.{Coordinator, coordinator_takes}
 use Rattle.kx_model.specs.CoordinatorNode.{expires_row, has_no_id, notes_of, on_marker_reply}
@@ -28,12 +29,12 @@ use Rattle.kx_nodes.proofs.Disks.{by_test}
 use Rattle.kx_nodes.proofs.Leaving.{IsPlain, Leaves, append_leaves, keeps}
 
 -- the entry leaves the coordinator's epoch as it is
-abbrev pub KeepsEpoch : Note → Type 0
+abbrev pub KeepsEpoch : TxnEntry → Type 0
 KeepsEpoch note = (epoch : ℤ) → epoch_after epoch note ≡ epoch
 
 ------ what answers append
 
-abbrev MayKeep : Option Note → Type 0
+abbrev MayKeep : Option TxnEntry → Type 0
 MayKeep None = Unit {0}
 MayKeep (Some note) = KeepsEpoch note
 
@@ -46,14 +47,14 @@ asked_fine r Ongoing = tt
 asked_fine r (Prepare outcome) = tt
 asked_fine r (Complete outcome) = tt
 
-newcomer_fine : (log : List Note) (client timeout : ℕ) (r : Row) (state : State)
+newcomer_fine : (log : List TxnEntry) (client timeout : ℕ) (r : Row) (state : State)
     → Fine (newcomer log client timeout r state)
 newcomer_fine log client timeout r Empty = λ e. refl
 newcomer_fine log client timeout r Ongoing = λ e. refl
 newcomer_fine log client timeout r (Prepare outcome) = tt
 newcomer_fine log client timeout r (Complete outcome) = λ e. refl
 
-init_at_fine : (log : List Note) (client : ℕ) (txn : List ℕ) (timeout : ℕ) (row : Option Row)
+init_at_fine : (log : List TxnEntry) (client : ℕ) (txn : List ℕ) (timeout : ℕ) (row : Option Row)
     → Fine (requests.init_at log client txn timeout row)
 init_at_fine log client txn timeout None = λ e. refl
 init_at_fine log client txn timeout (Some r) =
@@ -64,7 +65,7 @@ init_at_fine log client txn timeout (Some r) =
     else newcomer log client timeout r r.state))
     (asked_fine r r.state) (newcomer_fine log client timeout r r.state))
 
-init_fine : (log : List Note) (client : ℕ) (txn : Option (List ℕ)) (timeout : ℕ)
+init_fine : (log : List TxnEntry) (client : ℕ) (txn : Option (List ℕ)) (timeout : ℕ)
     → Fine (init log client txn timeout)
 init_fine log client None timeout = λ e. refl
 init_fine log client (Some txn) timeout = init_at_fine log client txn timeout (row_of log txn)
@@ -90,18 +91,19 @@ add_at_fine clock (Some r) held partition =
     (by_test (is_old r held) (λ b. Fine (if b then refuses code.ProducerFenced
     else add_in clock r held partition r.state)) tt (add_in_fine clock r held partition r.state))
 
-nothing_fine : (log : List Note) (r : Row) (outcome : Outcome) → Fine (nothing_sent log r outcome)
+nothing_fine : (log : List TxnEntry) (r : Row) (outcome : Outcome) → Fine
+    (nothing_sent log r outcome)
 nothing_fine log r Abort = λ e. refl
 nothing_fine log r Commit = tt
 
-end_in_fine : (log : List Note) (r : Row) (outcome : Outcome) (state : State)
+end_in_fine : (log : List TxnEntry) (r : Row) (outcome : Outcome) (state : State)
     → Fine (end_in log r outcome state)
 end_in_fine log r outcome Empty = nothing_fine log r outcome
 end_in_fine log r outcome Ongoing = λ e. refl
 end_in_fine log r outcome (Prepare decided) = tt
 end_in_fine log r outcome (Complete decided) = nothing_fine log r outcome
 
-end_row_fine : (log : List Note) (r : Row) (held : Held) (outcome : Outcome)
+end_row_fine : (log : List TxnEntry) (r : Row) (held : Held) (outcome : Outcome)
     → Fine (end_row log r held outcome)
 end_row_fine log r held outcome =
     by_test (ends held.id held.epoch r) (λ b. Fine (if b
@@ -114,7 +116,7 @@ end_row_fine log r held outcome =
     (by_test (is_old r held) (λ b. Fine (if b then refuses code.ProducerFenced
     else end_in log r outcome r.state)) tt (end_in_fine log r outcome r.state))
 
-end_at_fine : (log : List Note) (row : Option Row) (held : Held) (outcome : Outcome)
+end_at_fine : (log : List TxnEntry) (row : Option Row) (held : Held) (outcome : Outcome)
     → Fine (requests.end_at log row held outcome)
 end_at_fine log None held outcome = tt
 end_at_fine log (Some r) held outcome =
@@ -129,14 +131,14 @@ module _ (store : Store) where
   rests : (co : Coordinator) → Goes co co
   rests co = keeps KeepsEpoch store co.disk
 
-  writes_leave : (co : Coordinator) (note : Note) (done failed : List Message) → KeepsEpoch note
+  writes_leave : (co : Coordinator) (note : TxnEntry) (done failed : List Message) → KeepsEpoch note
       → Goes co (writes co store note done failed).0
   writes_leave co note done failed kept =
       by_test (has_no_id note) (λ b. Leaves KeepsEpoch store co.disk
       (if b then co.disk else appended co.disk store note))
       (rests co) (append_leaves KeepsEpoch store co.disk note kept)
 
-  replies_leave : (co : Coordinator) (a : Answer) (reply : Reply) (note : Option Note)
+  replies_leave : (co : Coordinator) (a : Answer) (reply : Reply) (note : Option TxnEntry)
       → MayKeep note → Goes co (replies co store a reply note).0
   replies_leave co a reply None kept = rests co
   replies_leave co a reply (Some note) kept =

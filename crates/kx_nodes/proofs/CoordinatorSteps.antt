@@ -8,7 +8,7 @@ use Rattle.kx_message.specs.declared.code.ErrorCode.TheVariants as code
 use Rattle.kx_message.specs.declared.message.Message.{Message}
 use Rattle.kx_message.specs.declared.message.Message.TheVariants as msg
 use Rattle.kx_message.specs.Messages as the
-use Rattle.kx_model.specs.Coordinator.{Note, Row, Written, coordinator_epoch}
+use Rattle.kx_model.specs.Coordinator.{TxnEntry, Row, Written, coordinator_epoch}
 use Rattle.kx_model.specs.CoordinatorNode.{Coordinator, Coordinated, Reply, completes}
 use Rattle.kx_model.specs.CoordinatorNode.{coordinator_takes, expires, expires_row, has_no_id}
 use Rattle.kx_model.specs.CoordinatorNode.{notes_of, on_marker_reply, on_settled, replies, writes}
@@ -22,25 +22,25 @@ use Rattle.kx_nodes.proofs.Disks.{Alike, Append, Compared, MayHide, append, appe
 use Rattle.kx_nodes.proofs.Disks.{append_disk, append_hiding, behind, by_test, mapped}
 
 -- the coordinator, with this behind its log
-abbrev pub but : Coordinator → Option Note → Coordinator
+abbrev pub but : Coordinator → Option TxnEntry → Coordinator
 but co hidden = record co { disk = behind co.disk hidden }
 
-abbrev MayBe : Coordinator → Option Note → Type 0
+abbrev MayBe : Coordinator → Option TxnEntry → Type 0
 MayBe co hidden = MayHide co.disk hidden
 
-abbrev done_disk : Coordinated → Disk Note
+abbrev done_disk : Coordinated → Disk TxnEntry
 done_disk s = s.0.disk
 
-abbrev done_hiding : Coordinated → Option Note → Coordinated
+abbrev done_hiding : Coordinated → Option TxnEntry → Coordinated
 done_hiding s hidden = (but s.0 hidden, s.1)
 
 abbrev Dones : Coordinator → Store → Store → Coordinated → Coordinated → Type 0
 Dones co store other one two = Compared done_disk done_hiding co.disk store other one two
 
-abbrev pub step_disk : NodeStep Coordinator → Disk Note
+abbrev pub step_disk : NodeStep Coordinator → Disk TxnEntry
 step_disk s = s.state.disk
 
-abbrev pub step_hiding : NodeStep Coordinator → Option Note → NodeStep Coordinator
+abbrev pub step_hiding : NodeStep Coordinator → Option TxnEntry → NodeStep Coordinator
 step_hiding s hidden = record s { state = but s.state hidden }
 
 abbrev pub Steps : Coordinator → Store → Store → NodeStep Coordinator → NodeStep Coordinator
@@ -48,14 +48,14 @@ abbrev pub Steps : Coordinator → Store → Store → NodeStep Coordinator → 
 Steps co store other one two = Compared step_disk step_hiding co.disk store other one two
 
 -- what is written, by whether the entry is not to be, and by what appending it leaves
-abbrev written_by : Bool → Coordinator → List Message → List Message → Append Note → Coordinated
+abbrev written_by : Bool → Coordinator → List Message → List Message → Append TxnEntry → Coordinated
 written_by barred co done failed w = (
   record co { disk = if barred then co.disk else w.0 },
   if not barred && w.1 then done else failed,
 )
 
 -- a row that is complete
-abbrev completed_by : Bool → Coordinator → Row → List Message → Append Note → Coordinated
+abbrev completed_by : Bool → Coordinator → Row → List Message → Append TxnEntry → Coordinated
 completed_by barred co row done w = (
   record (written_by barred co done [] w).0 {
     answered = if not barred && w.1 then without_row co.answered row else co.answered;
@@ -65,9 +65,9 @@ completed_by barred co row done w = (
 
 module _ (store other : Store) where
   -- what is made of the append of an entry
-  appended_by : (co : Coordinator) (hidden : Option Note) (note : Note)
-      (f : Append Note → Coordinated) → ((w : Append Note) → done_disk (f w) ≡ w.0)
-      → ((w : Append Note) (h : Option Note) → f (append_hiding w h) ≡ done_hiding (f w) h)
+  appended_by : (co : Coordinator) (hidden : Option TxnEntry) (note : TxnEntry)
+      (f : Append TxnEntry → Coordinated) → ((w : Append TxnEntry) → done_disk (f w) ≡ w.0)
+      → ((w : Append TxnEntry) (h : Option TxnEntry) → f (append_hiding w h) ≡ done_hiding (f w) h)
       → MayBe co hidden
       → Dones co store other (f (append co.disk store note))
       (f (append (behind co.disk hidden) other note))
@@ -76,7 +76,7 @@ module _ (store other : Store) where
       (append co.disk store note) (append (behind co.disk hidden) other note)
       (append_compared co.disk hidden store other note may)
 
-  writes_alike : (co : Coordinator) (hidden : Option Note) (note : Note)
+  writes_alike : (co : Coordinator) (hidden : Option TxnEntry) (note : TxnEntry)
       (done failed : List Message) → MayBe co hidden
       → Dones co store other (writes co store note done failed)
       (writes (but co hidden) other note done failed)
@@ -88,8 +88,8 @@ module _ (store other : Store) where
       (Alike hidden refl may)
       (appended_by co hidden note (written_by false co all failed) (λ w. refl) (λ w h. refl) may)
 
-  replies_alike : (co : Coordinator) (hidden : Option Note) (a : Answer) (reply : Reply)
-      (note : Option Note) → MayBe co hidden
+  replies_alike : (co : Coordinator) (hidden : Option TxnEntry) (a : Answer) (reply : Reply)
+      (note : Option TxnEntry) → MayBe co hidden
       → Dones co store other (replies co store a reply note)
       (replies (but co hidden) other a reply note)
   replies_alike co hidden a reply None may = Alike hidden refl may
@@ -97,7 +97,7 @@ module _ (store other : Store) where
       writes_alike co hidden note (reply a.code a.held ∷ [])
       (reply code.KafkaStorageError None ∷ []) may
 
-  completes_alike : (co : Coordinator) (hidden : Option Note) (row : Row) → MayBe co hidden
+  completes_alike : (co : Coordinator) (hidden : Option TxnEntry) (row : Row) → MayBe co hidden
       → Dones co store other (completes co store row) (completes (but co hidden) other row)
   completes_alike co hidden row may =
       let note = Written row in
@@ -108,7 +108,7 @@ module _ (store other : Store) where
       (Alike hidden refl may)
       (appended_by co hidden note (completed_by false co row all) (λ w. refl) (λ w h. refl) may)
 
-  settled_alike : (co : Coordinator) (hidden : Option Note) (a : Answered) (settled : Settled)
+  settled_alike : (co : Coordinator) (hidden : Option TxnEntry) (a : Answered) (settled : Settled)
       → MayBe co hidden
       → Dones co store other (on_settled co store a settled)
       (on_settled (but co hidden) other a settled)
@@ -116,7 +116,7 @@ module _ (store other : Store) where
   settled_alike co hidden a Noted may = Alike hidden refl may
   settled_alike co hidden a (Completes row) may = completes_alike co hidden row may
 
-  marker_reply_alike : (co : Coordinator) (hidden : Option Note) (a : Answered)
+  marker_reply_alike : (co : Coordinator) (hidden : Option TxnEntry) (a : Answered)
       (code : ErrorCode) → MayBe co hidden
       → Dones co store other (on_marker_reply co store a code)
       (on_marker_reply (but co hidden) other a code)
@@ -124,7 +124,7 @@ module _ (store other : Store) where
       settled_alike co hidden a (settle (notes_of co) co.answered a) may
   marker_reply_alike co hidden a code may = Alike hidden refl may
 
-  takes_alike : (co : Coordinator) (hidden : Option Note) (m : Message) → MayBe co hidden
+  takes_alike : (co : Coordinator) (hidden : Option TxnEntry) (m : Message) → MayBe co hidden
       → Dones co store other (coordinator_takes co store m)
       (coordinator_takes (but co hidden) other m)
   takes_alike co hidden (msg.InitProducerId it) may =
@@ -142,7 +142,7 @@ module _ (store other : Store) where
       (record { txn = it.txn; held = it.held; partition = it.partition }) it.code may
   takes_alike co hidden m may = Alike hidden refl may
 
-  expires_row_alike : (co : Coordinator) (hidden : Option Note) (row : Option Row)
+  expires_row_alike : (co : Coordinator) (hidden : Option TxnEntry) (row : Option Row)
       → MayBe co hidden
       → Dones co store other (expires_row co store row) (expires_row (but co hidden) other row)
   expires_row_alike co hidden None may = Alike hidden refl may
@@ -157,14 +157,14 @@ module _ (store other : Store) where
       mapped done_disk done_hiding step_disk step_hiding (λ s. coordinates s Done) (λ s. refl)
       (λ s h. refl) co.disk store other one two are
 
-  pub comes_alike : (co : Coordinator) (hidden : Option Note) (m : Message) → MayBe co hidden
+  pub comes_alike : (co : Coordinator) (hidden : Option TxnEntry) (m : Message) → MayBe co hidden
       → Steps co store other (coordinator_step co store (Comes m))
       (coordinator_step (but co hidden) other (Comes m))
   comes_alike co hidden m may =
       step_done co (coordinator_takes co store m) (coordinator_takes (but co hidden) other m)
       (takes_alike co hidden m may)
 
-  pub expires_alike : (co : Coordinator) (hidden : Option Note) (now : ℕ) → MayBe co hidden
+  pub expires_alike : (co : Coordinator) (hidden : Option TxnEntry) (now : ℕ) → MayBe co hidden
       → Steps co store other (coordinator_step co store (Expires now))
       (coordinator_step (but co hidden) other (Expires now))
   expires_alike co hidden now may =

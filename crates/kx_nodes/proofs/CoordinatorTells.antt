@@ -5,7 +5,7 @@ use Rattle.std.proofs.Common.{sym, ap, subst}
 use Rattle.std.specs.Prelude.{◌≢◌, is_none, is_some, if◌then◌else◌}
 use Rattle.kx_machine.specs.Meaning.{NodeState, AtCoordinator, note_of, of_kind, taken_of}
 use Rattle.kx_machine.specs.declared.taken.Taken.{Taken}
-use Rattle.kx_model.specs.Coordinator.{Note}
+use Rattle.kx_model.specs.Coordinator.{TxnEntry}
 use Rattle.kx_model.specs.CoordinatorNode.{Coordinator, opens}
 use Rattle.kx_model.specs.Disk.{Store, Works, Fails, CannotLoad, Reopening, Reopens}
 use Rattle.kx_model.specs.Disk.{CannotRead, CannotWrite, reread, shut}
@@ -27,7 +27,7 @@ use Rattle.kx_nodes.proofs.Telling.{never_unwritten, never_used_up, served, shut
 abbrev of_node : NodeStep Coordinator → NodeStep NodeState
 of_node s = of_kind AtCoordinator s
 
-alike : (co : Coordinator) (hidden : Option Note) → MayHide co.disk hidden
+alike : (co : Coordinator) (hidden : Option TxnEntry) → MayHide co.disk hidden
     → AreAlike (AtCoordinator co) (AtCoordinator (but co hidden))
 alike co hidden (Itself e) = AreSame (ap (λ h. AtCoordinator (but co h)) e)
 alike co hidden (Other closed differ) = OneHides closed differ refl
@@ -37,7 +37,7 @@ alike co hidden (Other closed differ) = OneHides closed differ refl
 abbrev answer : Coordinator → NodeStep Coordinator → Taken
 answer co s = served (AtCoordinator co) (of_node s)
 
-served_compares : (co : Coordinator) (hidden : Option Note) (store other : Store)
+served_compares : (co : Coordinator) (hidden : Option TxnEntry) (store other : Store)
     (one two : NodeStep Coordinator) → Plain one.note → Plain two.note
     → Steps co store other one two
     → Compares store other (answer co one) (answer (but co hidden) two) (AtCoordinator one.state)
@@ -63,12 +63,12 @@ served_compares co hidden store other one two plain clear (Apart opened a b diff
 ------ restarts that read the log
 
 -- what a restart notes that read the log, by the entry that it is to write
-abbrev note_by : Reopening → Option Note → StepNote
+abbrev note_by : Reopening → Option TxnEntry → StepNote
 note_by Reopens entry = if is_none entry then RunsOut else Done
 note_by CannotRead entry = Unread
 note_by (CannotWrite whole) entry = if is_none entry then RunsOut else Unwritten
 
-abbrev pub opening : Coordinator → ℕ → Reopening → Option Note → NodeStep Coordinator
+abbrev pub opening : Coordinator → ℕ → Reopening → Option TxnEntry → NodeStep Coordinator
 opening co now how entry = coordinates (opens co now how entry) (note_by how entry)
 
 abbrev pub restarted : Coordinator → ℕ → NodeStep Coordinator → Taken
@@ -90,10 +90,10 @@ Reads CannotRead = ⊥
 Reads (CannotWrite whole) = Unit {0}
 
 -- the coordinator, whose new epoch couldn't be written
-abbrev unwritten : Coordinator → ℕ → Bool → Note → NodeState
+abbrev unwritten : Coordinator → ℕ → Bool → TxnEntry → NodeState
 unwritten co now whole note = AtCoordinator (opens co now (CannotWrite whole) (Some note)).0
 
-unwritten_alike : (co : Coordinator) (now : ℕ) (one two : Bool) (note : Note)
+unwritten_alike : (co : Coordinator) (now : ℕ) (one two : Bool) (note : TxnEntry)
     → AreAlike (unwritten co now one note) (unwritten co now two note)
 unwritten_alike co now true true note = AreSame refl
 unwritten_alike co now false false note = AreSame refl
@@ -101,7 +101,7 @@ unwritten_alike co now true false note = OneHides refl (λ e. cc) refl
 unwritten_alike co now false true note = OneHides refl (λ e. cc) refl
 
 -- of the same coordinator
-same_tell : (co : Coordinator) (now : ℕ) (how other : Reopening) (entry : Option Note)
+same_tell : (co : Coordinator) (now : ℕ) (how other : Reopening) (entry : Option TxnEntry)
     → Reads how → Reads other
     → RestartsTell co co now (opening co now how entry) (opening co now other entry)
 same_tell co now CannotRead other entry reads can = absurd reads
@@ -123,7 +123,7 @@ same_tell co now (CannotWrite whole) Reopens (Some note) reads can =
 same_tell co now (CannotWrite whole) (CannotWrite all) (Some note) reads can =
     λ marks. record { same = refl; alike = unwritten_alike co now whole all note }
 
-module _ (co : Coordinator) (hidden : Option Note) (now : ℕ) where
+module _ (co : Coordinator) (hidden : Option TxnEntry) (now : ℕ) where
   abbrev closed : Bool
   closed = co.disk.closed
 
@@ -133,14 +133,14 @@ module _ (co : Coordinator) (hidden : Option Note) (now : ℕ) where
   abbrev other_hid : Bool
   other_hid = is_some hidden
 
-  abbrev OpeningsTell : Reopening → Reopening → Option Note → Option Note → Type 0
+  abbrev OpeningsTell : Reopening → Reopening → Option TxnEntry → Option TxnEntry → Type 0
   OpeningsTell how other entry instead =
       RestartsTell co (but co hidden) now (opening co now how entry)
       (opening (but co hidden) now other instead)
 
   -- one of them alone hides an entry
   other_tell : closed ≡ true → hid ≢ other_hid → (how other : Reopening)
-      (entry instead : Option Note) → Reads how → Reads other
+      (entry instead : Option TxnEntry) → Reads how → Reads other
       → OpeningsTell how other entry instead
   other_tell is differ CannotRead other entry instead reads can = absurd reads
   other_tell is differ how CannotRead entry instead reads can = absurd can
@@ -180,7 +180,7 @@ module _ (co : Coordinator) (hidden : Option Note) (now : ℕ) where
       → OpeningsTell how other (reopen (reread co.disk)) (reopen (reread (but co hidden).disk))
   openings_tell how other reads can (Itself e) =
       let entry = reopen (reread co.disk) in
-      subst (λ (h : Option Note). RestartsTell co (but co h) now (opening co now how entry)
+      subst (λ (h : Option TxnEntry). RestartsTell co (but co h) now (opening co now how entry)
       (opening (but co h) now other (reopen (reread (but co h).disk)))) e
       (same_tell co now how other entry reads can)
   openings_tell how other reads can (Other is differ) =
@@ -193,7 +193,8 @@ abbrev shuts : Coordinator → NodeStep Coordinator
 shuts co = coordinates (record co { disk = shut co.disk }, []) Unread
 
 -- no other restart has that mark
-pub never_shut : (co : Coordinator) (now : ℕ) (how : Reopening) (entry : Option Note) → Reads how
+pub never_shut : (co : Coordinator) (now : ℕ) (how : Reopening) (entry : Option TxnEntry) →
+    Reads how
     → mark_of (restarted co now (opening co now how entry)) ≡ mark.Unread → ⊥
 never_shut co now CannotRead entry reads e = absurd reads
 never_shut co now Reopens None reads e = cc
@@ -202,7 +203,7 @@ never_shut co now Reopens (Some note) reads e =
     never_unread co.disk.closed (is_some co.disk.hidden) e
 never_shut co now (CannotWrite whole) (Some note) reads e = cc
 
-module _ (co : Coordinator) (hidden : Option Note) (now : ℕ) where
+module _ (co : Coordinator) (hidden : Option TxnEntry) (now : ℕ) where
   shuts_tell : MayHide co.disk hidden
       → RestartsTell co (but co hidden) now (shuts co) (shuts (but co hidden))
   shuts_tell may = λ marks. record {
@@ -210,12 +211,12 @@ module _ (co : Coordinator) (hidden : Option Note) (now : ℕ) where
     alike = alike (shuts co).state hidden (shut_may co.disk hidden may);
   }
 
-  shuts_or_opens : (how : Reopening) (entry : Option Note) → Reads how
+  shuts_or_opens : (how : Reopening) (entry : Option TxnEntry) → Reads how
       → RestartsTell co (but co hidden) now (shuts co) (opening (but co hidden) now how entry)
   shuts_or_opens how entry reads =
       λ marks. absurd (never_shut (but co hidden) now how entry reads (sym marks))
 
-  opens_or_shuts : (how : Reopening) (entry : Option Note) → Reads how
+  opens_or_shuts : (how : Reopening) (entry : Option TxnEntry) → Reads how
       → RestartsTell co (but co hidden) now (opening co now how entry) (shuts (but co hidden))
   opens_or_shuts how entry reads = λ marks. absurd (never_shut co now how entry reads marks)
 
@@ -245,7 +246,7 @@ pub coordinator_plain : (co : Coordinator) (store : Store) (input : Input) → I
 coordinator_plain co store (Restarts now) plain = absurd plain
 coordinator_plain co store input plain = tt
 
-module _ (co : Coordinator) (hidden : Option Note) (store other : Store)
+module _ (co : Coordinator) (hidden : Option TxnEntry) (store other : Store)
     (may : MayHide co.disk hidden) where
   pub coordinator_compares : (input : Input) → IsPlain input → Compares store other
       (taken_of (AtCoordinator co) input (of_node (coordinator_step co store input)))

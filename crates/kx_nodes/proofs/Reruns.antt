@@ -11,7 +11,7 @@ use Rattle.kx_machine.specs.declared.input.Input as given
 use Rattle.kx_machine.specs.declared.input.Input.TheVariants as input
 use Rattle.kx_machine.specs.declared.machine.StoreMode.{StoreMode}
 use Rattle.kx_machine.specs.declared.taken.Taken.{Taken}
-use Rattle.kx_model.specs.Coordinator.{Note}
+use Rattle.kx_model.specs.Coordinator.{TxnEntry}
 use Rattle.kx_model.specs.CoordinatorNode.{Coordinator}
 use Rattle.kx_model.specs.Disk.{Store, Works, Fails, CannotLoad, Reopening, Reopens}
 use Rattle.kx_model.specs.Disk.{CannotWrite, reread, works}
@@ -178,10 +178,10 @@ module _ (now : ℕ) where
   abbrev restart_shows : NodeState → Shows
   restart_shows a store = mark_of (answer a store (Restarts now))
 
-  abbrev opening_mark : Coordinator → Reopening → Option Note → Mark
+  abbrev opening_mark : Coordinator → Reopening → Option TxnEntry → Mark
   opening_mark co how entry = mark_of (restarted co now (opening co now how entry))
 
-  coordinator_shape : (co : Coordinator) (entry : Option Note) → reopen (reread co.disk) ≡ entry
+  coordinator_shape : (co : Coordinator) (entry : Option TxnEntry) → reopen (reread co.disk) ≡ entry
       → Shape (restart_shows (AtCoordinator co))
   coordinator_shape co None is =
       Spends refl (ap (opening_mark co Reopens) is)
@@ -207,7 +207,7 @@ module _ (now : ℕ) where
   spent_mark Works = mark.UsedUp
   spent_mark (Fails whole) = mark.UsedUp
 
-  coordinator_spent : (co : Coordinator) (store : Store) (entry : Option Note)
+  coordinator_spent : (co : Coordinator) (store : Store) (entry : Option TxnEntry)
       → reopen (reread co.disk) ≡ entry → is_none entry ≡ true
       → restart_shows (AtCoordinator co) store ≡ spent_mark store
   coordinator_spent co CannotLoad entry is spent = refl
@@ -438,22 +438,22 @@ can_too (step ∷ behind) a b can agree = record {
 
 ------ modes
 
-fails_store : (whole : Bool) (store : Store) → FailsWith (if whole then batch_limit else 0) store
-    → store ≡ Fails whole
-fails_store whole Works is = absurd is
-fails_store whole CannotLoad is = absurd is
-fails_store true (Fails kept) is = ap Fails (is.1 (le_refl batch_limit))
-fails_store false (Fails kept) is = ap Fails (is.0 refl)
+fails_store : (whole : Bool) (size : Option ℕ) (store : Store)
+    → FailsWith (if whole then batch_limit else 0) size store → store ≡ Fails whole
+fails_store whole size Works is = absurd is
+fails_store whole size CannotLoad is = absurd is
+fails_store true size (Fails kept) is = ap Fails (is.1 (le_refl batch_limit))
+fails_store false size (Fails kept) is = ap Fails (is.0 refl)
 
 -- a mode allows only the store that is told
-mode_store : (m : Mark) (whole : Bool) (store : Store) → IsMode (mode_by m whole) store
-    → store ≡ store_by m whole
-mode_store mark.Unread whole store is = is
-mode_store mark.Failed whole store is = fails_store whole store is
-mode_store (mark.Unwritten found) whole store is = fails_store whole store is
-mode_store mark.Worked whole store is = is
-mode_store mark.Found whole store is = is
-mode_store mark.UsedUp whole store is = is
+mode_store : (m : Mark) (whole : Bool) (size : Option ℕ) (store : Store)
+    → IsMode (mode_by m whole) size store → store ≡ store_by m whole
+mode_store mark.Unread whole size store is = is
+mode_store mark.Failed whole size store is = fails_store whole size store is
+mode_store (mark.Unwritten found) whole size store is = fails_store whole size store is
+mode_store mark.Worked whole size store is = is
+mode_store mark.Found whole size store is = is
+mode_store mark.UsedUp whole size store is = is
 
 -- a node's step depends on the store only where the node keeps a log
 step_free : (node : NodeState) (store other : Store) (input : Input) → keeps_log node ≡ false
@@ -464,10 +464,10 @@ step_free (AtClient c) store other input none = refl
 step_free (AtProcessor p) store other input none = refl
 
 step_told : (node : NodeState) (told : StoreMode) (store other : Store) (input : Input)
-    → (IsMode told store → store ≡ other) → MayMeet node told store
+    → ((size : Option ℕ) → IsMode told size store → store ≡ other) → MayMeet node told store
     → node_step node store input ≡ node_step node other input
-step_told node told store other input same (AsTold is) =
-    ap (λ s. node_step node s input) (same is)
+step_told node told store other input same (AsTold size is) =
+    ap (λ s. node_step node s input) (same size is)
 step_told node told store other input same (KeepsNone none) =
     step_free node store other input none
 
@@ -506,7 +506,8 @@ module _ (made : NodeState) (before : List Step) (step : Step) (behind : List St
     chosen : node_step node store (input_of step.input)
         ≡ node_step node (store_for step behind) (input_of step.input)
     chosen = step_told node (mode_for step behind) store (store_for step behind)
-        (input_of step.input) (mode_store step.mark (leaves_whole behind) store) meets
+        (input_of step.input)
+        (λ size. mode_store step.mark (leaves_whole behind) size store) meets
 
     pub marks : mark_of (answer node store (input_of step.input)) ≡ step.mark
     marks =

@@ -7,7 +7,7 @@ use Rattle.kx_machine.specs.Meaning.{NodeState, AtCoordinator, AtPartition, AtCl
 use Rattle.kx_machine.specs.Meaning.{AtProcessor, hides, input_of, is_closed, node_step, taken_of}
 use Rattle.kx_machine.specs.declared.taken.Taken.{Taken}
 use Rattle.kx_model.specs.Client.{Client}
-use Rattle.kx_model.specs.Coordinator.{Note}
+use Rattle.kx_model.specs.Coordinator.{TxnEntry}
 use Rattle.kx_model.specs.CoordinatorNode.{Coordinator}
 use Rattle.kx_model.specs.Disk.{Store}
 use Rattle.kx_model.specs.Log.{Stored}
@@ -35,7 +35,7 @@ abbrev pub after : NodeState → Store → Input → NodeState
 after a store input = (node_step a store input).state
 
 -- the node, with this behind its log
-abbrev with_note : Option Note → NodeState → NodeState
+abbrev with_note : Option TxnEntry → NodeState → NodeState
 with_note hidden (AtCoordinator co) = AtCoordinator (coordinators.but co hidden)
 with_note hidden a = a
 
@@ -45,7 +45,7 @@ with_batch hidden a = a
 
 -- what holds of each node and the same with something else behind its log, holds of alike nodes
 module _ (Holds : NodeState → NodeState → Type 0)
-    (coordinator : (co : Coordinator) (hidden : Option Note) → MayHide co.disk hidden
+    (coordinator : (co : Coordinator) (hidden : Option TxnEntry) → MayHide co.disk hidden
     → Holds (AtCoordinator co) (AtCoordinator (coordinators.but co hidden)))
     (partition : (number : ℕ) (p : Partition) (hidden : Option Stored) → MayHide p.disk hidden
     → Holds (AtPartition number p) (AtPartition number (partitions.but p hidden)))

@@ -5,7 +5,7 @@ use Rattle.std.specs.Prelude.{◌&&◌, not, is_none, is_some, int_lt, option_to
 use Rattle.std.specs.Prelude.{if◌then◌else◌}
 use Rattle.kx_machine.specs.Meaning.{NodeState, AtCoordinator, AtPartition, AtClient}
 use Rattle.kx_machine.specs.Meaning.{AtProcessor, hides, is_closed, of_kind, taken_of}
-use Rattle.kx_model.specs.Coordinator.{Note, CoordinatorEpoch, coordinator_epoch}
+use Rattle.kx_model.specs.Coordinator.{TxnEntry, CoordinatorEpoch, coordinator_epoch}
 use Rattle.kx_model.specs.CoordinatorNode.{Coordinator}
 use Rattle.kx_model.specs.Disk.{Store, Works, Fails, CannotLoad, Reopening, Reopens}
 use Rattle.kx_model.specs.Disk.{CannotRead, CannotWrite, left_behind, reopening, reread}
@@ -129,11 +129,11 @@ partition_opened number p q store m (Shuts whole item opened fails may shut left
     (ap is_left marked ∙ closing_marked p.disk.closed q.disk.closed opened shut)
 
 -- the coordinator
-abbrev reopen_by : ℤ → Option Note
+abbrev reopen_by : ℤ → Option TxnEntry
 reopen_by epoch =
     if int_lt epoch greatest_epoch then Some (CoordinatorEpoch (epoch +ℤ pos 1)) else None
 
-epoch_same : (kept : List Note) (whole : Bool) (item : Note) → KeepsEpoch item
+epoch_same : (kept : List TxnEntry) (whole : Bool) (item : TxnEntry) → KeepsEpoch item
     → coordinator_epoch (kept ++ []) ≡ coordinator_epoch (kept ++ option_to_list (left_behind
     (Fails whole) item))
 epoch_same kept false item keeps = refl
@@ -141,7 +141,7 @@ epoch_same kept true item keeps =
     ap coordinator_epoch (append-nil kept) ∙ sym (keeps (coordinator_epoch kept))
     ∙ sym (coordinator_epoch-push kept item)
 
-used_up_same : (log more : List Note) → coordinator_epoch log ≡ coordinator_epoch more
+used_up_same : (log more : List TxnEntry) → coordinator_epoch log ≡ coordinator_epoch more
     → is_none (reopen log) ≡ is_none (reopen more)
 used_up_same log more e = ap (λ epoch. is_none (reopen_by epoch)) e
 
@@ -203,7 +203,7 @@ plain_way (AtProcessor p) store input plain = Opens refl
 
 ------ restarts
 
-opening_way : (co : Coordinator) (now : ℕ) (store : Store) (entry : Option Note)
+opening_way : (co : Coordinator) (now : ℕ) (store : Store) (entry : Option TxnEntry)
     → Reads (reopening store) → reopen (reread co.disk) ≡ entry
     → Way store (mark_of (restarted co now (opening co now (reopening store) entry)))
     (AtCoordinator co) (AtCoordinator (opening co now (reopening store) entry).state)
@@ -254,7 +254,7 @@ done_told : (a : NodeState) (closed : Bool) → Told (done_mark closed (hides a)
 done_told a closed =
     subst (λ m. Told m a) (sym (done_is closed (hides a))) (found_told a (hides a) refl)
 
-opening_told : (co : Coordinator) (now : ℕ) (how : Reopening) (entry : Option Note) → Reads how
+opening_told : (co : Coordinator) (now : ℕ) (how : Reopening) (entry : Option TxnEntry) → Reads how
     → reopen (reread co.disk) ≡ entry
     → Told (mark_of (restarted co now (opening co now how entry))) (AtCoordinator co)
 opening_told co now CannotRead entry reads is = absurd reads

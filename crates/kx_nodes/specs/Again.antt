@@ -1,6 +1,6 @@
 -- A trace that is run again: what the store is to do in each step, by the step's mark and by the
 -- steps behind it.
-use Rattle.std.specs.Prelude.{◌≡◌, Bool, true, false, List, [], ◌∷◌, Option, Some, None}
+use Rattle.std.specs.Prelude.{◌≡◌, ℕ, Bool, true, false, List, [], ◌∷◌, Option, Some, None}
 use Rattle.std.specs.Prelude.{if◌then◌else◌}
 use Rattle.kx_batch.specs.Batch.{batch_limit}
 use Rattle.kx_machine.specs.Meaning.{NodeState, AtCoordinator, AtPartition, AtClient}
@@ -72,7 +72,7 @@ keeps_log (AtProcessor p) = false
 
 -- the node's store may be that one, where it is told to be so
 pub data MayMeet (node : NodeState) (told : StoreMode) (store : Store) : Type 0 where
-  AsTold : IsMode told store → MayMeet node told store
+  AsTold : (size : Option ℕ) → IsMode told size store → MayMeet node told store
   KeepsNone : keeps_log node ≡ false → MayMeet node told store
 
 ------ a run again

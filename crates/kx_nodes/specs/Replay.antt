@@ -7,8 +7,8 @@ use Rattle.kx_machine.specs.declared.taken.Closing.TheVariants.{Read, Write}
 use Rattle.kx_machine.specs.declared.taken.Note.{Note}
 use Rattle.kx_machine.specs.declared.taken.Note.TheVariants as note
 use Rattle.kx_machine.specs.declared.taken.Taken.{Taken}
-use Rattle.kx_message.specs.declared.message.Node.{Node}
-use Rattle.kx_message.specs.declared.message.Node.TheVariants as node
+use Rattle.kx_message.specs.declared.message.NodeId.{NodeId}
+use Rattle.kx_message.specs.declared.message.NodeId.TheVariants as node
 use Rattle.kx_model.specs.Disk.{Store}
 use Rattle.kx_nodes.specs.declared.mark.Mark.{Mark}
 use Rattle.kx_nodes.specs.declared.mark.Mark.TheVariants as mark
@@ -17,7 +17,7 @@ use Rattle.kx_nodes.specs.declared.trace.Step.{Step}
 
 ------ a node's name
 
-abbrev pub name_of : NodeState → Node
+abbrev pub name_of : NodeState → NodeId
 name_of (AtCoordinator co) = node.Coordinator
 name_of (AtPartition number p) = node.Partition number
 name_of (AtClient c) = node.Client c.number

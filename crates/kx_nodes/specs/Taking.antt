@@ -3,7 +3,7 @@ use Rattle.std.specs.Prelude.{◌≡◌, ◌≤◌, ◌↔◌, Err, IfOk, MatchR
 use Rattle.kx_machine.specs.Meaning.{NodeState, node_step, taken_of}
 use Rattle.kx_machine.specs.declared.input.Input as given
 use Rattle.kx_machine.specs.declared.taken.Taken.{Taken}
-use Rattle.kx_message.specs.declared.message.Node.{Node}
+use Rattle.kx_message.specs.declared.message.NodeId.{NodeId}
 use Rattle.kx_model.specs.Disk.{Store}
 use Rattle.kx_model.specs.Step.{Input}
 use Rattle.kx_nodes.specs.Replay.{IsReceipt, Recorded, most_steps, step_of, with_step}
@@ -34,7 +34,7 @@ pub record IsRecorded {B M : Type 0} (made_as : B → NodeState) (before : Recor
 
 -- a machine under the name of its node
 pub record Alone (M : Type 0) : Type 0 where
-  pub name : Node
+  pub name : NodeId
   pub machine : M
 
 -- the node keeps its name, and no trace is full

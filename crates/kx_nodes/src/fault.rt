@@ -26,7 +26,7 @@ impl NodeFault {
     }
 }
 
-/// Want of memory.
+/// Out of memory.
 impl From<AllocError> for NodeFault {
     ghost from_gives = { λ refused fault. fault ≡ Memory };
 

@@ -9,7 +9,7 @@ use crate::locked::Locked;
 use crate::receipt::Receipt;
 use crate::shared::Shared;
 use kx_machine::Input;
-use kx_message::Node as NodeId;
+use kx_message::NodeId;
 use std::sync::{Arc, Wait};
 
 /// What threads share of workers: the nodes that they serve, and the gate. A thread that has one
@@ -55,9 +55,11 @@ impl<L: Locked, G: Gate> Handle<L, G> {
 
     /// Does what follows a step that the caller made under the lock of a node that is served: the
     /// gate sees its answer, with a ticket of its own, and what it sends to nodes goes to their
-    /// inboxes.
-    pub fn send_on<R: Wait>(&self, rt: &R, receipt: Receipt) {
-        self.shared.send_on(rt, receipt);
+    /// inboxes. Returns the receipt of the step.
+    pub fn send_on<R: Wait>(&self, rt: &R, receipt: Receipt) -> Receipt
+        ensures { result ≡ receipt }
+    {
+        self.shared.send_on(rt, receipt)
     }
 
     /// Waits while more steps than these are under way or to come.

@@ -14,7 +14,7 @@ pub struct JoinSet<R: Threads + Wait + Drop> {
 }
 
 impl<R: Threads + Wait + Drop> JoinSet<R> {
-    /// No thread.
+    /// A set without threads.
     pub fn new(rt: R, alloc: Global) -> Self {
         JoinSet {
             rt,

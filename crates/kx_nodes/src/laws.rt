@@ -25,7 +25,7 @@ pub fn traces_tell_answers_and_logs()
 {}
 
 /// Nodes that are alike have the same log, answer a step with the same mark the same, and are alike
-/// after it. One of them may hide an entry behind its closed log, where the other hides nothing;
+/// after it. One of them may hide an entry after its closed log, where the other hides nothing;
 /// only a restart reads what is hidden, and its mark tells which of the two it was.
 pub fn alike_nodes_answer_alike()
     ensures answers { (a b : NodeState) (step : Step) (t u : Taken) (after other : NodeState)
@@ -37,12 +37,12 @@ pub fn alike_nodes_answer_alike()
 {}
 
 /// A trace can be run again, step by step, on a node that is made anew: in each step the store does
-/// what the mark tells, and where an append fails, leaves behind what the steps behind tell. The
+/// what the mark tells, and where an append fails, leaves what the later steps tell. The
 /// steps then have their marks again, so that by `traces_tell_answers_and_logs` their answers and
 /// the log are the trace's. This is so whatever the stores did when the trace was made.
 ///
 /// Whoever runs it keeps `RunsOn`, which holds for the node as it was made and all the steps
-/// (`at_first`). Where it holds before a step, the step has its mark (`marks`), and it holds behind
+/// (`at_first`). Where it holds before a step, the step has its mark (`marks`), and it holds after
 /// the step (`goes_on`). So the run again is a run of the trace (`whole`).
 pub fn traces_run_again()
     ensures at_first { (made : NodeState) (steps : List Step) (node : NodeState)

@@ -1,7 +1,7 @@
 //! Nodes that threads share: each machine under a lock of its own, alone or with the trace of what
 //! it took. A trace begins with the value by which its node was made, and has each input with the
-//! mark of what the node's store did. So from the traces and the receipts it can be found out, after
-//! the fact, that what the threads did was one schedule.
+//! mark of what the node's store did. So from the traces and the receipts it can be found out,
+//! after the fact, that what the threads did was one schedule.
 #![tactic(auto)]
 
 mod fault;

@@ -2,7 +2,7 @@
 ghost use Rattle.std.specs.Prelude.{◌≡◌};
 
 use kx_machine::Making;
-use kx_message::{ClientId, GroupId, Node, Timeout, TxnId};
+use kx_message::{ClientId, GroupId, NodeId, Timeout, TxnId};
 use kx_processor::{Inputs, Process};
 
 /// How a node was made. The value tells which node of the definitions it was then.
@@ -15,7 +15,7 @@ pub trait Made: Drop {
     ghost state: { Self → NodeState };
 
     /// The node's name: where messages to it go.
-    fn name(&self) -> Node
+    fn name(&self) -> NodeId
         ensures { result ≡ name_of (state self.now) };
 }
 
@@ -25,11 +25,11 @@ impl Made for Making {
 
     ghost state = { made_as };
 
-    fn name(&self) -> Node {
+    fn name(&self) -> NodeId {
         match self {
-            Making::Coordinator => Node::Coordinator,
-            Making::Partition(number) => Node::Partition(*number),
-            Making::Client { number, .. } => Node::Client(*number),
+            Making::Coordinator => NodeId::Coordinator,
+            Making::Partition(number) => NodeId::Partition(*number),
+            Making::Client { number, .. } => NodeId::Client(*number),
         }
     }
 }
@@ -57,7 +57,7 @@ impl<P: Process> Made for ProcessorMaking<P> {
 
     ghost state = { made_processor P.image_of };
 
-    fn name(&self) -> Node {
-        Node::Client(self.number)
+    fn name(&self) -> NodeId {
+        NodeId::Client(self.number)
     }
 }

@@ -14,14 +14,14 @@ use kx_machine::{Closing, Note, Taken};
 /// - A restart couldn't read the log where the mark is `Unread`, and couldn't write where it is
 ///   `Unwritten`; else it met neither. What it read is the log, and the entry left behind where it
 ///   was found.
-/// - Where it is `UsedUp`, the restart changed nothing and handed out nothing.
+/// - Where it is `UsedUp`, the restart changed nothing and sent nothing.
 ///
-/// So the nodes to which a trace may lead differ at most by the entry behind a log that is closed,
+/// So the nodes to which a trace may lead differ at most by the entry after a log that is closed,
 /// and each of them answers a step with the same mark alike: `traces_tell_answers_and_logs`. And a
 /// trace can be run again, with stores that its marks tell: `traces_run_again`.
 #[derive(Clone, Copy, Debug, PartialEq, Eq)]
 pub enum Mark {
-    /// The store did all that it was asked for. A restart found the log and nothing behind it.
+    /// The store did all that it was asked for. A restart found the log and nothing after it.
     Worked,
     /// A restart found the whole entry of an append that had failed.
     Found,

@@ -7,7 +7,7 @@ use crate::fault::NodeFault;
 use crate::locked::Locked;
 use crate::receipt::Receipt;
 use kx_machine::Input;
-use kx_message::Node as NodeId;
+use kx_message::NodeId;
 use std::marker::Model;
 use std::sync::{Mutex, MutexGuard, Wait};
 
@@ -22,9 +22,9 @@ pub struct Node<L: Locked> {
 
 /// A node is seen as its name, which stays.
 impl<L: Locked> Model for Node<L> {
-    ghost use Rattle.kx_message.specs.declared.message.Node.{Node};
+    ghost use Rattle.kx_message.specs.declared.message.NodeId.{NodeId};
 
-    ghost Value = { Node };
+    ghost Value = { NodeId };
 
     ghost view = { λ n. n.name };
 }

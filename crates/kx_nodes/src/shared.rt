@@ -1,5 +1,5 @@
 //! What workers share: the nodes, the inboxes, and how many steps are still to come.
-ghost use Rattle.std.specs.Prelude.{◌≡◌, IfOk, IfSome};
+ghost use Rattle.std.specs.Prelude.{◌≡◌, ◌+◌, ◌-◌, IfOk, IfSome, None};
 ghost use Rattle.kx_machine.specs.Meaning.{input_of};
 ghost use Rattle.kx_nodes.specs.Taking.{IsAnswer};
 
@@ -10,7 +10,7 @@ use crate::node::Node;
 use crate::receipt::Receipt;
 use crossbeam_channel::{Receiver, Sender};
 use kx_machine::Input;
-use kx_message::Node as NodeId;
+use kx_message::NodeId;
 use std::alloc::Global;
 use std::mem;
 use std::sync::{Arc, Condvar, Mutex, Wait};
@@ -28,6 +28,27 @@ pub(crate) struct Task {
 struct Counts {
     given: u64,
     open: u64,
+}
+
+impl Counts {
+    // Gives the next ticket, whose step is still to come. None where all were given.
+    fn open(&mut self) -> Option<u64>
+        ensures some { IfSome result (λ ticket. (ticket ≡ self.old.given + 1)
+            × (self.new.given ≡ ticket) × (self.new.open ≡ self.old.open + 1)) }
+        ensures none { result ≡ None → self.new ≡ self.old }
+    {
+        let given = self.given.checked_add(1)?;
+        self.open = self.open.checked_add(1)?;
+        self.given = given;
+        Some(given)
+    }
+
+    // A step is over.
+    fn close(&mut self)
+        ensures { (self.new.given ≡ self.old.given) × (self.new.open ≡ self.old.open - 1) }
+    {
+        self.open = self.open.saturating_sub(1);
+    }
 }
 
 /// What workers share.
@@ -56,21 +77,14 @@ impl<L: Locked, G: Gate> Shared<L, G> {
         }
     }
 
-    // Gives the next ticket, whose step is still to come. None where all are given.
+    // Gives the next ticket, whose step is still to come. None where all were given.
     fn open_one<R: Wait>(&self, rt: &R) -> Option<u64> {
-        let mut counts = self.counts.lock(rt);
-        if counts.given == u64::MAX || counts.open == u64::MAX {
-            return None;
-        }
-        counts.given += 1;
-        counts.open += 1;
-        Some(counts.given)
+        self.counts.lock(rt).open()
     }
 
     // A step is over.
     fn close_one<R: Wait>(&self, rt: &R) {
-        let mut counts = self.counts.lock(rt);
-        counts.open = counts.open.saturating_sub(1);
+        self.counts.lock(rt).close();
         self.moved.notify_all();
     }
 
@@ -181,15 +195,24 @@ impl<L: Locked, G: Gate> Shared<L, G> {
         answer
     }
 
-    /// Does what follows a step that the caller made, with a ticket of its own. Where none is left,
-    /// what the step sends is lost.
-    pub(crate) fn send_on<R: Wait>(&self, rt: &R, receipt: Receipt) {
-        if let Some(ticket) = self.open_one(rt) {
-            self.follow(rt, ticket, &Ok(receipt));
-        }
+    /// Does what follows a step that the caller made, with a ticket of its own, and returns its
+    /// receipt. Where no ticket is left, what the step sends is lost.
+    pub(crate) fn send_on<R: Wait>(&self, rt: &R, receipt: Receipt) -> Receipt
+        ensures { result ≡ receipt }
+    {
+        let Some(ticket) = self.open_one(rt) else {
+            return receipt;
+        };
+        let answer = Ok(receipt);
+        self.follow(rt, ticket, &answer);
+        let Ok(receipt) = answer else {
+            unreachable!();
+        };
+        receipt
     }
 
-    /// One step of the node of this name in the caller's own thread. None where it is none of these.
+    /// One step of the node of this name in the caller's own thread. None where it is none of
+    /// these.
     pub(crate) fn take<R: Wait>(
         &self,
         rt: &R,

@@ -7,7 +7,7 @@ use crate::fault::NodeFault;
 use crate::locked::Locked;
 use crate::receipt::Receipt;
 use kx_machine::{Input, Machine};
-use kx_message::Node as NodeId;
+use kx_message::NodeId;
 use std::marker::Model;
 
 /// A machine under the name of its node, which keeps nothing of its steps. So it may make any

@@ -18,8 +18,8 @@ use std::thread::{JoinHandle, Threads};
 
 /// Running threads that serve nodes. Each thread has an inbox with room for any number of inputs,
 /// and each node is served by one thread. What a step sends to one of these nodes goes to the inbox
-/// of that node's thread, with a ticket of its own; where there is no memory or no ticket for it, it
-/// is lost. Only steps of nodes that keep a trace leave receipts. The threads are ended by
+/// of that node's thread, with a ticket of its own; where there is no memory or no ticket for it,
+/// it is lost. Only steps of nodes that keep a trace leave receipts. The threads are ended by
 /// [`end`](Workers::end).
 pub struct Workers<L: Locked, G: Gate, R: Threads + Wait> {
     rt: R,

@@ -27,7 +27,7 @@ impl BeginFault {
     }
 }
 
-/// Want of memory is [`BeginFault::Memory`].
+/// Out of memory is [`BeginFault::Memory`].
 impl From<AllocFailed<OpenTxn>> for BeginFault {
     ghost from_gives = { λ refused fault. fault ≡ BeginFault.Memory };
 

@@ -46,7 +46,7 @@ impl Model for OpenTxns {
 }
 
 impl OpenTxns {
-    /// None is open. It takes memory from `alloc` as they begin.
+    /// A list of no open transaction. It takes memory from `alloc` as they begin.
     pub fn new(alloc: Global) -> OpenTxns
         ensures { result.txns ≡ [] }
     {
@@ -55,12 +55,12 @@ impl OpenTxns {
         }
     }
 
-    /// Makes room for one more, so that the next [`begin`](OpenTxns::begin) meets no want of
-    /// memory. What is open stays.
+    /// Makes room for one more, so that the next [`begin`](OpenTxns::begin) asks for no memory.
+    /// What is open stays.
     ///
     /// # Errors
     ///
-    /// Only for want of memory, where there was no room.
+    /// Only where memory runs out, where there was no room.
     pub fn reserve(&mut self) -> Result<(), AllocError>
         ensures txns { self.new.txns ≡ self.old.txns }
         ensures room { IfOk result (λ done. 0 < self.new.room) }
@@ -103,7 +103,7 @@ impl OpenTxns {
         Ok(())
     }
 
-    // The place behind those that begin no later than an offset.
+    // The place after those that begin no later than an offset.
     fn place_behind(&self, offset: i64) -> usize
         ensures within { result ≤ length self.now.txns }
         ensures between { IsPlaceBehind offset self.now.txns result }

@@ -36,7 +36,7 @@ impl FetchFault {
 /// Why a message has no page.
 #[derive(Clone, Copy, Debug, PartialEq, Eq, Error)]
 pub enum ReplyFault {
-    /// It is no reply to a fetch, or one with an error code.
+    /// The message is no reply to a fetch, or one with an error code.
     #[error("the message has no page")]
     NoPage,
     /// Its bytes aren't batches one after the other: the fault of the first that isn't right.

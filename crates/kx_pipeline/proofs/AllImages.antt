@@ -1,7 +1,7 @@
 -- The outputs of a chain's transactions, one after the other, are the images of all that is visible
 -- up to where they have read.
 use Rattle.std.proofs.Common.{◌≡◌, ◌+◌, ℕ, ℤ, pos, negsuc, ◌≤ℤ◌, List, [], ◌∷◌, ◌++◌, map, flat_map}
-use Rattle.std.proofs.Common.{Option, Some, Contains, refl, sym, ap, ◌∙◌, subst, arith, append-nil}
+use Rattle.std.proofs.Common.{Contains, refl, sym, ap, ◌∙◌, subst, arith, append-nil}
 use Rattle.std.proofs.lemmas.Grind.{flat_map-append}
 use Rattle.std.proofs.lemmas.Int.{ints}
 use Rattle.std.proofs.lemmas.List.{map-append}
@@ -16,7 +16,7 @@ use Rattle.kx_system.specs.Processor.{Images}
 use Rattle.kx_system.specs.System.{System}
 use Rattle.kx_pipeline.specs.Chain.{AreLinked, IsChained, Range, awaiting, chain, committed_after}
 use Rattle.kx_pipeline.specs.Chain.{last_end, ranges_of, read_from}
-use Rattle.kx_pipeline.specs.Outputs.{outputs}
+use Rattle.kx_pipeline.specs.Outputs.{Content, content_of, keyless, outputs}
 use Rattle.kx_pipeline.specs.Visible.{visible_in}
 use Rattle.kx_pipeline.specs.Written.{WritesImages, all_outputs, all_read, chain_batches, images_in}
 use Rattle.kx_pipeline.proofs.LinkedRanges.{end_or, last_end_is}
@@ -79,8 +79,8 @@ module _ (s : System) (group : List ℕ) (q inputs : ℕ) (image : Images)
   abbrev w : World
   w = s.world
 
-  abbrev written : Sequenced → List (Option (List ℕ))
-  written batch = map (λ r. r.value) (outputs w (q + inputs) batch.id batch.epoch)
+  abbrev written : Sequenced → List Content
+  written batch = map content_of (outputs w (q + inputs) batch.id batch.epoch)
 
   abbrev ranges : Sequenced → List Range
   ranges = ranges_of w.sent group q
@@ -89,36 +89,36 @@ module _ (s : System) (group : List ℕ) (q inputs : ℕ) (image : Images)
   shown = images_in w image q
 
   of_batch : (batch : Sequenced) → Contains (chain_batches w group q) batch
-      → written batch ≡ map Some (flat_map shown (ranges batch))
+      → written batch ≡ map keyless (flat_map shown (ranges batch))
   of_batch batch c =
       let (offset, only) = one batch c in
       let its = range (read_from w.sent group batch) offset in
       let is : ranges batch ≡ its ∷ [] =
       ap (map (range (read_from w.sent group batch))) only in
       writes.each batch its c (subst (λ l. Contains l its) (sym is) (contains_head its []))
-      ∙ ap (map Some) (sym (append-nil (shown its)))
-      ∙ ap (λ l. map Some (flat_map shown l)) (sym is)
+      ∙ ap (map keyless) (sym (append-nil (shown its)))
+      ∙ ap (λ l. map keyless (flat_map shown l)) (sym is)
 
   of_batches : (batches : List Sequenced)
       → ((batch : Sequenced) → Contains batches batch → Contains (chain_batches w group q) batch)
-      → flat_map written batches ≡ map Some (flat_map shown (flat_map ranges batches))
+      → flat_map written batches ≡ map keyless (flat_map shown (flat_map ranges batches))
   of_batches [] among = refl
   of_batches (batch ∷ batches) among =
       ap (λ l. l ++ flat_map written batches) (of_batch batch (among batch
       (contains_head batch batches)))
-      ∙ ap (λ l. map Some (flat_map shown (ranges batch)) ++ l)
+      ∙ ap (λ l. map keyless (flat_map shown (ranges batch)) ++ l)
       (of_batches batches
       (λ b c. among b (Contains-append_right (batch ∷ []) batches b c)))
-      ∙ sym (map-append Some (flat_map shown (ranges batch))
+      ∙ sym (map-append keyless (flat_map shown (ranges batch))
       (flat_map shown (flat_map ranges batches)))
-      ∙ ap (map Some)
+      ∙ ap (map keyless)
       (sym (flat_map-append shown (ranges batch) (flat_map ranges batches)))
 
   pub all_images : all_outputs s group q inputs
-      ≡ map Some (images_in w image q (all_read w group q))
+      ≡ map keyless (images_in w image q (all_read w group q))
   all_images =
       of_batches (chain_batches w group q) (λ batch c. c)
-      ∙ ap (λ l. map Some (flat_map shown l))
+      ∙ ap (λ l. map keyless (flat_map shown l))
       (flat_map-append ranges (committed_after group q [] (entries_at w offsets_partition))
       (awaiting (commits (notes w)) group q (entries_at w offsets_partition)))
-      ∙ ap (map Some) (images_of_all w image q (chain w group q) chained.linked)
+      ∙ ap (map keyless) (images_of_all w image q (chain w group q) chained.linked)

@@ -141,7 +141,7 @@ module _ (from_of : Sequenced → ℤ) (group : List ℕ) (q : ℕ) (whole : Lis
       ∙ append_assoc s.before (Data batch ∷ s.behind) rest) s.has).transactional
 
   -- where none is pending, each is ended
-  all_ended : (log rest : List Entry) → whole ≡ log ++ rest → is_pending log group q ≡ false
+  pub all_ended : (log rest : List Entry) → whole ≡ log ++ rest → is_pending log group q ≡ false
       → AreEnded log (batches from_of group q log)
   all_ended log rest parts pending batch c =
       by (list_any (is_marker_of batch.id) s.behind) refl

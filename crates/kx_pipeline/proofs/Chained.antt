@@ -10,7 +10,7 @@ use Rattle.kx_message.specs.declared.code.ErrorCode.TheVariants.{NoError}
 use Rattle.kx_message.specs.declared.outcome.Outcome.{Outcome}
 use Rattle.kx_message.specs.declared.outcome.Outcome.TheVariants.{Abort, Commit}
 use Rattle.kx_model.specs.Coordinator.{commits, decision, same_outcome}
-use Rattle.kx_model.specs.Groups.{OffsetAnswer}
+use Rattle.kx_model.specs.Groups.{OffsetAnswer, is_pending}
 use Rattle.kx_model.specs.Headline.{HasOneOutcome}
 use Rattle.kx_model.specs.Log.{Entry, Control, Sequenced}
 use Rattle.kx_model.specs.Transactions.{has_commit, is_commit_of}
@@ -19,9 +19,10 @@ use Rattle.kx_laws.specs.Grown.{IsGrown}
 use Rattle.kx_laws.proofs.GrownLogs.{each_admitted}
 use Rattle.kx_laws.proofs.Membership.{any_keeps}
 use Rattle.kx_headline.proofs.OverSchedules.{logs_grow, markers_agree}
-use Rattle.kx_pipeline.specs.Chain.{AreLinked, IsChained, awaiting, last_end}
-use Rattle.kx_pipeline.specs.Chain.{read_from}
-use Rattle.kx_pipeline.proofs.ChainHolds.{Stands, State, Waits, batches, committed_ranges}
+use Rattle.kx_pipeline.specs.Chain.{AreLinked, IsChained, awaiting, chain, last_end, marked_ranges}
+use Rattle.kx_pipeline.specs.Chain.{offset_batches, ranges_of, read_from}
+use Rattle.kx_pipeline.proofs.ChainHolds.{Stands, State, Waits, all_ended, batches}
+use Rattle.kx_pipeline.proofs.ChainHolds.{committed_ranges}
 use Rattle.kx_pipeline.proofs.ChainHolds.{linked_with, whole_stands}
 use Rattle.kx_pipeline.proofs.ChainHolds
 use Rattle.kx_pipeline.proofs.ChainOrder.{AreEnded, IsEnded, commit_is, filter_none}
@@ -104,15 +105,29 @@ module _ (w : World) (one_outcome : HasOneOutcome w) (group : List ℕ) (q : ℕ
             ∙ ap (λ l. l ++ filter awaits (batch ∷ [])) (none_awaits earlier ended) in
             subst with_awaiting (sym same) (alone batch waits (awaits batch))
 
-  stands_chained : Stands from_of group q log → IsChained w group q
-  stands_chained stands = record {
-    linked = all_linked stands;
-    committed = ap good (offset_is_last_end from_of group q log
-        ∙ ap (λ l. last_end (flat_map (ranges_in from_of group q) l)) (sym stands.same));
-  }
-    where
-      good : ℤ → OffsetAnswer
-      good offset = record { code = NoError; offset = offset }
+  abbrev good : ℤ → OffsetAnswer
+  good offset = record { code = NoError; offset = offset }
+
+  -- where each batch is ended none waits for its marker
+  all_marked : AreEnded log (offset_batches group q log)
+      → chain w group q ≡ marked_ranges w group q
+  all_marked ended =
+      ap (λ list. marked_ranges w group q ++ flat_map (ranges_of w.sent group q) list)
+      (none_awaits (offset_batches group q log) ended)
+      ∙ append-nil (marked_ranges w group q)
+
+  stands_chained : Stands from_of group q log
+      → (is_pending log group q ≡ false → AreEnded log (offset_batches group q log))
+      → IsChained w group q
+  stands_chained stands settles =
+      let committed = ap good (offset_is_last_end from_of group q log
+      ∙ ap (λ l. last_end (flat_map (ranges_in from_of group q) l)) (sym stands.same)) in
+      record {
+        linked = all_linked stands;
+        committed = committed;
+        settled = λ none.
+            committed ∙ ap (λ l. good (last_end l)) (sym (all_marked (settles none)));
+      }
 
 -- the ranges of a world with such a log follow one another
 pub linked_chained : (w : World) → HasOneOutcome w → IsGrown (log_at w offsets_partition)
@@ -120,9 +135,11 @@ pub linked_chained : (w : World) → HasOneOutcome w → IsGrown (log_at w offse
     → AreLinkedIn (read_from w.sent group) (entries_at w offsets_partition) group q
     → IsChained w group q
 linked_chained w one_outcome grown group q links =
-    stands_chained w one_outcome group q
-    (whole_stands (read_from w.sent group) group q (entries_at w offsets_partition)
-    (each_admitted (log_at w offsets_partition) grown) links)
+    let from = read_from w.sent group in
+    let log = entries_at w offsets_partition in
+    let each = each_admitted (log_at w offsets_partition) grown in
+    stands_chained w one_outcome group q (whole_stands from group q log each links)
+    (all_ended from group q log each links log [] (sym (append-nil log)))
 
 -- over every schedule
 pub chained : (count : ℕ) (events : List Event) → IsSchedule events → (group : List ℕ) (q : ℕ)

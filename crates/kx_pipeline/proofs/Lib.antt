@@ -31,6 +31,8 @@ pub mod SentTexts
 pub mod SoleBatches
 pub mod StagesFit
 pub mod SystemEvents
+pub mod OpenSystems
+pub mod PublishedPages
 pub mod SystemHolds
 pub mod SystemImages
 pub mod SystemLinks

@@ -12,7 +12,7 @@ use Rattle.kx_message.specs.declared.message.Message.{Message}
 use Rattle.kx_message.specs.declared.message.Message.TheVariants as msg
 use Rattle.kx_model.specs.Disk.{GrowsTo}
 use Rattle.kx_model.proofs.NodeSteps.{same}
-use Rattle.kx_model.specs.Coordinator.{Note}
+use Rattle.kx_model.specs.Coordinator.{TxnEntry}
 use Rattle.kx_model.specs.CoordinatorNode.{notes_of}
 use Rattle.kx_model.specs.Log.{Stored}
 use Rattle.kx_model.specs.Groups.{judge_drop}
@@ -60,7 +60,7 @@ another_says sent start later (msg.JoinReply it) o = absurd o
 another_says sent start later (msg.OffsetFetchReply it) o = absurd o
 another_says sent start later m o = tt
 
-code_of_none : (sent : List Message) (log : List Note) (m : Message)
+code_of_none : (sent : List Message) (log : List TxnEntry) (m : Message)
     → coordinator.Says sent log m → CodeOfNone m
 code_of_none sent log (msg.AddReply it) said = said.1
 code_of_none sent log m said = tt

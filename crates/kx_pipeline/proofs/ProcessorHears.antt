@@ -20,7 +20,7 @@ use Rattle.kx_message.specs.declared.code.ErrorCode.TheVariants as code
 use Rattle.kx_message.specs.declared.message.Held.{Held}
 use Rattle.kx_message.specs.declared.message.Message.{Message}
 use Rattle.kx_message.specs.declared.message.Message.TheVariants as msg
-use Rattle.kx_message.specs.declared.message.Node.TheVariants as node
+use Rattle.kx_message.specs.declared.message.NodeId.TheVariants as node
 use Rattle.kx_message.specs.declared.payload.AbortedTxn.{AbortedTxn}
 use Rattle.kx_message.specs.declared.requests.EndTxn.{EndTxn}
 use Rattle.kx_message.specs.declared.requests.Fetch.{Fetch}

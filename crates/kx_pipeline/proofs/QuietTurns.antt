@@ -16,8 +16,8 @@ use Rattle.kx_message.specs.Messages.{caller_with}
 use Rattle.kx_message.specs.Ranges.{IsName, IsTimeout, offsets_partition}
 use Rattle.kx_message.specs.declared.code.ErrorCode.TheVariants as code
 use Rattle.kx_message.specs.declared.message.Message.{Message}
-use Rattle.kx_message.specs.declared.message.Node.{Node}
-use Rattle.kx_message.specs.declared.message.Node.TheVariants as node
+use Rattle.kx_message.specs.declared.message.NodeId.{NodeId}
+use Rattle.kx_message.specs.declared.message.NodeId.TheVariants as node
 use Rattle.kx_message.specs.declared.requests.TxnOffsetCommit.{TxnOffsetCommit}
 use Rattle.kx_model.specs.Client.{Client, new_client}
 use Rattle.kx_model.specs.CoordinatorNode.{Coordinated, coordinator_restarts, coordinator_takes}
@@ -149,7 +149,7 @@ module _ (s : System) where
       (subst (IsNumbered s) (found_number w number c e) numbered))
   client_quiet number input is (Some c) e (Some p) f none = absurd cc
 
-  handed_quiet : (to : Node) (store : Store) (input : Input) → IsHanded w input
+  handed_quiet : (to : NodeId) (store : Store) (input : Input) → IsHanded w input
       → turn_at s to input ≡ None → Quiet s (handed w to store input).0
   handed_quiet node.Coordinator store input is none = coordinator_quiet store input is
   handed_quiet (node.Partition number) store input is none =
@@ -157,13 +157,13 @@ module _ (s : System) where
   handed_quiet (node.Client number) store input is none =
       client_quiet number input is (client_at w number) refl (processing_at s number) refl none
 
-  delivered_quiet : (to : Node) (store : Store) (o : Option Message)
+  delivered_quiet : (to : NodeId) (store : Store) (o : Option Message)
       → IfSome o (Contains w.sent) → turn_delivered s to o ≡ None
       → Quiet s (delivered w to store o).0
   delivered_quiet to store None c none = still
   delivered_quiet to store (Some m) c none = handed_quiet to store (Comes m) c none
 
-  hand_quiet : (to : Node) (store : Store) (input : Input) → IsInput input
+  hand_quiet : (to : NodeId) (store : Store) (input : Input) → IsInput input
       → turn_handed s to input ≡ None → Quiet s (handed_no_message w to store input).0
   hand_quiet to store (Comes m) fits none = still
   hand_quiet to store (Commands what) fits none = handed_quiet to store (Commands what) fits none

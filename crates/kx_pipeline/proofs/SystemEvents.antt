@@ -9,17 +9,15 @@ use Rattle.std.proofs.lemmas.List.Elements.{All-push, All-tail, All-weaker}
 use Rattle.kx_varint.specs.Text.{IsBytes}
 use Rattle.kx_message.specs.Ranges.{IsName}
 use Rattle.kx_message.specs.declared.message.Message.{Message}
-use Rattle.kx_message.specs.declared.message.Node.{Node}
-use Rattle.kx_message.specs.declared.message.Node.TheVariants as node
+use Rattle.kx_message.specs.declared.message.NodeId.{NodeId}
+use Rattle.kx_message.specs.declared.message.NodeId.TheVariants as node
 use Rattle.kx_batch.specs.Record.{Record}
 use Rattle.kx_model.specs.Client.{Client, Command, Commanded, Declines, Does, Poll}
 use Rattle.kx_model.specs.Disk.{Works}
-use Rattle.kx_model.specs.Headline.{Always}
 use Rattle.kx_model.specs.Step.{Input, Comes, Commands, Expires, Reminds, Drops, Puts, Restarts}
 use Rattle.kx_model.specs.World.{Event, IsCommand, IsEvent, IsInput, IsSchedule, World, Make}
-use Rattle.kx_model.specs.World.{Deliver, Hand, client_at, is_new, log_at, run, start}
+use Rattle.kx_model.specs.World.{Deliver, Hand, client_at, is_new, run, start}
 use Rattle.kx_model.proofs.Schedules.{run-append}
-use Rattle.kx_laws.specs.Grown.{IsGrown}
 use Rattle.kx_laws.proofs.Lists.{All-find, All-slice_get}
 use Rattle.kx_system.specs.Events.{client_commands, commands_polled, commands_to, events_of}
 use Rattle.kx_system.specs.Events.{or_poll, or_turn, schedule_of, turn_events}
@@ -93,19 +91,19 @@ module _ (s : System) (sent : All InRange s.world.sent)
   with_fits input fit (Some client) None h = tt
   with_fits input fit (Some client) (Some processing) h = record { processing = h; input = fit }
 
-  at_fits : (to : Node) (input : Input) → ComesFit input → IfSome (turn_at s to input) TurnFits
+  at_fits : (to : NodeId) (input : Input) → ComesFit input → IfSome (turn_at s to input) TurnFits
   at_fits node.Coordinator input fit = tt
   at_fits (node.Partition number) input fit = tt
   at_fits (node.Client number) input fit =
       with_fits input fit (client_at s.world number) (processing_at s number)
       (All-find ProcessingFits (λ p. p.number == number) s.processors processors)
 
-  delivered_fits : (to : Node) (m : Option Message) → IfSome m InRange
+  delivered_fits : (to : NodeId) (m : Option Message) → IfSome m InRange
       → IfSome (turn_delivered s to m) TurnFits
   delivered_fits to None fit = tt
   delivered_fits to (Some m) fit = at_fits to (Comes m) fit
 
-  handed_fits : (to : Node) (input : Input) → IsInput input
+  handed_fits : (to : NodeId) (input : Input) → IsInput input
       → IfSome (turn_handed s to input) TurnFits
   handed_fits to (Comes m) fit = tt
   handed_fits to (Commands what) fit = at_fits to (Commands what) fit
@@ -164,10 +162,8 @@ module _ (s : System) (sent : All InRange s.world.sent)
 
 ------ whole schedules
 
--- given that logs grow over every schedule of a world, and that a step of a system is a run of its
--- world
-module _ (grow : Always (λ w. (q : ℕ) → IsGrown (log_at w q)))
-    (follows : (s : System) (event : SystemEvent)
+-- given that a step of a system is a run of its world
+module _ (follows : (s : System) (event : SystemEvent)
     → run (events_of s event) s.world ≡ (system_step s event).0.world) where
   -- a schedule of a world led to the system's
   pub record Stands (count : ℕ) (s : System) : Type 0 where
@@ -179,7 +175,7 @@ module _ (grow : Always (λ w. (q : ℕ) → IsGrown (log_at w q)))
   sent_fit : (count : ℕ) (s : System) → Stands count s → All InRange s.world.sent
   sent_fit count s h =
       subst (λ (w : World). All InRange w.sent) h.is
-      (replies_in_range grow count h.events h.scheduled)
+      (replies_in_range count h.events h.scheduled)
 
   pub stands_next : (count : ℕ) (s : System) (event : SystemEvent) → IsSystemEvent event
       → Stands count s → Stands count (system_step s event).0

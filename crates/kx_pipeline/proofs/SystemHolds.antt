@@ -21,8 +21,8 @@ use Rattle.kx_message.specs.declared.requests.TxnOffsetCommit.{TxnOffsetCommit}
 use Rattle.kx_model.specs.Client.{Client, new_client}
 use Rattle.kx_model.specs.Log.{Entry}
 use Rattle.kx_model.specs.Replies.{correlation_of}
-use Rattle.kx_message.specs.declared.message.Node.{Node}
-use Rattle.kx_message.specs.declared.message.Node.TheVariants as node
+use Rattle.kx_message.specs.declared.message.NodeId.{NodeId}
+use Rattle.kx_message.specs.declared.message.NodeId.TheVariants as node
 use Rattle.kx_model.specs.Step.{Input, Comes, Commands, Expires, Reminds, Drops, Puts, Restarts}
 use Rattle.kx_model.specs.World.{Event, IsEvent, World, Make, Deliver, Hand, client_at, entries_at}
 use Rattle.kx_model.specs.World.{is_new, step, with_client}
@@ -477,7 +477,7 @@ module _ (s : System) where
       turn_same : (a b : Turn) → Some a ≡ Some b → a ≡ b
       turn_same a b e = cc
 
-  at_there : (to : Node) (input : Input) → HasCome s.world input → (turn : Turn)
+  at_there : (to : NodeId) (input : Input) → HasCome s.world input → (turn : Turn)
       → turn_at s to input ≡ Some turn → TurnThere s turn
   at_there node.Coordinator input come turn is = absurd cc
   at_there (node.Partition number) input come turn is = absurd cc
@@ -486,12 +486,12 @@ module _ (s : System) where
       (processing_at s number) refl turn
       is
 
-  delivered_there : (to : Node) (o : Option Message) → IfSome o (Contains s.world.sent)
+  delivered_there : (to : NodeId) (o : Option Message) → IfSome o (Contains s.world.sent)
       → (turn : Turn) → turn_delivered s to o ≡ Some turn → TurnThere s turn
   delivered_there to None come turn is = absurd cc
   delivered_there to (Some m) come turn is = at_there to (Comes m) come turn is
 
-  handed_there : (to : Node) (input : Input) → (turn : Turn) → turn_handed s to input ≡ Some turn
+  handed_there : (to : NodeId) (input : Input) → (turn : Turn) → turn_handed s to input ≡ Some turn
       → TurnThere s turn
   handed_there to (Comes m) turn is = absurd cc
   handed_there to (Commands what) turn is = at_there to (Commands what) tt turn is

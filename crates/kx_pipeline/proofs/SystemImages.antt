@@ -1,6 +1,6 @@
 -- Over every schedule of a system, the transactions of a group whose members are processors write
 -- the images of what they read.
-use Rattle.std.proofs.Common.{◌≡◌, ◌<◌, ℕ, ℤ, List, [], ◌∷◌, map, Some, Contains, subst}
+use Rattle.std.proofs.Common.{◌≡◌, ◌<◌, ℕ, ℤ, List, [], ◌∷◌, map, Contains, subst}
 use Rattle.kx_message.specs.Ranges.{offsets_partition}
 use Rattle.kx_model.specs.Groups.{offsets_in}
 use Rattle.kx_model.specs.Headline.{Always, HasOneOutcome}
@@ -14,6 +14,7 @@ use Rattle.kx_system.specs.Processor.{Images}
 use Rattle.kx_system.specs.System.{IsSystemSchedule, System, SystemEvent, run_system, start_system}
 use Rattle.kx_system.specs.System.{system_step}
 use Rattle.kx_pipeline.specs.Chain.{read_from}
+use Rattle.kx_pipeline.specs.Outputs.{keyless}
 use Rattle.kx_pipeline.specs.Premises.{IsPipeline}
 use Rattle.kx_pipeline.specs.Written.{WritesImages, all_outputs, all_read, chain_batches, images_in}
 use Rattle.kx_pipeline.proofs.AllImages.{all_images}
@@ -73,7 +74,7 @@ module _ (grow : Always (λ w. (q : ℕ) → IsGrown (log_at w q)))
       → IsPipeline (run_system events (start_system count)) group inputs image → (q : ℕ)
       → q < inputs
       → all_outputs (run_system events (start_system count)) group q inputs
-      ≡ map Some (images_in (run_system events (start_system count)).world image q
+      ≡ map keyless (images_in (run_system events (start_system count)).world image q
       (all_read (run_system events (start_system count)).world group q))
   system_writes_all count events fits group inputs image pipeline q low =
       let s = run_system events (start_system count) in

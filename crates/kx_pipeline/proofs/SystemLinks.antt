@@ -1,12 +1,7 @@
 -- Over every schedule of a system, each batch with an offset of a group whose members are
 -- processors rests on a link, and so the ranges that they read follow one another.
 use Rattle.std.proofs.Common.{◌≡◌, ℕ, List, [], ◌∷◌, Contains, refl, subst}
-use Rattle.std.proofs.Common.{◌==◌, arith}
-use Rattle.std.specs.Prelude.{bytes_eq}
-use Rattle.std.proofs.lemmas.Bool.{and_from}
-use Rattle.std.proofs.lemmas.Bool.Decides.{nat_tests}
 use Rattle.std.proofs.lemmas.List.Elements.{All-head, All-nil, All-tail}
-use Rattle.std.proofs.lemmas.Slice.Eq.{bytes_eq-Decides}
 use Rattle.kx_message.specs.Ranges.{offsets_partition}
 use Rattle.kx_message.specs.declared.message.Message.TheVariants as msg
 use Rattle.kx_message.specs.declared.requests.TxnOffsetCommit.{TxnOffsetCommit}
@@ -41,9 +36,7 @@ module _ (s : System) (group : List ℕ) (inputs : ℕ) (image : Images)
   pub numbered : (it : TxnOffsetCommit) → Contains s.world.sent (msg.TxnOffsetCommit it)
       → it.group ≡ group → IsNumbered s it.caller.client
   numbered it there g =
-      let is = pipeline.alone (msg.TxnOffsetCommit it) it.caller.client there
-      (and_from (bytes_eq it.group group) (it.caller.client == it.caller.client)
-      ((bytes_eq-Decides it.group group).1 g) (grind (arith, nat_tests))) in
+      let is = (pipeline.members it.caller.client (pipeline.alone it there g)).processor in
       (is.processing, is.there, is.number)
 
   pub are_based : AreBased s.world.sent (entries_at s.world offsets_partition) group
@@ -65,7 +58,7 @@ module _ (grow : Always (λ w. (q : ℕ) → IsGrown (log_at w q)))
     (follows : (s : System) (event : SystemEvent)
     → run (events_of s event) s.world ≡ (system_step s event).0.world) where
   abbrev pub IsLed : ℕ → System → Type 0
-  IsLed count s = Stands grow follows count s
+  IsLed count s = Stands follows count s
 
   pub facts_of : (count : ℕ) (s : System) → IsLed count s → Facts s.world
   facts_of count s led = subst Facts led.is (record {
@@ -81,7 +74,7 @@ module _ (grow : Always (λ w. (q : ℕ) → IsGrown (log_at w q)))
   pub led_next : (count : ℕ) (s : System) (event : SystemEvent) → IsSystemEvent event → Led count s
       → Led count (system_step s event).0
   led_next count s event fits l =
-      let next = stands_next grow follows count s event fits l.led in
+      let next = stands_next follows count s event fits l.led in
       record {
         led = next;
         holds = event_holds s l.holds event fits (facts_of count (system_step s event).0 next);

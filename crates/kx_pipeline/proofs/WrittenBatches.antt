@@ -1,7 +1,7 @@
 -- What a transaction wrote to a data partition is a front of the batches that its producer sent
 -- there, each once and in order, and all of them where it is decided to commit.
 use Rattle.std.proofs.Common.{◌≡◌, ◌^◌, ◌<◌, ◌≤◌, ◌+◌, ◌==◌, ℕ, Bool, true, false, cond}
-use Rattle.std.proofs.Common.{ltb, List, [], ◌∷◌, ◌++◌, length, map, filter, Option, Some, None}
+use Rattle.std.proofs.Common.{ltb, List, [], ◌∷◌, ◌++◌, length, map, filter, Some, None}
 use Rattle.std.proofs.Common.{Contains, refl, sym, ap, ◌∙◌, subst, arith, append-nil, append_assoc}
 use Rattle.std.specs.Prelude.{◌≢◌, not}
 use Rattle.std.specs.List.{enumerate_from, flat_map}
@@ -50,19 +50,20 @@ use Rattle.kx_headline.proofs.PartitionsAlways.{PartitionsStand, partitions_stan
 use Rattle.kx_headline.proofs.RequestsAlways.{handed_fits, requests_stand_always}
 use Rattle.kx_headline.proofs.StoredRequests.{built_in}
 use Rattle.kx_headline.proofs.WorldReaders.{grown_at}
-use Rattle.kx_pipeline.specs.Outputs.{IsOneOf, Wrote, all_in, outputs, values_of, written_by}
+use Rattle.kx_pipeline.specs.Outputs.{Content, IsOneOf, Wrote, all_in, content_of, keyless}
+use Rattle.kx_pipeline.specs.Outputs.{outputs, values_of, written_by}
 use Rattle.kx_pipeline.proofs.BatchesRead.{data_with, reads_as_data, sent_low}
 
 ------ values
 
 -- the values of records
-abbrev pub shown : List Record → List (Option (List ℕ))
-shown records = map (λ (r : Record). r.value) records
+abbrev pub shown : List Record → List Content
+shown records = map content_of records
 
 shown_from : (n : ℕ) (values : List (List ℕ))
-    → shown (map (λ v. pushed v.0 None (Some v.1) []) (enumerate_from n values)) ≡ map Some values
+    → shown (map (λ v. pushed v.0 None (Some v.1) []) (enumerate_from n values)) ≡ map keyless values
 shown_from n [] = refl
-shown_from n (value ∷ values) = ap (λ l. Some value ∷ l) (shown_from (n + 1) values)
+shown_from n (value ∷ values) = ap (λ l. keyless value ∷ l) (shown_from (n + 1) values)
 
 values_push : (batches : List Values) (values : Values)
     → values_of (batches ++ values ∷ []) ≡ values_of batches ++ all_in values
@@ -91,7 +92,7 @@ pub record FrontOf (batches : List Values) (id epoch : ℕ) (log : List Entry) :
   pub parts : batches ≡ front ++ after
   pub next : expected log id epoch ≡ length (values_of front)
   pub low : length (values_of front) ≤ 2 ^ 31
-  pub shows : shown (flat_map (written_by id epoch) log) ≡ map Some (values_of front)
+  pub shows : shown (flat_map (written_by id epoch) log) ≡ map keyless (values_of front)
 
 module _ (sent : List Message) (number : ℕ) (apart : number ≢ offsets_partition) (id epoch : ℕ)
     (batches : List Values) (wrote : Wrote sent number id epoch batches) where
@@ -113,7 +114,7 @@ module _ (sent : List Message) (number : ℕ) (apart : number ≢ offsets_partit
       ≡ shown (flat_map (written_by id epoch) log) ++ shown (written_by id epoch entry)
   pushed_shows log entry =
       ap shown (sym (flat_map_more (written_by id epoch) [] log entry))
-      ∙ map-append (λ (r : Record). r.value) (flat_map (written_by id epoch) log)
+      ∙ map-append content_of (flat_map (written_by id epoch) log)
       (written_by id epoch entry)
 
   -- an entry that isn't of this id and epoch
@@ -169,10 +170,10 @@ module _ (sent : List Message) (number : ℕ) (apart : number ≢ offsets_partit
             pushed_shows log (Data d)
             ∙ ap (λ l. shown (flat_map (written_by id epoch) log) ++ shown l) written
             ∙ ap (λ l. l ++ shown (value_records (all_in o.values)))
-            (f.shows ∙ ap (λ l. map Some (values_of l)) front)
-            ∙ ap (λ l. map Some (values_of o.before) ++ l) (shown_from 0 (all_in o.values))
-            ∙ sym (map-append Some (values_of o.before) (all_in o.values))
-            ∙ ap (map Some) (sym (values_push o.before o.values));
+            (f.shows ∙ ap (λ l. map keyless (values_of l)) front)
+            ∙ ap (λ l. map keyless (values_of o.before) ++ l) (shown_from 0 (all_in o.values))
+            ∙ sym (map-append keyless (values_of o.before) (all_in o.values))
+            ∙ ap (map keyless) (sym (values_push o.before o.values));
       }
 
   module _ (fit : MarkersFit sent) where
@@ -243,7 +244,7 @@ pub record IsFront (w : World) (partition id epoch : ℕ) (batches : List Values
   pub front : List Values
   pub after : List Values
   pub parts : batches ≡ front ++ after
-  pub shows : shown (outputs w partition id epoch) ≡ map Some (values_of front)
+  pub shows : shown (outputs w partition id epoch) ≡ map keyless (values_of front)
 
 module _ (w : World) (stand : PartitionsStand w) (asks : RequestsStand w) (partition : ℕ)
     (apart : partition ≢ offsets_partition) (id epoch : ℕ) (batches : List Values)
@@ -331,12 +332,12 @@ module _ (w : World) (stand : PartitionsStand w) (asks : RequestsStand w) (parti
             ∙ ap (expected (entries_at w partition) id) like.epoch ∙ f.next in
             absurd (omega (arith, below.0, below.1, same, like.first))
 
-    all_shown : shown (outputs w partition id epoch) ≡ map Some (values_of batches)
+    all_shown : shown (outputs w partition id epoch) ≡ map keyless (values_of batches)
     all_shown =
         let f = front_in in
         let all : batches ≡ f.front =
         f.parts ∙ ap (λ l. f.front ++ l) (none_after f) ∙ append-nil f.front in
-        f.shows ∙ ap (λ l. map Some (values_of l)) (sym all)
+        f.shows ∙ ap (λ l. map keyless (values_of l)) (sym all)
 
 ------ over every schedule
 
@@ -352,22 +353,22 @@ outputs_are_a_front count events fits partition apart id epoch batches wrote =
 -- the same of the values alone
 pub outputs_begin : Always (λ w. (partition : ℕ) → partition ≢ offsets_partition
     → (id epoch : ℕ) (batches : List Values) → Wrote w.sent partition id epoch batches
-    → (more : List (Option (List ℕ)))
-    × (map Some (values_of batches) ≡ shown (outputs w partition id epoch) ++ more))
+    → (more : List Content)
+    × (map keyless (values_of batches) ≡ shown (outputs w partition id epoch) ++ more))
 outputs_begin count events fits partition apart id epoch batches wrote =
     let f = outputs_are_a_front count events fits partition apart id epoch batches wrote in (
-      map Some (values_of f.after),
-      ap (λ l. map Some (values_of l)) f.parts
-          ∙ ap (map Some) (flat_map-append all_in f.front f.after)
-          ∙ map-append Some (values_of f.front) (values_of f.after)
-          ∙ ap (λ l. l ++ map Some (values_of f.after)) (sym f.shows),
+      map keyless (values_of f.after),
+      ap (λ l. map keyless (values_of l)) f.parts
+          ∙ ap (map keyless) (flat_map-append all_in f.front f.after)
+          ∙ map-append keyless (values_of f.front) (values_of f.after)
+          ∙ ap (λ l. l ++ map keyless (values_of f.after)) (sym f.shows),
     )
 
 -- where it is decided to commit, it wrote them all
 pub outputs_are_all : Always (λ w. (partition : ℕ) → partition ≢ offsets_partition
     → (id epoch : ℕ) (batches : List Values) → Wrote w.sent partition id epoch batches
     → decision (notes w) id epoch ≡ Some Commit
-    → shown (outputs w partition id epoch) ≡ map Some (values_of batches))
+    → shown (outputs w partition id epoch) ≡ map keyless (values_of batches))
 outputs_are_all count events fits partition apart id epoch batches wrote decided =
     all_shown (run events (start count)) (partitions_stand_always count events fits)
     (requests_stand_always count events fits) partition apart id epoch batches wrote decided

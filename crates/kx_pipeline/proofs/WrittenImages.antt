@@ -55,8 +55,8 @@ use Rattle.kx_system.specs.System.{System}
 use Rattle.kx_pipeline.specs.Chain.{Range, awaiting, committed_after, from_of, has_offset}
 use Rattle.kx_pipeline.specs.Chain.{last_fetch}
 use Rattle.kx_pipeline.specs.Chain.{offset_batch, offset_batches, ranges_of, read_by, read_from}
-use Rattle.kx_pipeline.specs.Outputs.{Wrote, outputs, values_of}
-use Rattle.kx_pipeline.specs.Premises.{IsPipeline, IsProcessor}
+use Rattle.kx_pipeline.specs.Outputs.{Wrote, content_of, keyless, outputs, values_of}
+use Rattle.kx_pipeline.specs.Premises.{IsPipeline, IsProcessor, WasMember}
 use Rattle.kx_pipeline.specs.Written.{WritesImages, chain_batches, images_in}
 use Rattle.kx_pipeline.proofs.Batches.{batches_hold_all}
 use Rattle.kx_pipeline.proofs.ChainHolds.{Stands}
@@ -109,9 +109,9 @@ abbrev pub AllShown : World → Type 0
 AllShown w =
     (partition : ℕ) → partition ≢ offsets_partition → (id epoch : ℕ) (batches : List Values)
     → Wrote w.sent partition id epoch batches → decision (notes w) id epoch ≡ Some Commit
-    → map (λ r. r.value) (outputs w partition id epoch) ≡ map Some (values_of batches)
+    → map content_of (outputs w partition id epoch) ≡ map keyless (values_of batches)
 
-no_values : (records : List Record) → map (λ r. r.value) records ≡ [] → records ≡ []
+no_values : (records : List Record) → map content_of records ≡ [] → records ≡ []
 no_values [] e = refl
 no_values (r ∷ records) e = absurd (omega (arith, ap length e))
 
@@ -138,15 +138,15 @@ module _ (w : World) (f : Facts w) (all_shown : AllShown w) (c : Client) (p : Pr
 
   -- it wrote the images of what it read
   images_out : x.input + p.inputs ≢ offsets_partition
-      → map (λ r. r.value) (outputs w (x.input + p.inputs) it.held.id it.held.epoch)
-      ≡ map Some (images_in w p.image x.input read)
+      → map content_of (outputs w (x.input + p.inputs) it.held.id it.held.epoch)
+      ≡ map keyless (images_in w p.image x.input read)
   images_out apart =
       let output = x.input + p.inputs in
       let sends = sole_sends w.sent c.number output it.held x.batches x.sole alone in
       let wrote = sends_wrote w.sent output it.held.id it.held.epoch x.batches sends
       (handed_fits w f.requests.holders.stands c.number it.held handed) in
       all_shown output apart it.held.id it.held.epoch x.batches wrote decided
-      ∙ ap (map Some)
+      ∙ ap (map keyless)
       (ap values_of (sym x.images.are)
       ∙ batches_hold_all (map (λ s. p.image s.shown) x.images.records)
       ∙ ap (map (λ s. p.image s.shown)) x.images.shows.0)
@@ -320,15 +320,12 @@ module _ (s : System) (h : Holds s) (writes : AllWrite s) (fits : All Processing
       paired : processing.number ≡ client.number
       its_number : client.number ≡ number
       of_group : processing.group ≡ group
-      inputs_is : processing.inputs ≡ inputs
-      image_is : processing.image ≡ image
 
     its_client : (number : ℕ) → IsProcessor s group number → ItsClient number
     its_client number is =
         let p = is.processing in
         let (c, at, same) = map_holds (λ (c : Client). c.number) w.clients p.number
         (h.known p is.there) in
-        let alike = pipeline.alike p is.there is.its_group in
         record {
           client = c;
           at = at;
@@ -337,25 +334,30 @@ module _ (s : System) (h : Holds s) (writes : AllWrite s) (fits : All Processing
           paired = sym same;
           its_number = same ∙ is.number;
           of_group = is.its_group;
-          inputs_is = alike.0;
-          image_is = alike.1;
         }
+
+    -- one that was a member has the process and the inputs of all
+    its_process : (number : ℕ) (x : ItsClient number) → WasMember w group number
+        → (x.processing.inputs ≡ inputs) × (x.processing.image ≡ image)
+    its_process number x member =
+        (pipeline.members number member).alike x.processing x.there (x.paired ∙ x.its_number)
 
     its_writes : (number : ℕ) (x : ItsClient number) → Writes w.sent (Reads w) x.client x.processing
     its_writes number x = writes x.client x.processing x.at x.there x.paired
 
     -- the group has few input partitions
-    apart : (number : ℕ) → ItsClient number → (q : ℕ) → q < inputs → q + inputs ≢ offsets_partition
-    apart number x q low =
+    apart : (number : ℕ) (x : ItsClient number) → x.processing.inputs ≡ inputs → (q : ℕ)
+        → q < inputs → q + inputs ≢ offsets_partition
+    apart number x same q low =
         let few = (All-contains ProcessingFits s.processors x.processing fits x.there).few in
-        λ e. omega (arith, few, x.inputs_is, low, e)
+        λ e. omega (arith, few, same, low, e)
 
     module _ (all_shown : AllShown w) (one : HasOneOutcome w) (q : ℕ) (low : q < inputs)
         (stands : Stands (read_from w.sent group) group q (entries_at w offsets_partition)) where
       each_image : (batch : Sequenced) (range : Range) → Contains (chain_batches w group q) batch
           → Contains (ranges_of w.sent group q batch) range
-          → map (λ r. r.value) (outputs w (q + inputs) batch.id batch.epoch)
-          ≡ map Some (images_in w image q range)
+          → map content_of (outputs w (q + inputs) batch.id batch.epoch)
+          ≡ map keyless (images_in w image q range)
       each_image batch range in_chain in_ranges =
           let tells = chain_tells w one group q stands batch in_chain in
           let d = stands_in group q (entries_at w offsets_partition) batch tells.0 in
@@ -365,10 +367,10 @@ module _ (s : System) (h : Holds s) (writes : AllWrite s) (fits : All Processing
           let has_own : has_offset group q (batch_for it came.first) ≡ true =
           ap (has_offset group q) (sym came.is) ∙ d.has in
           let g = its_group it came.first group q came.fits has_own in
-          let x = its_client it.caller.client (pipeline.alone (msg.TxnOffsetCommit it)
-          it.caller.client came.handed
-          (and_from (bytes_eq it.group group) (it.caller.client == it.caller.client)
-          ((bytes_eq-Decides it.group group).1 g) (grind (arith, nat_tests)))) in
+          let member = pipeline.alone it came.handed g in
+          let x = its_client it.caller.client
+          (pipeline.members it.caller.client member).processor in
+          let alike = its_process it.caller.client x member in
           let c = x.client in
           let p = x.processing in
           let own : IsOffsets w.sent (Reads w) p.inputs p.image c.number it =
@@ -379,12 +381,12 @@ module _ (s : System) (h : Holds s) (writes : AllWrite s) (fits : All Processing
           let id : batch.id ≡ it.held.id = ap (λ (b : Sequenced). b.id) came.is in
           let epoch : batch.epoch ≡ it.held.epoch = ap (λ (b : Sequenced). b.epoch) came.is in
           let output : is_written.input + p.inputs ≡ q + inputs =
-          ap (λ n. n + p.inputs) o.0 ∙ ap (λ n. q + n) x.inputs_is in
+          ap (λ n. n + p.inputs) o.0 ∙ ap (λ n. q + n) alike.0 in
           let decided : decision (notes w) it.held.id it.held.epoch ≡ Some Commit =
           ap (λ n. decision (notes w) n it.held.epoch) (sym id)
           ∙ ap (decision (notes w) batch.id) (sym epoch) ∙ tells.1 in
           let shows = images_out w h.facts all_shown c p it own is_written decided
-          (λ e. apart it.caller.client x q low (sym output ∙ e)) in
+          (λ e. apart it.caller.client x alike.0 q low (sym output ∙ e)) in
           let (offset, offset_in, range_is) = map_holds
           (λ offset. record { from = read_from w.sent group batch; end = offset })
           (offsets_in group q batch) range in_ranges in
@@ -403,14 +405,14 @@ module _ (s : System) (h : Holds s) (writes : AllWrite s) (fits : All Processing
             from = from_of (last_fetch w.sent c.number it.caller.correlation);
             end = is_written.next;
           } ≡ range = (λ i. record { from = sym from i; end = ends i }) ∙ range_is in
-          ap (λ n. map (λ (r : Record). r.value) (outputs w (q + inputs) n batch.epoch)) id
-          ∙ ap (λ n. map (λ (r : Record). r.value) (outputs w (q + inputs) it.held.id n)) epoch
-          ∙ ap (λ n. map (λ (r : Record). r.value) (outputs w n it.held.id it.held.epoch))
+          ap (λ n. map content_of (outputs w (q + inputs) n batch.epoch)) id
+          ∙ ap (λ n. map content_of (outputs w (q + inputs) it.held.id n)) epoch
+          ∙ ap (λ n. map content_of (outputs w n it.held.id it.held.epoch))
           (sym output)
           ∙ shows
-          ∙ ap (λ r. map Some (images_in w p.image is_written.input r)) ranges
-          ∙ ap (λ n. map Some (images_in w p.image n range)) o.0
-          ∙ ap (λ f. map Some (images_in w f q range)) x.image_is
+          ∙ ap (λ r. map keyless (images_in w p.image is_written.input r)) ranges
+          ∙ ap (λ n. map keyless (images_in w p.image n range)) o.0
+          ∙ ap (λ f. map keyless (images_in w f q range)) alike.1
 
       -- whatever else is decided to commit wrote nothing there
       none_other : (client : ℕ) (held : Held) → IsProcessor s group client
@@ -465,6 +467,13 @@ module _ (s : System) (h : Holds s) (writes : AllWrite s) (fits : All Processing
           of_group : it.group ≡ group
           of_group = (its_writes client x).of_group it e.its ∙ x.of_group
 
+          -- it sent offsets for the group, as members alone do
+          alike : (p.inputs ≡ inputs) × (p.image ≡ image)
+          alike =
+              its_process client x
+              (subst (WasMember w group) (e.its.1 ∙ x.its_number)
+              (pipeline.alone it e.its.0 of_group))
+
           id : stood.batch.id ≡ held.id
           id = ap (λ (b : Sequenced). b.id) stood.is ∙ ap (λ (l : Held). l.id) e.pair
 
@@ -488,10 +497,10 @@ module _ (s : System) (h : Holds s) (writes : AllWrite s) (fits : All Processing
               by false differs =
                   absurd (some (ap (λ (l : Held). outputs w (q + inputs) l.id l.epoch) (sym e.pair)
                   ∙ none_out w f all_shown c p it e.its is_written its_decision (q + inputs)
-                  (λ same. let i = x.inputs_is in
+                  (λ same. let i = alike.0 in
                   let equal : q ≡ is_written.input = omega (arith, i, same) in
                   grind (arith, nat_tests, differs, equal))
-                  (apart client x q low)))
+                  (apart client x alike.0 q low)))
 
           has : has_offset group q stood.batch ≡ true
           has =

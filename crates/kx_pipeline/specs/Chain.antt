@@ -12,7 +12,7 @@ use Rattle.kx_message.specs.declared.message.Message.TheVariants as msg
 use Rattle.kx_message.specs.declared.outcome.Outcome.TheVariants.{Commit}
 use Rattle.kx_message.specs.declared.requests.Fetch.{Fetch}
 use Rattle.kx_model.specs.Coordinator.{commits, same_outcome}
-use Rattle.kx_model.specs.Groups.{offset_fetch, offsets_in}
+use Rattle.kx_model.specs.Groups.{is_pending, offset_fetch, offsets_in}
 use Rattle.kx_model.specs.Log.{Entry, Plain, Data, Control, Marker, Sequenced}
 use Rattle.kx_model.specs.Transactions.{has_commit}
 use Rattle.kx_model.specs.World.{World, entries_at, notes}
@@ -130,8 +130,12 @@ last_end (range ∷ []) = range.end
 last_end (range ∷ next ∷ rest) = last_end (next ∷ rest)
 
 -- a group reads the input partition once, from its beginning on, and its committed offset is where
--- it has read to
+-- it has read to: the end of the last range whose marker stands, and where no offset is pending that
+-- of the last range of all
 pub record IsChained (w : World) (group : List ℕ) (q : ℕ) : Type 0 where
   pub linked : AreLinked (pos 0) (chain w group q)
   pub committed : offset_fetch (entries_at w offsets_partition) group q false
       ≡ record { code = NoError; offset = last_end (marked_ranges w group q) }
+  pub settled : is_pending (entries_at w offsets_partition) group q ≡ false
+      → offset_fetch (entries_at w offsets_partition) group q false
+      ≡ record { code = NoError; offset = last_end (chain w group q) }

@@ -4,3 +4,4 @@ pub mod Premises
 pub mod Promises
 pub mod Visible
 pub mod Written
+pub mod OpenSystems

@@ -1,5 +1,6 @@
 -- What one transaction wrote to a partition, and the batches that its producer sent there.
-use Rattle.std.specs.Prelude.{◌≡◌, ℕ, true, List, [], ◌∷◌, ◌++◌, length, Contains}
+use Rattle.std.specs.Prelude.{◌≡◌, ℕ, true, List, [], ◌∷◌, ◌++◌, length, Contains, Option, Some}
+use Rattle.std.specs.Prelude.{None}
 use Rattle.std.specs.Prelude.{if◌then◌else◌}
 use Rattle.std.specs.List.{flat_map}
 use Rattle.kx_message.specs.declared.message.Message.{Message}
@@ -12,6 +13,20 @@ use Rattle.kx_model.specs.Client.{client_batch, value_records}
 use Rattle.kx_model.specs.Log.{Entry, Plain, Data, Control, Sequenced, entry_in}
 use Rattle.kx_model.specs.Producers.{is_of}
 use Rattle.kx_model.specs.World.{World, entries_at}
+
+------ what a record carries
+
+-- its key and its value
+pub record Content : Type 0 where
+  pub key : Option (List ℕ)
+  pub value : Option (List ℕ)
+
+abbrev pub content_of : Record → Content
+content_of r = record { key = r.key; value = r.value }
+
+-- a value with a null key
+abbrev pub keyless : List ℕ → Content
+keyless value = record { key = None; value = Some value }
 
 ------ what stands in the log
 

@@ -15,6 +15,7 @@ use Rattle.kx_model.specs.Transactions.{open_transactions}
 use Rattle.kx_model.specs.Verification.{Request, request_of}
 use Rattle.kx_model.specs.World.{World, entries_at, holds, log_at, notes}
 use Rattle.kx_pipeline.specs.Chain.{IsChained}
+use Rattle.kx_pipeline.specs.Outputs.{keyless}
 use Rattle.kx_pipeline.specs.Premises.{IsPipeline}
 use Rattle.kx_pipeline.specs.Written.{WritesImages, all_outputs, all_read, images_in}
 use Rattle.kx_system.specs.Processor.{Images}
@@ -54,7 +55,7 @@ pub record ReadsOnce (s : System) (group : List ℕ) (q inputs : ℕ) (image : I
   pub writes : q < inputs → WritesImages s group q inputs image
   -- so all of them together write the images of all that was read, each once
   pub once : q < inputs → all_outputs s group q inputs
-      ≡ map Some (images_in s.world image q (all_read s.world group q))
+      ≡ map keyless (images_in s.world image q (all_read s.world group q))
 
 pub record KeepsAll (s : System) : Type 0 where
   pub promises : KeepsPromises s.world

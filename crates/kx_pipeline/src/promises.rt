@@ -1,6 +1,9 @@
 //! What every world keeps, and every system with processors.
 ghost use Rattle.std.specs.Prelude.{◌≡◌, ℕ, List};
 ghost use Rattle.kx_model.specs.World.{Event, IsSchedule, run, start};
+ghost use Rattle.kx_model.specs.OpenHeadline.{KeepsOpenPromises};
+ghost use Rattle.kx_pipeline.specs.OpenSystems.{IsOpenSystemSchedule, OpenSystemEvent};
+ghost use Rattle.kx_pipeline.specs.OpenSystems.{run_open_system};
 ghost use Rattle.kx_pipeline.specs.Promises.{KeepsAll, KeepsPromises};
 ghost use Rattle.kx_system.specs.System.{IsSystemSchedule, SystemEvent, run_system, start_system};
 
@@ -10,9 +13,10 @@ use crate::{
 };
 use kx_headline::{
     batches_stand_once, ids_have_one_holder, markers_agree, nothing_fenced_commits,
-    offsets_commit_with_their_transaction, open_transactions_are_owed_markers,
-    readers_get_exactly_what_is_visible,
+    offsets_commit_with_their_transaction, open_promises_are_kept,
+    open_transactions_are_owed_markers, readers_get_exactly_what_is_visible,
 };
+use kx_model::{open_schedules_go_on, schedules_are_open_ones};
 use kx_system::systems_run_as_worlds;
 
 /// Every schedule leads to a world that keeps the promises of exactly-once semantics (KIP-98,
@@ -30,7 +34,7 @@ pub fn schedules_keep_promises()
     open_transactions_are_owed_markers();
 }
 
-/// The same of systems some of whose clients are processors; and where the members of a group are
+/// What holds of systems some of whose clients are processors; and where the members of a group are
 /// processors of one kind, each record that they read has its image once. This does nothing when it
 /// runs.
 pub fn systems_keep_promises()
@@ -43,4 +47,18 @@ pub fn systems_keep_promises()
     ranges_follow_one_another();
     transactions_write_images();
     outputs_are_images_of_all_that_was_read();
+}
+
+/// Every open schedule of a system, in which any request of a client may also arrive from outside,
+/// leads to a world that keeps the promises that need no trust in clients; and each answer of code
+/// 0 that was ever sent can be believed (KIP-98, "Data Flow"; KIP-447). This does nothing when it
+/// runs.
+pub fn open_systems_keep_promises()
+    ensures { (partitions : ℕ) (events : List OpenSystemEvent) → IsOpenSystemSchedule events
+        → KeepsOpenPromises (run_open_system events (start_system partitions)).world }
+{
+    open_promises_are_kept();
+    systems_run_as_worlds();
+    schedules_are_open_ones();
+    open_schedules_go_on();
 }

@@ -1,7 +1,7 @@
 //! A client before its end of a connection.
-use crate::connections::ClientEnd;
 use crate::fault::PlayFault;
-use crate::nodes::PlayNode;
+use crate::nodes::ClientNode;
+use crate::wires::ClientEnd;
 use crossbeam_channel::Sender;
 use kx_machine::{Command, Input, Messages, Note};
 use kx_message::Message;
@@ -28,7 +28,7 @@ pub(crate) struct Done {
 #[derive(Drop)]
 pub(crate) struct Client {
     alloc: Global,
-    node: Arc<PlayNode>,
+    node: Arc<ClientNode>,
     end: ClientEnd,
     receipts: Vec<Receipt>,
     // looks since a frame came or requests were sent again
@@ -51,7 +51,7 @@ pub(crate) fn listen<R: Wait>(rt: &R, mut frames: FrameStream, inbox: &Sender<Me
 
 impl Client {
     /// A client that has done nothing.
-    pub(crate) fn new(alloc: Global, node: Arc<PlayNode>, end: ClientEnd) -> Client {
+    pub(crate) fn new(alloc: Global, node: Arc<ClientNode>, end: ClientEnd) -> Client {
         Client {
             alloc,
             node,
@@ -61,7 +61,7 @@ impl Client {
         }
     }
 
-    // Sends what a step handed out.
+    // Sends what a step sent.
     fn send_all(&self, messages: &[Message]) -> Result<(), PlayFault> {
         for message in messages {
             if send(self.alloc, &mut &self.end.stream, message).is_err() {
@@ -71,7 +71,7 @@ impl Client {
         Ok(())
     }
 
-    /// One step of the client: what it hands out is sent.
+    /// One step of the client: what it sends is sent.
     pub(crate) fn step<R: Wait>(&mut self, rt: &R, input: Input) -> Result<Done, PlayFault> {
         self.receipts.reserve(1)?;
         let receipt = self.node.take(rt, input)?;
@@ -123,7 +123,7 @@ impl Client {
         let _ = self.end.stream.shutdown(Shutdown::Write);
     }
 
-    /// Puts the receipts of its steps behind others.
+    /// Appends the receipts of its steps to others.
     pub(crate) fn hand_over(&mut self, receipts: &mut Vec<Receipt>) -> Result<(), AllocError> {
         receipts.append(&mut self.receipts)
     }

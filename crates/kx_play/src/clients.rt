@@ -1,13 +1,13 @@
 //! The clients, and what they do in turn.
+//!
+//! Turns, not timers: the rule counts looks, and a pause of a tenth of a millisecond keeps clients
+//! from sending again before an answer can arrive.
 use crate::fault::PlayFault;
 use crate::members::{Committed, Member};
-use crate::nodes::INPUTS;
+use crate::nodes::{CoreOperator, INPUTS};
 use crate::options::Records;
 use crate::producers::Producer;
-use crate::serving::Handed;
-use crossbeam_channel::Sender;
-use kx_machine::Input;
-use kx_message::{ClientId, GroupId, Node as NodeName, PartitionId};
+use kx_message::{ClientId, GroupId};
 use kx_nodes::Receipt;
 use std::alloc::{AllocError, Global};
 use std::sync::Wait;
@@ -22,36 +22,34 @@ const PAUSE_MICROS: u64 = 100;
 
 /// How a member of a group is dropped.
 #[derive(Drop)]
-pub(crate) struct Dropping {
-    /// Where it is asked for.
-    pub(crate) to_nodes: Sender<Handed>,
+pub(crate) struct Dropping<R: Wait + Drop> {
+    /// Who drops it.
+    pub(crate) operator: CoreOperator<R>,
     /// The group.
     pub(crate) group: GroupId,
     /// The member's client.
     pub(crate) member: ClientId,
 }
 
-impl Dropping {
-    // Asks for it.
-    fn ask<R: Wait>(&self, rt: &R) -> Result<(), PlayFault> {
-        let handed = Handed {
-            node: NodeName::Partition(PartitionId::OFFSETS),
-            input: Input::Drop(self.group, self.member),
-        };
-        self.to_nodes
-            .send(rt, handed)
-            .map_err(|_| PlayFault::Memory)
+impl<R: Wait + Drop> Dropping<R> {
+    // Drops it.
+    fn drop_member(&self, rt: &R) -> Result<(), PlayFault> {
+        if self.operator.drop_member(rt, self.group, self.member) {
+            Ok(())
+        } else {
+            Err(PlayFault::Memory)
+        }
     }
 }
 
 /// The clients: producers, a member that stays, and one that is dropped.
 #[derive(Drop)]
-pub(crate) struct Clients {
+pub(crate) struct Clients<R: Wait + Drop> {
     alloc: Global,
     producers: Vec<Producer>,
     staying: Member,
     leaving: Member,
-    dropping: Dropping,
+    dropping: Dropping<R>,
     records: Records,
     has_begun: bool,
     is_at_work: bool,
@@ -60,16 +58,16 @@ pub(crate) struct Clients {
     committed: [i64; INPUTS as usize],
 }
 
-impl Clients {
+impl<R: Wait + Drop> Clients<R> {
     /// Clients that have done nothing.
     pub(crate) fn new(
         alloc: Global,
         producers: Vec<Producer>,
         staying: Member,
         leaving: Member,
-        dropping: Dropping,
+        dropping: Dropping<R>,
         records: Records,
-    ) -> Clients {
+    ) -> Self {
         Clients {
             alloc,
             producers,
@@ -85,7 +83,7 @@ impl Clients {
     }
 
     // Lets the producers begin.
-    fn begin<R: Wait>(&mut self, rt: &R) -> Result<(), PlayFault> {
+    fn begin(&mut self, rt: &R) -> Result<(), PlayFault> {
         for producer in self.producers.iter_mut() {
             producer.begin(rt)?;
         }
@@ -93,7 +91,7 @@ impl Clients {
     }
 
     // Lets each producer look, and says whether a frame came.
-    fn produce<R: Wait>(&mut self, rt: &R) -> Result<bool, PlayFault> {
+    fn produce(&mut self, rt: &R) -> Result<bool, PlayFault> {
         let mut has_moved = false;
         for producer in self.producers.iter_mut() {
             has_moved = producer.turn(rt)? || has_moved;
@@ -102,7 +100,7 @@ impl Clients {
     }
 
     // Lets the members begin once the input partitions are filled.
-    fn begin_members<R: Wait>(&mut self, rt: &R) -> Result<(), PlayFault> {
+    fn begin_members(&mut self, rt: &R) -> Result<(), PlayFault> {
         if self.has_begun || !self.producers.iter().all(|producer| producer.is_done()) {
             return Ok(());
         }
@@ -112,7 +110,7 @@ impl Clients {
     }
 
     // Lets the members work once both have joined.
-    fn begin_work<R: Wait>(&mut self, rt: &R) -> Result<(), PlayFault> {
+    fn begin_work(&mut self, rt: &R) -> Result<(), PlayFault> {
         if self.is_at_work || !self.staying.has_joined() || !self.leaving.has_joined() {
             return Ok(());
         }
@@ -132,7 +130,7 @@ impl Clients {
     }
 
     // Lets the members look, and says whether a frame came.
-    fn consume<R: Wait>(&mut self, rt: &R) -> Result<bool, PlayFault> {
+    fn consume(&mut self, rt: &R) -> Result<bool, PlayFault> {
         let staying = self.staying.turn(rt, self.is_at_work)?;
         let leaving = self.leaving.turn(rt, self.is_at_work)?;
         self.note(staying.committed);
@@ -141,13 +139,13 @@ impl Clients {
     }
 
     // Drops the one member when it has sent the images of half an input partition.
-    fn drop_member<R: Wait>(&mut self, rt: &R) -> Result<(), PlayFault> {
+    fn drop_member(&mut self, rt: &R) -> Result<(), PlayFault> {
         let half = self.records.get().div_ceil(2);
         if self.has_dropped || self.leaving.written() < half {
             return Ok(());
         }
         self.has_dropped = true;
-        self.dropping.ask(rt)
+        self.dropping.drop_member(rt)
     }
 
     // Whether the group has read all, and the dropped member has found out that it was dropped.
@@ -156,8 +154,11 @@ impl Clients {
         self.leaving.has_failed() && self.committed.iter().all(|committed| *committed >= all)
     }
 
-    // One look of each client. All wait for a moment where no frame came.
-    fn turn<R: Wait + Clock>(&mut self, rt: &R) -> Result<(), PlayFault> {
+    // One look of each client. All wait briefly where no frame came.
+    fn turn(&mut self, rt: &R) -> Result<(), PlayFault>
+    where
+        R: Clock,
+    {
         let has_produced = self.produce(rt)?;
         self.begin_members(rt)?;
         let has_consumed = self.consume(rt)?;
@@ -170,7 +171,10 @@ impl Clients {
     }
 
     // Plays until all is read and written.
-    fn play_on<R: Wait + Clock>(&mut self, rt: &R) -> Result<(), PlayFault> {
+    fn play_on(&mut self, rt: &R) -> Result<(), PlayFault>
+    where
+        R: Clock,
+    {
         self.begin(rt)?;
         for _ in 0..MOST_TURNS {
             if self.is_over() {
@@ -193,7 +197,10 @@ impl Clients {
     }
 
     /// Plays to the end, and gives the receipts of all steps.
-    pub(crate) fn play<R: Wait + Clock>(&mut self, rt: &R) -> Result<Vec<Receipt>, PlayFault> {
+    pub(crate) fn play(&mut self, rt: &R) -> Result<Vec<Receipt>, PlayFault>
+    where
+        R: Clock,
+    {
         self.play_on(rt)?;
         Ok(self.receipts()?)
     }

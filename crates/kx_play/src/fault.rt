@@ -2,6 +2,7 @@
 ghost use Rattle.std.specs.Prelude.{◌≡◌};
 
 use kx_nodes::NodeFault;
+use kx_server::ServeFault;
 use std::alloc::{AllocError, AllocFailed};
 use thiserror::Error;
 
@@ -20,7 +21,7 @@ pub enum PlayFault {
     GaveUp,
 }
 
-/// Want of memory.
+/// Memory ran out.
 impl From<AllocError> for PlayFault {
     ghost use Rattle.kx_play.specs.declared.fault.PlayFault.TheVariants.{Memory};
 
@@ -31,7 +32,7 @@ impl From<AllocError> for PlayFault {
     }
 }
 
-/// Want of memory for what is put into a list or made to be shared, which is let go.
+/// Memory ran out for what is put into a list or made to be shared, which is dropped.
 impl<T: Drop> From<AllocFailed<T>> for PlayFault {
     ghost use Rattle.kx_play.specs.declared.fault.PlayFault.TheVariants.{Memory};
 
@@ -42,12 +43,22 @@ impl<T: Drop> From<AllocFailed<T>> for PlayFault {
     }
 }
 
-/// A node that doesn't take an input: for want of memory, or with a full trace.
+/// A node that doesn't take an input, since memory ran out or its trace is full.
 impl From<NodeFault> for PlayFault {
     fn from(fault: NodeFault) -> Self {
         match fault {
             NodeFault::Memory => PlayFault::Memory,
             NodeFault::TraceFull => PlayFault::GaveUp,
+        }
+    }
+}
+
+/// A server that serves no more: since the network fails, or memory or threads ran out.
+impl From<ServeFault> for PlayFault {
+    fn from(fault: ServeFault) -> Self {
+        match fault {
+            ServeFault::Net { .. } => PlayFault::Net,
+            _ => PlayFault::Memory,
         }
     }
 }

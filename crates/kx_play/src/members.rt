@@ -43,7 +43,7 @@ fn records_in(batch: &[u8]) -> usize {
 }
 
 impl Member {
-    /// One that has asked for nothing.
+    /// A member that has asked for nothing.
     pub(crate) fn new(client: Client) -> Member {
         Member {
             client,
@@ -126,7 +126,7 @@ impl Member {
         self.client.close();
     }
 
-    /// Puts the receipts of its steps behind others.
+    /// Appends the receipts of its steps to others.
     pub(crate) fn hand_over(&mut self, receipts: &mut Vec<Receipt>) -> Result<(), AllocError> {
         self.client.hand_over(receipts)
     }

@@ -29,7 +29,7 @@ impl Model for WorkerCount {
 }
 
 impl WorkerCount {
-    /// So many, or None where they are none or more than 16.
+    /// This many threads, or None where that is 0 or more than 16.
     pub fn new(count: usize) -> Option<WorkerCount>
         ensures { MatchOption result (IsWorkers count → ⊥)
             (λ it. (it ≡ count) × IsWorkers count) }
@@ -67,7 +67,7 @@ impl Model for Records {
 }
 
 impl Records {
-    /// So many, or None where they are none or more than 10,000.
+    /// This many records, or None where that is 0 or more than 10,000.
     pub fn new(count: usize) -> Option<Records>
         ensures { MatchOption result (IsRecords count → ⊥)
             (λ it. (it ≡ count) × IsRecords count) }

@@ -1,16 +1,14 @@
 //! Playing, from the first connection to the last thread that ends.
 use crate::clients::Clients;
-use crate::connections::Connections;
 use crate::fault::PlayFault;
-use crate::nodes::{PlayMaking, PlayNode, core_nodes, trace_of};
+use crate::nodes::{CoreServer, INPUTS, PlayMaking, core_nodes, serve_core, traces_of};
 use crate::options::PlayOptions;
-use crate::serving::{Handed, Served, attend, names_of};
-use crate::setup::Setup;
-use crossbeam_channel::Receiver;
-use kx_message::Node as NodeName;
+use crate::setup::{CLIENTS, Setup};
+use crate::wires::{Wires, listen_on_any, port_of};
 use kx_nodes::{Receipt, Trace};
 use kx_relay::Draw;
-use std::alloc::{AllocError, Global};
+use kx_server::{Connections, Partitions, ServeOptions};
+use std::alloc::Global;
 use std::net::{Net, TcpListener, TcpStream};
 use std::sync::{Arc, Wait};
 use std::thread;
@@ -27,20 +25,23 @@ pub struct Played {
     pub receipts: Vec<Receipt>,
 }
 
-// The thread of the clients, which gives the receipts of their steps.
+// The thread of the clients, which returns the receipts of their steps.
 type Playing = JoinHandle<Result<Vec<Receipt>, PlayFault>>;
 
 // Lets the clients play, and closes their connections then.
-fn run_clients<R: Wait + Clock>(rt: &R, mut clients: Clients) -> Result<Vec<Receipt>, PlayFault> {
+fn run_clients<R: Wait + Clock + Drop>(
+    rt: &R,
+    mut clients: Clients<R>,
+) -> Result<Vec<Receipt>, PlayFault> {
     let played = clients.play(rt);
     clients.close();
     played
 }
 
 // Starts the thread of the clients.
-fn start_clients<R: Threads + Wait + Clock + Copy + Send + 'static>(
+fn start_clients<R: Threads + Wait + Clock + Copy + Send + Sync + Drop + 'static>(
     rt: R,
-    clients: Clients,
+    clients: Clients<R>,
 ) -> Result<Playing, PlayFault> {
     let Ok(handle) = thread::spawn(&rt, move || run_clients(&rt, clients)) else {
         return Err(PlayFault::Memory);
@@ -56,54 +57,76 @@ fn join_clients<R: Threads + Wait>(
     playing?.join(rt)
 }
 
-// Serves the clients, which have a thread of their own, until all have closed. Gives the receipts
+// What the server is asked for: a connection for each client, and no expiry.
+fn serving() -> ServeOptions<'static> {
+    ServeOptions {
+        partitions: Partitions::new(u16::from(2 * INPUTS)).unwrap(),
+        connections: Connections::new(CLIENTS).unwrap(),
+        port: 0,
+        dir: None,
+        expires: false,
+        tells_progress: false,
+    }
+}
+
+// Serves the clients, which have a thread of their own, until all have closed. Returns the receipts
 // of all steps.
-fn serve<R: Threads + Wait + Clock + Copy + Send + Sync + Drop + 'static>(
+fn serve<
+    R: Net<Listener = TcpListener, Stream = TcpStream>
+        + Eprint
+        + Threads
+        + Wait
+        + Clock
+        + Copy
+        + Send
+        + Sync
+        + Drop
+        + 'static,
+>(
     rt: R,
-    clients: Clients,
-    workers: Served<R>,
-    names: &[NodeName],
-    connections: Connections<R>,
-    handed: &Receiver<Handed>,
+    clients: Clients<R>,
+    server: CoreServer<R>,
+    listener: &TcpListener,
+    wires: Wires<R>,
 ) -> Result<Vec<Receipt>, PlayFault> {
     let playing = start_clients(rt, clients);
     if playing.is_err() {
-        connections.close();
+        wires.close();
     }
-    let threads = connections.into_threads();
-    let served = attend(&rt, workers, names, handed);
+    let served = server.serve(listener, &serving());
     let played = join_clients(&rt, playing);
-    threads.join();
+    wires.join();
     let mut receipts = served?;
     receipts.append(&mut played?)?;
     Ok(receipts)
 }
 
-// The traces of nodes that nobody else has any more.
-fn traces_of(
-    alloc: Global,
-    nodes: Vec<Arc<PlayNode>>,
-) -> Result<Vec<Trace<PlayMaking>>, AllocError> {
-    let mut traces = Vec::new(alloc);
-    for node in nodes {
-        // No thread has it any more, but no clause of theirs says so.
-        let Some(node) = Arc::into_inner(node) else {
-            return Err(AllocError);
-        };
-        traces.push(trace_of(node))?;
-    }
-    Ok(traces)
+// The clients of a server, as soon as their connections stand.
+fn set_up<
+    R: Net<Listener = TcpListener, Stream = TcpStream>
+        + Eprint
+        + Threads
+        + Wait
+        + Clock
+        + Copy
+        + Send
+        + Sync
+        + Drop
+        + 'static,
+>(setup: &mut Setup<R>, server: &CoreServer<R>) -> Result<Clients<R>, PlayFault> {
+    setup.clients(server.operator()?)
 }
 
 /// Plays over loopback: starts all threads, and joins them.
 ///
 /// # Errors
 ///
-/// `Net` where a connection can't be made or fails, `GaveUp` where it comes to no end, `Memory` for
-/// want of memory or of threads.
+/// `Net` where a connection can't be made or fails, `GaveUp` where it comes to no end, `Memory`
+/// where memory or threads run out.
 pub fn play<
     R: Net<Listener = TcpListener, Stream = TcpStream>
         + AllocGlobal
+        + Eprint
         + Threads
         + Wait
         + Clock
@@ -114,23 +137,25 @@ pub fn play<
         + 'static,
 >(rt: R, options: &PlayOptions) -> Result<Played, PlayFault> {
     let alloc = rt.alloc();
-    let nodes = core_nodes(alloc)?;
-    let names = names_of(alloc, nodes.as_slice())?;
-    let (to_nodes, handed) = crossbeam_channel::unbounded(alloc)?;
+    let listener = listen_on_any(&rt)?;
     let draw = Arc::new(alloc, Draw::new(options.lose, options.seed))?;
-    let connections = Connections::new(rt, alloc, draw, options.hold, to_nodes);
-    let mut setup = Setup::new(rt, alloc, *options, nodes, connections);
-    let (clients, workers) = match setup.begin() {
-        Ok(begun) => begun,
+    let wires = Wires::new(rt, alloc, draw, options.hold, port_of(&listener)?);
+    let core = core_nodes(alloc)?;
+    let server = serve_core(rt, alloc, core.as_slice(), options.workers)?;
+    let mut setup = Setup::new(alloc, *options, wires);
+    let clients = match set_up(&mut setup, &server) {
+        Ok(clients) => clients,
         Err(fault) => {
             setup.undo();
+            // It served nothing.
+            let _ = server.end();
             return Err(fault);
         }
     };
-    let (nodes, connections) = setup.into_parts();
-    let receipts = serve(rt, clients, workers, names.as_slice(), connections, &handed)?;
+    let (nodes, wires) = setup.into_parts();
+    let receipts = serve(rt, clients, server, &listener, wires)?;
     Ok(Played {
-        traces: traces_of(alloc, nodes)?,
+        traces: traces_of(alloc, core, nodes)?,
         receipts,
     })
 }

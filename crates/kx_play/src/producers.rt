@@ -71,7 +71,7 @@ fn granted_by(reply: &Message) -> Option<u32> {
 }
 
 impl Producer {
-    /// One that is to send so many records to a partition.
+    /// A producer that is to send this many records to a partition.
     pub(crate) fn new(
         alloc: Global,
         client: Client,
@@ -118,7 +118,7 @@ impl Producer {
         self.client.close();
     }
 
-    /// Puts the receipts of its steps behind others.
+    /// Appends the receipts of its steps to others.
     pub(crate) fn hand_over(&mut self, receipts: &mut Vec<Receipt>) -> Result<(), AllocError> {
         self.client.hand_over(receipts)
     }

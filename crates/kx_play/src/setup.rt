@@ -1,17 +1,14 @@
-//! Setting up: nodes, connections with their threads, clients, and the threads that serve.
+//! Setting up: the clients, and their connections.
 use crate::client::Client;
 use crate::clients::{Clients, Dropping};
-use crate::connections::Connections;
 use crate::fault::PlayFault;
 use crate::members::Member;
-use crate::nodes::{INPUTS, PlayNode, partition, processor, producer};
+use crate::nodes::{ClientNode, CoreOperator, INPUTS, partition, processor, producer};
 use crate::options::PlayOptions;
 use crate::producers::Producer;
-use crate::serving::{Answers, Served};
-use crate::wires::Wire;
+use crate::wires::Wires;
 use kx_message::{ClientId, GroupId, TxnId};
-use kx_nodes::Workers;
-use std::alloc::{AllocError, Global};
+use std::alloc::Global;
 use std::net::{Net, TcpListener, TcpStream};
 use std::sync::{Arc, Wait};
 use std::thread::Threads;
@@ -22,15 +19,16 @@ const STAYING: u32 = 3;
 // The number of the one that is dropped.
 const LEAVING: u32 = 4;
 
-/// What stands before anything is asked for: the nodes, behind those of the core those of the
-/// clients, and the connections.
+/// How many clients there are, and so how many connections to the server.
+pub(crate) const CLIENTS: usize = INPUTS as usize + 2;
+
+/// What stands before anything is asked for: the clients' nodes and their connections.
 #[derive(Drop)]
 pub(crate) struct Setup<R: Threads + Wait + Drop> {
-    rt: R,
     alloc: Global,
     options: PlayOptions,
-    nodes: Vec<Arc<PlayNode>>,
-    connections: Connections<R>,
+    nodes: Vec<Arc<ClientNode>>,
+    wires: Wires<R>,
 }
 
 impl<
@@ -43,36 +41,20 @@ impl<
         + Drop
         + 'static,
 > Setup<R> {
-    /// The nodes of the core alone.
-    pub(crate) fn new(
-        rt: R,
-        alloc: Global,
-        options: PlayOptions,
-        nodes: Vec<Arc<PlayNode>>,
-        connections: Connections<R>,
-    ) -> Self {
+    /// A setup without clients.
+    pub(crate) fn new(alloc: Global, options: PlayOptions, wires: Wires<R>) -> Self {
         Setup {
-            rt,
             alloc,
             options,
-            nodes,
-            connections,
+            nodes: Vec::new(alloc),
+            wires,
         }
-    }
-
-    // Other handles of all nodes that there are.
-    fn twins(&self) -> Result<Vec<Arc<PlayNode>>, AllocError> {
-        let mut twins = Vec::new(self.alloc);
-        for node in &self.nodes {
-            twins.push(Arc::try_clone(node)?)?;
-        }
-        Ok(twins)
     }
 
     // A client with this node, before its end of a new connection.
-    fn client(&mut self, node: Arc<PlayNode>) -> Result<Client, PlayFault> {
+    fn client(&mut self, node: Arc<ClientNode>) -> Result<Client, PlayFault> {
         self.nodes.push(Arc::try_clone(&node)?)?;
-        let end = self.connections.add(Wire::open(&self.rt)?)?;
+        let end = self.wires.add()?;
         Ok(Client::new(self.alloc, node, end))
     }
 
@@ -94,19 +76,15 @@ impl<
         Ok(Member::new(self.client(node)?))
     }
 
-    // How the one member is dropped.
-    fn dropping(&self, group: GroupId) -> Result<Dropping, AllocError> {
-        Ok(Dropping {
-            to_nodes: self.connections.to_nodes()?,
+    /// The clients before their ends of new connections. The one member is dropped by this operator
+    /// of the server.
+    pub(crate) fn clients(&mut self, operator: CoreOperator<R>) -> Result<Clients<R>, PlayFault> {
+        let group = "demo".parse().unwrap();
+        let dropping = Dropping {
+            operator,
             group,
             member: ClientId::from(LEAVING),
-        })
-    }
-
-    // The clients before their ends of new connections.
-    fn clients(&mut self) -> Result<Clients, PlayFault> {
-        let group = "demo".parse().unwrap();
-        let dropping = self.dropping(group)?;
+        };
         let producers = self.producers()?;
         let staying = self.member(STAYING, "stays".parse().unwrap(), group)?;
         let leaving = self.member(LEAVING, "leaves".parse().unwrap(), group)?;
@@ -114,30 +92,16 @@ impl<
         Ok(Clients::new(self.alloc, producers, staying, leaving, dropping, records))
     }
 
-    /// Starts all threads but that of the clients.
-    pub(crate) fn begin(&mut self) -> Result<(Clients, Served<R>), PlayFault> {
-        let core = self.twins()?;
-        let clients = self.clients()?;
-        let answers = Answers::new(self.rt, self.alloc, self.connections.take_outboxes());
-        let count = self.options.workers.get();
-        let workers = Workers::start(self.rt, self.alloc, core, count, answers)?;
-        Ok((clients, workers))
-    }
-
     /// Closes the connections, and waits until their threads have ended.
     pub(crate) fn undo(self) {
-        let Setup { connections, .. } = self;
-        connections.close();
-        connections.into_threads().join();
+        let Setup { wires, .. } = self;
+        wires.close();
+        wires.join();
     }
 
-    /// The nodes and the connections.
-    pub(crate) fn into_parts(self) -> (Vec<Arc<PlayNode>>, Connections<R>) {
-        let Setup {
-            nodes,
-            connections,
-            ..
-        } = self;
-        (nodes, connections)
+    /// The clients' nodes and the connections.
+    pub(crate) fn into_parts(self) -> (Vec<Arc<ClientNode>>, Wires<R>) {
+        let Setup { nodes, wires, .. } = self;
+        (nodes, wires)
     }
 }

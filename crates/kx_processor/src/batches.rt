@@ -8,7 +8,7 @@ use kx_message::Bytes;
 use std::alloc::AllocError;
 use std::marker::Model;
 
-// So many images make a batch.
+// This many images make a batch.
 const MOST_IMAGES: usize = 100;
 
 // Batches in a row, those in front of which are written.
@@ -70,7 +70,7 @@ impl Batches {
         }
     }
 
-    // The first of them, lent.
+    // The first of them, borrowed.
     pub(crate) fn first(&self) -> Option<&Values>
         ensures { MatchOption result (self.now ≡ [])
             (λ first. self.now ≡ first.now ∷ without_first self.now) }

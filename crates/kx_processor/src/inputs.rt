@@ -12,7 +12,7 @@ use std::marker::Model;
 const MOST: u8 = 8;
 
 /// How many input partitions a processor has, 1 to 8: those from 0 on. The images of the records of
-/// input partition `q` go to partition `q` and so many more.
+/// input partition `q` go to partition `q` and this many more.
 #[derive(Clone, Copy, Debug, PartialEq, Eq)]
 pub struct Inputs(u8);
 

@@ -5,8 +5,8 @@ ghost use Rattle.kx_system.specs.Processor.{owned};
 
 use crate::inputs::{Input, Inputs};
 
-// Those of the input partitions from one on that a member owns, which has this number among so many
-// members.
+// Those of the input partitions from one on that a member owns, which has this number among this
+// many members.
 #[derive(Clone, Copy)]
 pub(crate) struct Owned {
     number: u16,

@@ -66,7 +66,7 @@ fn abort(asker: &mut ProducerClient) -> Result<Message, ClientFault>
     }
 }
 
-// Writes the first of some batches, or the offset behind them where none is left. Where an image
+// Writes the first of some batches, or the offset after them where none is left. Where an image
 // fits no batch, the transaction is aborted.
 fn write(
     asker: &mut ProducerClient,
@@ -168,11 +168,11 @@ impl<P: Process> Processor<P> {
         Ok(sent)
     }
 
-    /// Hands out the next request, or nothing while one is unanswered. A pass is: to join the
-    /// group; then for each input partition that it owns, from the lowest, to fetch the offset that
-    /// the group committed, the records from there on, and where there are any, in one transaction,
-    /// to write their images in batches of at most 100, each once the one before is answered, then
-    /// to commit the offset behind them, and then the transaction.
+    /// Sends the next request, or nothing while one is unanswered. A pass is: to join the group;
+    /// then for each input partition that it owns, from the lowest, to fetch the offset that the
+    /// group committed, the records from there on, and where there are any, in one transaction, to
+    /// write their images in batches of at most 100, each once the one before is answered, then to
+    /// commit the offset after them, and then the transaction.
     ///
     /// # Errors
     ///

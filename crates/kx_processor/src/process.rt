@@ -17,7 +17,7 @@ pub trait Process: Drop {
     ///
     /// # Errors
     ///
-    /// Only for want of memory.
+    /// Only where memory runs out.
     fn image(&self, of: &RecordView<'_>) -> Result<Vec<u8>, AllocError>
         ensures { IfOk result (λ image. image.items ≡ image_of self.now of.now) };
 

@@ -73,7 +73,8 @@ impl<P: Process> Processor<P> {
         }
     }
 
-    /// Its client, borrowed: what it holds, and whether it is in a transaction or waits for replies.
+    /// Its client, borrowed: what it holds, and whether it is in a transaction or waits for
+    /// replies.
     pub fn client(&self) -> &ProducerClient
         ensures { result.now ≡ self.now.client }
     {
@@ -120,7 +121,7 @@ impl<P: Process> Processor<P> {
         self.client.init()
     }
 
-    /// Hands out every unanswered request again, as [`ProducerClient::resend`].
+    /// Sends every unanswered request again, as [`ProducerClient::resend`].
     ///
     /// # Errors
     ///

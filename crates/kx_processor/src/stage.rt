@@ -12,7 +12,7 @@ use crate::inputs::{Input, Inputs};
 use crate::owned::Owned;
 use kx_message::{ErrorCode, JoinReply, Message};
 
-// What comes behind an abort.
+// What comes after an abort.
 #[derive(Clone, Copy)]
 pub(crate) enum Sequel {
     Anew,
@@ -36,7 +36,7 @@ pub(crate) enum Stage {
         left: Owned,
         offset: i64,
     },
-    // To write these batches of images, and then the offset behind the page.
+    // To write these batches of images, and then the offset after the page.
     Writing {
         input: Input,
         left: Owned,
@@ -125,7 +125,7 @@ impl Stage {
         }
     }
 
-    // The offset behind a page was answered.
+    // The offset after a page was answered.
     fn committed(self, code: ErrorCode) -> Stage
         ensures { stage_of result ≡ committed (stage_of self) code }
     {
@@ -142,7 +142,7 @@ impl Stage {
         }
     }
 
-    // What comes behind an abort.
+    // What comes after an abort.
     fn behind(sequel: Sequel) -> Stage
         ensures { stage_of result ≡ behind (sequel_of sequel) }
     {

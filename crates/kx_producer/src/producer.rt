@@ -23,7 +23,7 @@ pub(crate) type Remembered = HeapCircularBuffer<RememberedBatch>;
 ///
 /// # Errors
 ///
-/// Only for want of memory.
+/// Only where memory runs out.
 pub(crate) fn room(alloc: Global) -> Result<Remembered, AllocError>
     ensures { IfOk result (λ room. room ≡ buffer [] 5) }
 {
@@ -72,11 +72,11 @@ impl Model for Producer {
 }
 
 impl Producer {
-    /// One that comes with this epoch, in the room that was made for it, if any was.
+    /// A producer that arrives with this epoch, in the room that was made for it, if any was.
     ///
     /// # Errors
     ///
-    /// Only for want of memory, where there was no room.
+    /// Only where memory runs out, where there was no room.
     pub(crate) fn fresh(
         alloc: Global,
         made: Option<Remembered>,

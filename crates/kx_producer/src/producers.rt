@@ -45,7 +45,7 @@ impl Model for Producers {
 }
 
 impl Producers {
-    /// One that knows no producer. It takes memory from `alloc` as ids come.
+    /// A table that knows no producer. It takes memory from `alloc` as ids come.
     pub fn new(alloc: Global) -> Producers
         ensures { result.table ≡ map.empty }
     {
@@ -61,7 +61,9 @@ impl Producers {
     ///
     /// # Errors
     ///
-    /// Only for want of memory, which no log without entries meets.
+    /// Only where memory runs out, which no log without entries meets.
+    // A whole list of entries in one call, for who has a log's entries at hand; a partition judges
+    // each batch before it notes it, and so doesn't use it.
     pub fn rebuild(alloc: Global, entries: &[Noted]) -> Result<Producers, AllocError>
         ensures table { IfOk result (λ producers. producers.table ≡ noted_all entries.now) }
         ensures wanted { IsErr result → 0 < length entries.now }
@@ -91,12 +93,12 @@ impl Producers {
         Ok(())
     }
 
-    /// Makes room for this id, if it isn't known, so that its next note meets no want of memory.
-    /// What is known stays.
+    /// Makes room for this id, if it isn't known, so that its next note asks for no memory. What is
+    /// known stays.
     ///
     /// # Errors
     ///
-    /// Only for want of memory, where the id isn't known and there was no room.
+    /// Only where memory runs out, where the id isn't known and there was no room.
     pub fn reserve(&mut self, id: ProducerId) -> Result<(), AllocError>
         ensures table { self.new.table ≡ self.old.table }
         ensures room { IfOk result (λ done.
@@ -119,7 +121,7 @@ impl Producers {
     ///
     /// # Errors
     ///
-    /// Only for want of memory, where the id isn't known and there was no room. What is known
+    /// Only where memory runs out, where the id isn't known and there was no room. What is known
     /// stays.
     pub fn note_data(
         &mut self,
@@ -140,7 +142,7 @@ impl Producers {
     ///
     /// # Errors
     ///
-    /// Only for want of memory, where the id isn't known and there was no room. What is known
+    /// Only where memory runs out, where the id isn't known and there was no room. What is known
     /// stays.
     pub fn note_marker(
         &mut self,
@@ -181,7 +183,7 @@ impl Producers {
     }
 
     /// The epoch of a producer: the greatest of its batches and markers, or `None` where none came.
-    /// No memory is asked for.
+    /// Takes no memory.
     pub fn epoch(&self, id: ProducerId) -> Option<Epoch>
         ensures { result ≡ option_map (λ known. known.epoch) (known_of self.now.table id) }
     {

@@ -4,13 +4,13 @@
 /// "Idempotent Producer Guarantees"; Kafka's protocol guide, "Error Codes").
 #[derive(Clone, Copy, Debug, PartialEq, Eq)]
 pub enum Verdict {
-    /// It is the next of its epoch.
+    /// The batch is the next of its epoch.
     Next,
-    /// It stands in the log already, at this offset.
+    /// The batch stands in the log already, at this offset.
     Duplicate(i64),
     /// The producer has a newer epoch (INVALID_PRODUCER_EPOCH).
     OldEpoch,
-    /// It is neither remembered nor the next of its epoch, or its sequences pass 2^31 - 1
+    /// The batch is neither remembered nor the next of its epoch, or its sequences pass 2^31 - 1
     /// (OUT_OF_ORDER_SEQUENCE_NUMBER).
     OutOfOrder,
 }

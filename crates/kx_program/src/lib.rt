@@ -3,9 +3,9 @@
 //! `serve` serves clients over sockets, and `demo` plays both ends over a bad line and audits what
 //! happened.
 //!
-//! `usage` has the command line, `task` what clap finds in words, `asking` what words ask for or why
-//! they ask for nothing, `streams` what is done with the standard streams, and `program` does what
-//! is asked for.
+//! `usage` has the command line, `task` what clap finds in words, `asking` what words ask for or
+//! why they ask for nothing, `streams` what is done with the standard streams, and `program` does
+//! what is asked for.
 #![tactic(auto)]
 
 mod asking;

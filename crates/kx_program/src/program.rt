@@ -26,6 +26,7 @@ use std::{fs, io};
 fn demo_with_trace<
     R: Net<Listener = TcpListener, Stream = TcpStream>
         + AllocGlobal
+        + Eprint
         + Threads
         + Wait
         + Clock
@@ -59,6 +60,7 @@ fn demo<
     R: Files<File = File>
         + Net<Listener = TcpListener, Stream = TcpStream>
         + AllocGlobal
+        + Eprint
         + Threads
         + Wait
         + Clock

@@ -42,10 +42,16 @@ WroteItself (AtPartition number p) = HasWritten p
 WroteItself (AtClient c) = Unit {0}
 WroteItself (AtProcessor p) = Unit {0}
 
--- the node wrote its log itself, and what was passed on begins it
+-- what readers take is a beginning of this log
+abbrev pub ShowsBeginning : List Stored → Option Done → Type 0
+ShowsBeginning log None = Unit {0}
+ShowsBeginning log (Some done) = IsPrefix done.shown log
+
+-- the node wrote its log itself, and what was passed on begins it, and so does what readers take
 abbrev pub BeginsLog : NodeState → Option Done → Type 0
 BeginsLog node None = Unit {0}
-BeginsLog node (Some done) = WroteItself node × IsPrefix done.sent (batches_of node)
+BeginsLog node (Some done) =
+    WroteItself node × IsPrefix done.sent (batches_of node) × IsPrefix done.shown (batches_of node)
 
 -- it stands for a node, whose log begins with what was passed on
 pub record Runs {M : Type 0} (Stands : NodeState → M → Type 0) (machine : M)
@@ -94,7 +100,7 @@ Shows false log before after =
 ------ steps
 
 -- the step records what it does without readers; after it they take the log that it left, or what
--- they took; and a refusal publishes nothing
+-- they took, which begins the node's log still; and a refusal publishes nothing
 pub record StepIsPublished {L : Type 0} (log : L → List Stored)
     (Records : L → given.Input → Result Receipt NodeFault → L → Type 0) (before : UnderLock L)
     (input : given.Input) (result : Result Receipt NodeFault) (after : UnderLock L)
@@ -103,6 +109,7 @@ pub record StepIsPublished {L : Type 0} (log : L → List Stored)
   pub shows : MatchResult result
       (λ receipt. (shown : Bool) × Shows shown (log after.locked) before.published after.published)
       (λ refused. after.published ≡ before.published)
+  pub begins : ShowsBeginning (log after.locked) after.published
 
 -- whether readers take the log as it stands now
 abbrev pub shows_of : Tended → Bool
@@ -110,7 +117,8 @@ shows_of (tended.Restarted served) = served.is_shown
 shows_of (tended.Rested shown) = shown
 
 -- the node was restarted, and answers so
-abbrev pub IsRestart : (Store → Type 0) → NodeState → ℕ → (NodeState → Type 0) → Tended → Type 0
+abbrev pub IsRestart : (Option ℕ → Store → Type 0) → NodeState → ℕ → (NodeState → Type 0) → Tended
+    → Type 0
 IsRestart Allows node now Stands (tended.Restarted served) =
     IsTaken node (Restarts now) Allows Stands served.receipt.taken
 IsRestart Allows node now Stands (tended.Rested shown) = ⊥

@@ -27,7 +27,7 @@ impl PublishFault {
     }
 }
 
-/// Want of memory.
+/// Out of memory.
 impl From<AllocError> for PublishFault {
     ghost from_gives = { λ refused fault. fault ≡ Memory };
 

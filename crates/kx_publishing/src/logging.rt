@@ -6,7 +6,8 @@ use kx_broker::{OffsetsMachine, PartitionMachine};
 use kx_coord_node::CoordinatorMachine;
 use kx_log::Store;
 use kx_machine::Machine;
-use kx_machines::BrokerMachine;
+use kx_machines::{AnyMachine, BrokerMachine};
+use kx_processor::Process;
 
 /// A machine whose log of record batches is told by the machine itself, as whoever publishes it has
 /// to know it.
@@ -19,7 +20,7 @@ pub trait Logging: Machine {
     /// The record batches of its log.
     ghost log: { Self → List Stored };
 
-    /// They are those of each node for which it stands.
+    /// These batches are those of each node for which it stands.
     ghost log_is: { (machine : Self) (state : NodeState) → Self.stands state machine
         → log machine ≡ batches_of state };
 }
@@ -36,7 +37,7 @@ impl<S: Store> Logging for OffsetsMachine<S> {
     ghost log_is = { offsets_log };
 }
 
-/// It has no record batches.
+/// The coordinator has no record batches.
 impl<S: Store> Logging for CoordinatorMachine<S> {
     ghost log = { λ machine. [] };
 
@@ -49,4 +50,13 @@ impl<S: Store> Logging for BrokerMachine<S> {
     ghost log = { broker_log };
 
     ghost log_is = { broker_log_is };
+}
+
+/// A client has no record batches.
+impl<S: Store, F: Process> Logging for AnyMachine<S, F> {
+    ghost use Rattle.kx_publishing.specs.Brokers.{any_log, any_log_is};
+
+    ghost log = { any_log };
+
+    ghost log_is = { any_log_is F.image_of };
 }

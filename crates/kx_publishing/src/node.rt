@@ -4,7 +4,7 @@ ghost use Rattle.std.specs.Prelude.{◌≡◌, IfOk};
 use crate::fault::PublishFault;
 use crate::published_machine::{PublishedMachine, Tended};
 use crate::readable::Readable;
-use kx_message::Node as NodeId;
+use kx_message::NodeId;
 use kx_nodes::{Node, NodeFault};
 use kx_published::book::Naming;
 use kx_published::ends::PageReader;
@@ -18,12 +18,12 @@ use std::sync::Wait;
 /// first.
 pub trait PublishedNode<J: Naming, R: Wait> {
     ghost use Rattle.std.specs.Prelude.{◌≡◌, IfOk};
-    ghost use Rattle.kx_message.specs.declared.message.Node.{Node};
-    ghost use Rattle.kx_message.specs.declared.message.Node.TheVariants as node;
+    ghost use Rattle.kx_message.specs.declared.message.NodeId.{NodeId};
+    ghost use Rattle.kx_message.specs.declared.message.NodeId.TheVariants as node;
     ghost use Rattle.kx_publishing.specs.Publishing.{MayRestart};
 
     // the node's name
-    ghost named: { Self → Node };
+    ghost named: { Self → NodeId };
 
     /// Publishes the log as the steps so far have made it: readers that enter from now on see it.
     /// What it tells may go to any thread; a reader that learned it sees no log of an earlier

@@ -12,8 +12,9 @@ use kx_message::PartitionId;
 use kx_published::opened::is_written;
 
 /// Whether what stands under a node's lock, whose log was opened, wrote that log itself, so that it
-/// may be [published](crate::PublishedMachine::publishing): whether the log is stored as a partition
-/// writes one, as [`is_written`] finds. It stands for a partition that has parked nothing.
+/// may be [published](crate::PublishedMachine::publishing): whether the log is stored as a
+/// partition writes one, as [`is_written`] finds. It stands for a partition that has parked
+/// nothing.
 pub fn wrote_itself<L: Readable>(partition: PartitionId, locked: &L) -> bool
     requires stands { L.stands (AtPartition partition (opened_partition (L.log locked.now)))
         locked.now }

@@ -1,12 +1,21 @@
 //! What stands under a node's lock where its log is published: the machine, and the writer's end of
 //! the published log.
-ghost use Rattle.std.specs.Prelude.{◌≡◌, ◌↔◌, ◌<◌, ◌^◌, Bool, Err, IfErr, IfOk, MatchResult, None};
-ghost use Rattle.std.specs.Prelude.{Ok, Some, false, option_map, true};
+ghost use Rattle.std.specs.Prelude.{◌≡◌, ◌↔◌, ◌<◌, ◌^◌, ℕ, ℤ, Bool, Err, IfErr, IfOk, List};
+ghost use Rattle.std.specs.Prelude.{MatchResult, None, Ok, Some, false, option_map, true};
+ghost use mathlib.Core.List.{IsPrefix};
 ghost use Rattle.kx_machine.specs.Meaning.{IsTaken, NodeState, input_of, is_closed};
+ghost use Rattle.kx_model.specs.Log.{Stored};
+ghost use Rattle.kx_model.specs.Open.{AlwaysOpen};
+ghost use Rattle.kx_model.specs.Page.{Fetched, answer_to};
+ghost use Rattle.kx_model.specs.Reading.{committed_of};
+ghost use Rattle.kx_model.specs.World.{log_at};
 ghost use Rattle.kx_nodes.specs.Taking.{IsAnswer};
+ghost use Rattle.kx_pipeline.specs.Visible.{visible_in};
 ghost use Rattle.kx_published.specs.Written.{MarkerComesRight};
+ghost use Rattle.kx_published.specs.declared.publisher.Done.{Done};
 ghost use Rattle.kx_publishing.specs.Publishing.{HasShown, IsFirst, IsRestart, IsSeen, MayRestart};
-ghost use Rattle.kx_publishing.specs.Publishing.{Shows, WroteItself, comes_with, partition_of};
+ghost use Rattle.kx_publishing.specs.Publishing.{Shows, ShowsBeginning, WroteItself, comes_with};
+ghost use Rattle.kx_publishing.specs.Publishing.{partition_of};
 ghost use Rattle.kx_publishing.specs.Publishing.{shows_of};
 ghost use Rattle.kx_publishing.specs.declared.fault.PublishFault.TheVariants as refused;
 ghost use Rattle.kx_publishing.specs.declared.published_machine.Publishes.TheVariants as publishes;
@@ -16,8 +25,9 @@ use crate::fault::PublishFault;
 use crate::growing::Growing;
 use crate::readable::Readable;
 use kx_machine::{Input, steps_only_add};
-use kx_message::{Message, Node as NodeId, PartitionId};
+use kx_message::{Message, NodeId, PartitionId};
 use kx_nodes::{Locked, NodeFault, Receipt};
+use kx_pipeline::pages_show_what_is_visible;
 use kx_published::book::{Naming, Opened};
 use kx_published::ends::PageReader;
 use kx_published::publisher::Publisher;
@@ -51,7 +61,7 @@ pub struct Served {
 pub enum Tended {
     /// Its log was closed, and it took a restart, which answered this.
     Restarted(Served),
-    /// It took no step.
+    /// The machine took no step.
     Rested {
         /// As [`Served::is_shown`].
         is_shown: bool,
@@ -99,7 +109,7 @@ impl<L: Readable, J: Naming, R: Wait + Drop> Model for PublishedMachine<L, J, R>
 }
 
 impl<L: Readable, J: Naming, R: Wait + Drop> PublishedMachine<L, J, R> {
-    /// One whose log isn't published.
+    /// A machine whose log isn't published.
     pub fn new(locked: L) -> Self
         requires { (node : NodeState) × L.stands node locked }
         ensures locked { result.locked ≡ locked }
@@ -113,9 +123,9 @@ impl<L: Readable, J: Naming, R: Wait + Drop> PublishedMachine<L, J, R> {
         }
     }
 
-    /// One whose log is published under the book that was opened for its partition: the empty log
-    /// first, and the log as it stands by the next publish. At most `readers` readers exist at a
-    /// time. The copies take memory from `alloc`.
+    /// A machine whose log is published under the book that was opened for its partition: the empty
+    /// log first, and the log as it stands by the next publish. At most `readers` readers exist at
+    /// a time. The copies take memory from `alloc`.
     ///
     /// # Errors
     ///
@@ -243,9 +253,9 @@ impl<L: Readable, J: Naming, R: Wait + Drop> PublishedMachine<L, J, R> {
     }
 
     /// What the clock does for the machine at this time, in milliseconds since 1970. A closed log
-    /// is opened again by a step, as [`step`](PublishedMachine::step) makes one. Where the log isn't
-    /// closed there is no step, and the log is published if readers don't see it yet, as after a
-    /// publish that failed.
+    /// is opened again by a step, as [`step`](PublishedMachine::step) makes one. Where the log
+    /// isn't closed there is no step, and the log is published if readers don't see it yet, as
+    /// after a publish that failed.
     ///
     /// # Errors
     ///
@@ -310,6 +320,29 @@ impl<L: Readable, J: Naming, R: Wait + Drop> PublishedMachine<L, J, R> {
         }
     }
 
+    /// What readers take is a beginning of the node's own log. This does nothing when it runs.
+    pub fn readers_see_a_prefix(&self)
+        ensures { ShowsBeginning (L.log self.now.locked) self.now.published }
+    {
+        // Where a field is read, the invariant is known.
+        let _partition = self.partition;
+    }
+
+    /// A page of committed records that a reader takes gives it exactly the records of its range
+    /// that are visible in a world whose partition has the node's log: whatever clients ask
+    /// (KIP-98, "READ_COMMITTED"). It is so of the log that readers take now, and of each beginning
+    /// of it, as readers took before. This does nothing when it runs.
+    pub fn readers_see_what_is_visible(&self)
+        ensures { AlwaysOpen (λ w. (partition : ℕ) → log_at w partition ≡ L.log self.now.locked
+            → (done : Done) → self.now.published ≡ Some done
+            → (log : List Stored) → IsPrefix log done.shown → (from : ℤ) (room : ℕ)
+            (got : Fetched) → answer_to log from room true ≡ Ok got
+            → committed_of got ≡ visible_in w partition from got.next) }
+    {
+        self.readers_see_a_prefix();
+        pages_show_what_is_visible();
+    }
+
     /// A reader that knows of the publishes so far. It may stay when the machine has gone, and
     /// finds the log [`Gone`](kx_published::ends::Gone) then.
     ///
@@ -361,7 +394,9 @@ impl<L: Readable, J: Naming, R: Wait + Drop> Locked for PublishedMachine<L, J, R
     }
 
     fn take(&mut self, input: Input) -> Result<Receipt, NodeFault> {
-        match self.step(input) {
+        let stepped = self.step(input);
+        self.readers_see_a_prefix();
+        match stepped {
             Ok(served) => Ok(served.receipt),
             Err(fault) => Err(fault),
         }

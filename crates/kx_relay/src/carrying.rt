@@ -17,7 +17,7 @@ pub struct Draw {
 }
 
 impl Draw {
-    /// Loses so many of a hundred, drawn from a seed.
+    /// Loses this many of a hundred, drawn from a seed.
     pub fn new(losses: Losses, seed: u64) -> Draw {
         Draw {
             losses,

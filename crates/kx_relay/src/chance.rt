@@ -1,4 +1,7 @@
 //! Which frames are lost.
+//!
+//! One generator draws for all frames, in whatever order they arrive, so a seed doesn't determine a
+//! run of threads.
 ghost use Rattle.std.specs.Prelude.{◌≡◌};
 ghost use Rattle.std.specs.Bool.{Decides};
 ghost use Rattle.kx_relay.specs.Chance.{IsLost, next_draw};
@@ -34,7 +37,7 @@ impl Chance {
         Chance { drawn: seed }
     }
 
-    /// Draws for the next frame: whether it is lost, where so many of a hundred are.
+    /// Draws for the next frame: whether it is lost, where this many of a hundred are.
     pub fn loses(&mut self, losses: Losses) -> bool
         ensures drawn { self.new ≡ next_draw self.old }
         ensures lost { Decides result (IsLost losses (next_draw self.old)) }

@@ -9,7 +9,7 @@ use std::collections::VecDeque;
 use std::marker::Model;
 
 /// The copies of the last frames, in order: of each its copy, or none of one that was lost. A copy
-/// goes out when so many further frames have gone as are held.
+/// goes out when this many further frames have gone as are held.
 #[derive(Drop)]
 pub struct Delayed {
     holding: Holding,
@@ -28,7 +28,7 @@ impl Model for Delayed {
 }
 
 impl Delayed {
-    /// No copy.
+    /// A queue without copies.
     pub fn new(alloc: Global, holding: Holding) -> Delayed
         ensures { result ≡ record { holding = holding; copies = [] } }
     {
@@ -42,7 +42,7 @@ impl Delayed {
     ///
     /// # Errors
     ///
-    /// Only for want of memory; then nothing is changed, and the copy is lost.
+    /// Only where memory runs out; then nothing is changed, and the copy is lost.
     pub fn keep(&mut self, copy: Option<Message>) -> Result<Option<Message>, AllocError>
         ensures { MatchResult result
             (λ due. (due ≡ due_of self.old copy) × (self.new ≡ delayed_after self.old copy))

@@ -18,7 +18,7 @@ pub struct Passed {
     pub again: Option<Message>,
 }
 
-/// One direction of a relay: each frame that isn't lost goes out at once, and again when so many
+/// One direction of a relay: each frame that isn't lost goes out at once, and again when this many
 /// further frames have come as are held.
 #[derive(Drop)]
 pub struct Line {
@@ -47,7 +47,7 @@ impl Line {
     ///
     /// # Errors
     ///
-    /// Only for want of memory; then nothing goes out, and the line is as before.
+    /// Only where memory runs out; then nothing goes out, and the line is as before.
     pub fn pass(&mut self, message: Message, is_lost: bool) -> Result<Passed, AllocError>
         ensures { MatchResult result
             (λ passed. (passed.now ≡ (if is_lost then None else Some message))

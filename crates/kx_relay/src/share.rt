@@ -28,7 +28,7 @@ impl Model for Losses {
 }
 
 impl Losses {
-    /// So many of a hundred, or None where they are more than 50.
+    /// Losses of this many frames of a hundred, or None where that is more than 50.
     pub fn new(percent: u8) -> Option<Losses>
         ensures { MatchOption result (IsLosses percent → ⊥)
             (λ it. (it ≡ percent) × IsLosses percent) }
@@ -66,7 +66,7 @@ impl Model for Holding {
 }
 
 impl Holding {
-    /// So many frames, or None where they are more than 8.
+    /// Holding back by this many frames, or None where that is more than 8.
     pub fn new(frames: usize) -> Option<Holding>
         ensures { MatchOption result (IsHolding frames → ⊥)
             (λ it. (it ≡ frames) × IsHolding frames) }

@@ -6,7 +6,7 @@ use Rattle.std.specs.Io.KnownBytes.{Appends}
 use Rattle.kx_message.specs.Ranges.{offsets_partition}
 use Rattle.kx_message.specs.Values.{where_true}
 use Rattle.kx_message.specs.declared.code.ErrorCode.{ErrorCode}
-use Rattle.kx_message.specs.declared.message.Node.{Node}
+use Rattle.kx_message.specs.declared.message.NodeId.{NodeId}
 use Rattle.kx_model.specs.Groups.{OffsetAnswer, offset_fetch}
 use Rattle.kx_model.specs.Page.{Fetched, Page, as_fetched, fetched_of}
 use Rattle.kx_model.specs.World.{entries_at}
@@ -75,7 +75,7 @@ shows_offset s group partition stable answer e a =
     (offset_text (offset_fetch entries group partition stable), Some s) e
     ∙ ap (λ (x : OffsetAnswer). Some (offset_text x, Some s)) (sym a)
 
-pub lets_fail : (s : Session) (place : Node) (left : Left)
+pub lets_fail : (s : Session) (place : NodeId) (left : Left)
     → has_node s.system.world place ≡ true
     → performed (Some s) (order.Fail place left)
     ≡ Some (dash_text, Some (record s { marks = with_mark s.marks place (Some left) }))

@@ -5,8 +5,8 @@ use Rattle.std.specs.Option.{option_or}
 use Rattle.kx_varint.specs.Text.{◌>>=◌}
 use Rattle.kx_message.specs.Ranges.{data_partitions, offsets_partition}
 use Rattle.kx_message.specs.Values.{name_with, where_true}
-use Rattle.kx_message.specs.declared.message.Node.{Node}
-use Rattle.kx_message.specs.declared.message.Node.TheVariants as node
+use Rattle.kx_message.specs.declared.message.NodeId.{NodeId}
+use Rattle.kx_message.specs.declared.message.NodeId.TheVariants as node
 use Rattle.kx_message.specs.declared.outcome.Outcome.TheVariants.{Abort, Commit}
 use Rattle.kx_text.specs.Mode.{default_max, mode_of}
 use Rattle.kx_text.specs.Words.{below, number_below, number_of, words_of}
@@ -80,13 +80,13 @@ abbrev pub txn_of : List ℕ → Option (Option (List ℕ))
 txn_of word = if bytes_eq word (codes "-") then Some None else option_map Some (name_of word)
 
 -- `p` and the number of a data partition
-abbrev pub server_of : List ℕ → Option Node
+abbrev pub server_of : List ℕ → Option NodeId
 server_of [] = None
 server_of (byte ∷ digits) =
     if byte == 112 then option_map node.Partition (partition_of digits) else None
 
 -- a node that has a log
-abbrev pub node_of : List ℕ → Option Node
+abbrev pub node_of : List ℕ → Option NodeId
 node_of word =
     if bytes_eq word (codes "co") then Some node.Coordinator
     else if bytes_eq word (codes "po") then Some (node.Partition offsets_partition)

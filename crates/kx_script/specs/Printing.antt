@@ -11,7 +11,7 @@ use Rattle.kx_message.specs.Ranges.{partition_text}
 use Rattle.kx_message.specs.Receiver.{receiver_of}
 use Rattle.kx_message.specs.declared.code.ErrorCode.{ErrorCode}
 use Rattle.kx_message.specs.declared.message.Message.{Message}
-use Rattle.kx_message.specs.declared.message.Node.{Node}
+use Rattle.kx_message.specs.declared.message.NodeId.{NodeId}
 use Rattle.kx_message.specs.declared.outcome.Outcome.TheVariants.{Abort, Commit}
 use Rattle.kx_model.specs.Coordinator.{Row, State, Empty, Ongoing, Prepare, Complete}
 use Rattle.kx_text.specs.Pages.{answer_text, newline}
@@ -23,23 +23,23 @@ dash_text = codes "-" ++ newline
 ------ a step
 
 -- a message that a node hands out, with its number among all that were handed out
-abbrev pub message_line : ℕ → Node → Message → List ℕ
+abbrev pub message_line : ℕ → NodeId → Message → List ℕ
 message_line number from m =
     codes "#" ++ decimal number ++ codes " " ++ node_text from ++ codes ">"
     ++ node_text (receiver_of m) ++ codes " " ++ message_text m ++ newline
 
 -- the same, where there is such a message
-abbrev pub optional_line : ℕ → Node → Option Message → List ℕ
+abbrev pub optional_line : ℕ → NodeId → Option Message → List ℕ
 optional_line number from None = []
 optional_line number from (Some m) = message_line number from m
 
 -- messages that a node hands out, of which the first has this number
-abbrev pub message_lines : ℕ → Node → List Message → List ℕ
+abbrev pub message_lines : ℕ → NodeId → List Message → List ℕ
 message_lines number from [] = []
 message_lines number from (m ∷ messages) =
     message_line number from m ++ message_lines (number + 1) from messages
 
-abbrev pub messages_text : ℕ → Node → List Message → List ℕ
+abbrev pub messages_text : ℕ → NodeId → List Message → List ℕ
 messages_text number from [] = dash_text
 messages_text number from (m ∷ messages) = message_lines number from (m ∷ messages)
 

@@ -3,7 +3,7 @@ use Rattle.std.specs.Prelude.{◌≡◌, Option, None, Some, IsSome, Result, Ok,
 use Rattle.std.specs.declared.alloc.AllocError.{AllocError}
 use Rattle.kx_model.specs.Step.{Input}
 use Rattle.kx_machine.specs.Meaning.{note_of}
-use Rattle.kx_message.specs.declared.message.Node.{Node}
+use Rattle.kx_message.specs.declared.message.NodeId.{NodeId}
 use Rattle.kx_script.specs.Script.{State}
 use Rattle.kx_core.specs.World.{place_of, store_fails}
 use Rattle.kx_script.specs.Session.{Session, event_of, hands}
@@ -31,7 +31,7 @@ pub record Occurs (s : System) (event : SystemEvent) (Stands : System → Type 0
 
 -- what was to happen has happened at a node, and was answered so
 pub record CarriesOut (s : Session) (what : Happening) (Stands : System → Type 0)
-    (place : Node) (happened : Happened) : Type 0 where
+    (place : NodeId) (happened : Happened) : Type 0 where
   pub event : SystemEvent
   pub is : event_of s what ≡ Some event
   pub place_is : place ≡ place_of event
@@ -40,14 +40,14 @@ pub record CarriesOut (s : Session) (what : Happening) (Stands : System → Type
 -- what a world answers to what is to happen: nothing where it may not stand, want of memory, or
 -- what the node answers
 abbrev pub Carried : Session → Happening → (System → Type 0)
-    → Result (Option (Node × Happened)) AllocError → Type 0
+    → Result (Option (NodeId × Happened)) AllocError → Type 0
 Carried s what Stands (Ok None) = event_of s what ≡ None
 Carried s what Stands (Ok (Some d)) = CarriesOut s what Stands d.0 d.1
 Carried s what Stands (Err refused) = IsSome (event_of s what) × Stands s.system
 
 -- the same of what is always there: this node takes this input
-abbrev pub Marked : Session → Node → Input → (System → Type 0)
-    → Result (Option (Node × Happened)) AllocError → Type 0
+abbrev pub Marked : Session → NodeId → Input → (System → Type 0)
+    → Result (Option (NodeId × Happened)) AllocError → Type 0
 Marked s to input Stands (Ok None) = ⊥
 Marked s to input Stands (Ok (Some d)) =
     (d.0 ≡ to) × Occurs s.system (hands s to input) Stands d.1

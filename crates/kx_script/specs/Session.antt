@@ -8,8 +8,8 @@ use Rattle.kx_message.specs.Ranges.{data_partitions, offsets_partition}
 use Rattle.kx_message.specs.Receiver.{receiver_of}
 use Rattle.kx_message.specs.Values.{where_true}
 use Rattle.kx_message.specs.declared.message.Message.{Message}
-use Rattle.kx_message.specs.declared.message.Node.{Node}
-use Rattle.kx_message.specs.declared.message.Node.TheVariants as node
+use Rattle.kx_message.specs.declared.message.NodeId.{NodeId}
+use Rattle.kx_message.specs.declared.message.NodeId.TheVariants as node
 use Rattle.kx_model.specs.Disk.{Store, Works}
 use Rattle.kx_model.specs.Step.{Input, Commands, Expires, Reminds, Drops, Puts, Restarts}
 use Rattle.kx_model.specs.World.{World, Make, Deliver, Hand, client_at, is_new}
@@ -31,14 +31,14 @@ no_marks =
     record { coordinator = None; partitions = replicate data_partitions None; offsets = None }
 
 -- what the next append of a node is to leave, where it is to fail
-abbrev pub mark_at : Marks → Node → Option Left
+abbrev pub mark_at : Marks → NodeId → Option Left
 mark_at marks node.Coordinator = marks.coordinator
 mark_at marks (node.Partition number) =
     if number == offsets_partition then marks.offsets
     else slice_index_or marks.partitions number None
 mark_at marks (node.Client number) = None
 
-abbrev pub with_mark : Marks → Node → Option Left → Marks
+abbrev pub with_mark : Marks → NodeId → Option Left → Marks
 with_mark marks node.Coordinator mark = record marks { coordinator = mark }
 with_mark marks (node.Partition number) mark = record marks {
   offsets = if number == offsets_partition then mark else marks.offsets;
@@ -53,7 +53,7 @@ abbrev pub has_partition : World → ℕ → Bool
 has_partition w number = nat_lt number (length w.partitions)
 
 -- a node that has a log
-abbrev pub has_node : World → Node → Bool
+abbrev pub has_node : World → NodeId → Bool
 has_node w node.Coordinator = true
 has_node w (node.Partition number) = number == offsets_partition || has_partition w number
 has_node w (node.Client number) = false
@@ -73,7 +73,7 @@ abbrev pub opening : ℕ → Session
 opening count = record { system = start_system count; marks = no_marks }
 
 -- what a node's store does in its next step
-abbrev pub store_at : Session → Node → Store
+abbrev pub store_at : Session → NodeId → Store
 store_at s place = store_of (mark_at s.marks place)
 
 -- how long a client's transactions may stay open, in milliseconds
@@ -81,7 +81,7 @@ abbrev pub timeout : ℕ
 timeout = 60000
 
 -- a node is handed an input, while its store does what its next step does
-abbrev pub hands : Session → Node → Input → SystemEvent
+abbrev pub hands : Session → NodeId → Input → SystemEvent
 hands s to input = Happens (Hand to input (store_at s to))
 
 -- a message comes to the node that it is for
@@ -112,7 +112,7 @@ event_of s (happening.Restart place) = where_true (has_node s.system.world place
     (Happens (Hand place (Restarts s.system.world.clock) Works))
 
 -- an append that was to fail has failed
-abbrev pub marks_after : Marks → Node → Bool → Marks
+abbrev pub marks_after : Marks → NodeId → Bool → Marks
 marks_after marks place true = with_mark marks place None
 marks_after marks place false = marks
 

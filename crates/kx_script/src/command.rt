@@ -4,7 +4,7 @@ ghost use Rattle.kx_script.specs.Command as spells;
 
 use crate::order::{Batch, Happening, Left, Order, Task};
 use kx_core::PartitionCount;
-use kx_message::{ClientId, GroupId, Node, Outcome, PartitionId, PartitionOffset, TxnId};
+use kx_message::{ClientId, GroupId, NodeId, Outcome, PartitionId, PartitionOffset, TxnId};
 use kx_processor::Inputs;
 use kx_text::{DEFAULT_MAX, Words, mode_of, number, number_below, words_of};
 
@@ -69,7 +69,7 @@ fn client_of(word: &[u8]) -> Option<ClientId>
 fn partition_of(word: &[u8]) -> Option<PartitionId>
     ensures { result ≡ spells.partition_of word.now }
 {
-    let number = number_below(word, 16)?;
+    let number = number_below(word, u64::from(PartitionId::DATA_COUNT))?;
     PartitionId::try_from(number as u16).ok()
 }
 
@@ -116,7 +116,7 @@ fn txn_of(word: &[u8]) -> Option<Option<TxnId>>
 }
 
 // `p` and the number of a data partition.
-fn server_of(word: &[u8]) -> Option<Node>
+fn server_of(word: &[u8]) -> Option<NodeId>
     ensures { result ≡ spells.server_of word.now }
 {
     let (first, digits) = word.split_first()?;
@@ -124,17 +124,17 @@ fn server_of(word: &[u8]) -> Option<Node>
         return None;
     }
     let partition = partition_of(digits)?;
-    Some(Node::Partition(partition))
+    Some(NodeId::Partition(partition))
 }
 
 // A node that has a log.
-fn node_of(word: &[u8]) -> Option<Node>
+fn node_of(word: &[u8]) -> Option<NodeId>
     ensures { result ≡ spells.node_of word.now }
 {
     if word == b"co".as_slice() {
-        Some(Node::Coordinator)
+        Some(NodeId::Coordinator)
     } else if word == b"po".as_slice() {
-        Some(Node::Partition(PartitionId::OFFSETS))
+        Some(NodeId::Partition(PartitionId::OFFSETS))
     } else {
         server_of(word)
     }
@@ -164,7 +164,7 @@ fn stable_of(word: &[u8]) -> Option<bool>
     }
 }
 
-// A command that has nothing behind the client's number.
+// A command that has nothing after the client's number.
 fn plain_task<'a>(task: Task<'a>, words: Words<'_>) -> Option<Order<'a>>
     ensures { result ≡ spells.plain_task task.entry words.entry }
 {
@@ -447,8 +447,8 @@ fn order_as<'a>(name: Name, words: Words<'a>) -> Option<Order<'a>>
     }
 }
 
-/// The order that a line spells, or None where it spells none: a word of it is none, its first
-/// word names no order, or those behind it are not what that one needs.
+/// The order that a line spells, or None where it spells none: a word of it is none, its first word
+/// names no order, or those after it are not what that one needs.
 pub fn order_in<'a>(line: &'a [u8]) -> Option<Order<'a>>
     ensures { result ≡ spells.order_in line.now }
 {

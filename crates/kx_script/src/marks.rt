@@ -1,5 +1,8 @@
 //! Which appends of nodes are to fail.
-ghost use Rattle.std.specs.Prelude.{◌≡◌};
+//!
+//! The mark is told to the store anew in each step, so a schedule is all that has to be said of a
+//! run.
+ghost use Rattle.std.specs.Prelude.{◌≡◌, ℕ, Option};
 ghost use Rattle.kx_machine.specs.Stores.{IsMode};
 ghost use Rattle.kx_model.specs.Disk.{Store};
 ghost use Rattle.kx_script.specs.Order.{store_of};
@@ -7,7 +10,7 @@ ghost use Rattle.kx_script.specs.Session.{mark_at, no_marks, with_mark};
 
 use crate::order::Left;
 use kx_machine::StoreMode;
-use kx_message::Node;
+use kx_message::NodeId;
 
 /// Of each node what its next append leaves in its store, where it is to fail. What a restart
 /// appends doesn't count.
@@ -22,7 +25,7 @@ pub struct Marks {
 }
 
 impl Marks {
-    /// No append is to fail.
+    /// Marks by which no append fails.
     pub fn none() -> Marks
         ensures { result ≡ no_marks }
     {
@@ -34,33 +37,34 @@ impl Marks {
     }
 
     /// What the next append of a node is to leave, where it is to fail.
-    pub fn at(&self, node: &Node) -> Option<Left>
+    pub fn at(&self, node: &NodeId) -> Option<Left>
         ensures { result ≡ mark_at self.now node.now }
     {
         match node {
-            Node::Coordinator => self.coordinator,
-            Node::Partition(partition) if !partition.is_data() => self.offsets,
-            Node::Partition(partition) => self.partitions[partition.get() as usize],
-            Node::Client(_) => None,
+            NodeId::Coordinator => self.coordinator,
+            NodeId::Partition(partition) if !partition.is_data() => self.offsets,
+            NodeId::Partition(partition) => self.partitions[partition.get() as usize],
+            NodeId::Client(_) => None,
         }
     }
 
     /// Lets the next append of a node fail, or takes that back.
-    pub fn set(&mut self, node: &Node, mark: Option<Left>)
+    pub fn set(&mut self, node: &NodeId, mark: Option<Left>)
         ensures { self.new ≡ with_mark self.old node.now mark }
     {
         match node {
-            Node::Coordinator => self.coordinator = mark,
-            Node::Partition(partition) if !partition.is_data() => self.offsets = mark,
-            Node::Partition(partition) => self.partitions[partition.get() as usize] = mark,
-            Node::Client(_) => {}
+            NodeId::Coordinator => self.coordinator = mark,
+            NodeId::Partition(partition) if !partition.is_data() => self.offsets = mark,
+            NodeId::Partition(partition) => self.partitions[partition.get() as usize] = mark,
+            NodeId::Client(_) => {}
         }
     }
 }
 
 /// What a node's store does in a step, where its next append is to fail or not.
 pub fn mode_of(mark: Option<Left>) -> StoreMode
-    ensures { (store : Store) → IsMode result store → store ≡ store_of mark }
+    ensures { (size : Option ℕ) (store : Store) → IsMode result size store
+        → store ≡ store_of mark }
 {
     match mark {
         None => StoreMode::Works,

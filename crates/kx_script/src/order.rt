@@ -3,7 +3,7 @@ ghost use Rattle.std.specs.Prelude.{◌≡◌};
 ghost use Rattle.kx_script.specs.Command.{front};
 
 use kx_core::PartitionCount;
-use kx_message::{ClientId, GroupId, Node, Outcome, PartitionId, PartitionOffset, TxnId};
+use kx_message::{ClientId, GroupId, NodeId, Outcome, PartitionId, PartitionOffset, TxnId};
 use kx_processor::Inputs;
 use kx_text::{Mode, Words};
 use std::marker::Model;
@@ -32,7 +32,7 @@ impl<'a> Batch<'a> {
         Some(Batch { first, more: words })
     }
 
-    /// The first word, and those behind it.
+    /// The first word, and those after it.
     pub fn into_parts(self) -> (&'a [u8], Words<'a>)
         ensures { self.entry ≡ (result.0.now, result.1) }
     {
@@ -57,9 +57,9 @@ pub enum Task<'a> {
     Offset(PartitionOffset),
     /// Ends the transaction.
     End(Outcome),
-    /// Hands out again what is unanswered.
+    /// Sends again what is unanswered.
     Resend,
-    /// Hands out the next request of a processor; any other client refuses.
+    /// Sends the next request of a processor; any other client refuses.
     Poll,
 }
 
@@ -78,7 +78,7 @@ pub enum Happening<'a> {
     /// `client N TXN`: a client of this number is made, with a transactional id or without.
     Client(ClientId, Option<TxnId>),
     /// `processor N TXN G K`: a processor of this number is made in the same way, in a group and
-    /// with so many input partitions.
+    /// with this many input partitions.
     Processor(ClientId, Option<TxnId>, GroupId, Inputs),
     /// A client is told to do something.
     Tell(ClientId, Task<'a>),
@@ -86,27 +86,27 @@ pub enum Happening<'a> {
     Put(PartitionId, Batch<'a>),
     /// `deliver K`: the message of this number comes to its node.
     Deliver(usize),
-    /// `expire T`: it is this moment, in milliseconds.
+    /// `expire T`: it is this time, in milliseconds.
     Expire(u64),
-    /// `remind`: the coordinator hands out again the markers that weren't answered.
+    /// `remind`: the coordinator sends again the markers that weren't answered.
     Remind,
     /// `drop G M`: a member is dropped from a group.
     Drop(GroupId, ClientId),
     /// `restart NODE`: the node is opened again.
-    Restart(Node),
+    Restart(NodeId),
 }
 
 /// What a line of a script asks for.
 #[derive(Drop)]
 pub enum Order<'a> {
-    /// `world P`: so many data partitions, and all other nodes, with empty logs.
+    /// `world P`: this many data partitions, and all other nodes, with empty logs.
     World(PartitionCount),
     /// Something happens in the world.
     Happen(Happening<'a>),
     /// `fail NODE MODE`: the next append of the node, but for that of a restart, fails.
-    Fail(Node, Left),
+    Fail(NodeId, Left),
     /// `fetch P FROM MODE [MAX]`: the records of a data partition from an offset on, in whole
-    /// batches of at most so many bytes; all of them, or the committed ones.
+    /// batches of at most this many bytes; all of them, or the committed ones.
     Fetch(PartitionId, i64, Mode, u32),
     /// `offset G Q MODE`: a group's committed offset of a data partition, and whether it has to be
     /// stable.

@@ -8,23 +8,23 @@ ghost use Rattle.kx_txnlog.specs.Entry.{row_of};
 ghost use Rattle.kx_txnlog.specs.State.{state_of};
 
 use kx_client::ClientFault;
-use kx_message::{ErrorCode, Message, Node, Outcome, PartitionId};
+use kx_message::{ErrorCode, Message, NodeId, Outcome, PartitionId};
 use kx_txnlog::{Row, State};
 use std::io;
 use std::io::Write;
 
-/// Writes that nothing was handed out, or that there is nothing to show.
+/// Writes that nothing was sent, or that there is nothing to show.
 pub fn write_dash<W: Write>(writer: &mut W) -> io::Result<()>
     ensures { OnOk result (Appends (W.contents writer.old) (W.contents writer.new) dash_text) }
 {
     writer.write_all(b"-\n")
 }
 
-/// Writes a message that a node hands out, with its number among all that were handed out.
+/// Writes a message that a node sends, with its number among all that were sent.
 pub fn write_message<W: Write>(
     writer: &mut W,
     number: usize,
-    from: &Node,
+    from: &NodeId,
     message: &Message,
 ) -> io::Result<()>
     ensures { OnOk result (Appends (W.contents writer.old) (W.contents writer.new)
@@ -88,7 +88,7 @@ fn state_number(state: State) -> u8
     }
 }
 
-// Writes partitions, each behind a comma.
+// Writes partitions, each after a comma.
 fn write_more<W: Write>(writer: &mut W, partitions: &[PartitionId]) -> io::Result<()>
     ensures { OnOk result (Appends (W.contents writer.old) (W.contents writer.new)
         (more_partitions partitions.now)) }

@@ -6,8 +6,8 @@ use kx_processor::Prefixed;
 use kx_txnlog::Row;
 use std::alloc::{AllocError, Global};
 
-/// A world of running nodes: it takes one event at a time, keeps all messages that its nodes hand
-/// out, and can be looked into.
+/// A world of running nodes: it takes one event at a time, keeps all messages that its nodes send,
+/// and can be looked into.
 pub trait Runs: Drop {
     ghost use Rattle.std.specs.Prelude.{◌≡◌, Ok, IfOk, MatchResult, is_some, length, map};
     ghost use Rattle.std.specs.Prelude.{option_copied, slice_get, true};
@@ -26,11 +26,11 @@ pub trait Runs: Drop {
     // the system of the definitions for which it stands
     ghost stands: { System → Self → Type 0 };
 
-    /// The coordinator, so many data partitions and the offsets partition, with empty logs.
+    /// The coordinator, this many data partitions and the offsets partition, with empty logs.
     ///
     /// # Errors
     ///
-    /// Only for want of memory.
+    /// Only where memory runs out.
     fn start(alloc: Global, partitions: PartitionCount) -> Result<Self, AllocError>
         ensures { IfOk result (λ world. stands (start_system partitions) world) };
 
@@ -38,7 +38,7 @@ pub trait Runs: Drop {
     ///
     /// # Errors
     ///
-    /// Only for want of memory; then nothing happens.
+    /// Only where memory runs out; then nothing happens.
     fn happen(&mut self, event: &Event<Prefixed>) -> Result<Happened, AllocError>
         ensures { (s : System) → stands s self.old → MatchResult result
             (Steps images_of s event.now (λ t. stands t self.new))
@@ -48,7 +48,7 @@ pub trait Runs: Drop {
     fn partitions(&self) -> usize
         ensures { (s : System) → stands s self.now → result ≡ length s.world.partitions };
 
-    /// How many messages were ever handed out.
+    /// How many messages were ever sent.
     fn sent(&self) -> usize
         ensures { (s : System) → stands s self.now → result ≡ length s.world.sent };
 
@@ -65,7 +65,7 @@ pub trait Runs: Drop {
     fn is_new(&self, client: ClientId) -> bool
         ensures { (s : System) → stands s self.now → result ≡ is_new client s.world.clients };
 
-    /// The greatest moment of an expiry.
+    /// The greatest time of an expiry.
     fn clock(&self) -> u64
         ensures { (s : System) → stands s self.now → result ≡ s.world.clock };
 

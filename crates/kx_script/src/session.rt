@@ -25,7 +25,7 @@ use crate::runs::Runs;
 use crate::values::{command_of, values_of};
 use kx_core::{Event, Happened};
 use kx_machine::{Input, Note};
-use kx_message::{ClientId, GroupId, Node, PartitionId, Timeout, TxnId};
+use kx_message::{ClientId, GroupId, NodeId, PartitionId, Timeout, TxnId};
 use kx_partition::FetchFault;
 use kx_processor::{Inputs, Prefixed};
 use kx_text::{Mode, ScriptFault, show, write_answer, write_refusal, written};
@@ -53,14 +53,14 @@ fn has_partition<N: Runs>(world: &N, partition: PartitionId) -> bool
 }
 
 // Whether a node is there that has a log.
-fn has_node<N: Runs>(world: &N, node: &Node) -> bool
+fn has_node<N: Runs>(world: &N, node: &NodeId) -> bool
     ensures { (s : System) → N.stands s world.now → result ≡ has_node s.world node.now }
 {
     match node {
-        Node::Coordinator => true,
-        Node::Partition(partition) if !partition.is_data() => true,
-        Node::Partition(partition) => has_partition(world, *partition),
-        Node::Client(_) => false,
+        NodeId::Coordinator => true,
+        NodeId::Partition(partition) if !partition.is_data() => true,
+        NodeId::Partition(partition) => has_partition(world, *partition),
+        NodeId::Client(_) => false,
     }
 }
 
@@ -84,7 +84,7 @@ fn has_named<N: Runs>(world: &N, task: &Task<'_>) -> bool
 // A node is handed an input, while its next append is to fail or not.
 fn hand<N: Runs>(
     world: &mut N,
-    to: &Node,
+    to: &NodeId,
     input: Input,
     mark: Option<Left>,
 ) -> Result<Happened, AllocError>
@@ -104,7 +104,7 @@ fn hand<N: Runs>(
 fn bring<N: Runs>(
     world: &mut N,
     number: usize,
-    to: &Node,
+    to: &NodeId,
     mark: Option<Left>,
 ) -> Result<Happened, AllocError>
     ensures { (s : System) → N.stands s world.old → MatchResult result
@@ -124,7 +124,7 @@ fn make<N: Runs>(
     world: &mut N,
     number: ClientId,
     txn: Option<TxnId>,
-) -> Result<Option<(Node, Happened)>, AllocError>
+) -> Result<Option<(NodeId, Happened)>, AllocError>
     ensures { (s : Session) → N.stands s.system world.old
         → Carried s (happening.Client number txn) (λ t. N.stands t world.new) result }
 {
@@ -137,7 +137,7 @@ fn make<N: Runs>(
         txn,
         timeout,
     })?;
-    Ok(Some((Node::Client(number), happened)))
+    Ok(Some((NodeId::Client(number), happened)))
 }
 
 // A processor is made, if its number is above those of all clients.
@@ -148,7 +148,7 @@ fn make_processor<N: Runs>(
     txn: Option<TxnId>,
     group: GroupId,
     inputs: Inputs,
-) -> Result<Option<(Node, Happened)>, AllocError>
+) -> Result<Option<(NodeId, Happened)>, AllocError>
     ensures { (s : Session) → N.stands s.system world.old
         → Carried s (happening.Processor client txn group inputs) (λ t. N.stands t world.new)
         result }
@@ -165,7 +165,7 @@ fn make_processor<N: Runs>(
         inputs,
         process: Prefixed::new(alloc),
     })?;
-    Ok(Some((Node::Client(client), happened)))
+    Ok(Some((NodeId::Client(client), happened)))
 }
 
 // A client is told to do something, if it is there, and the partition that is named.
@@ -174,7 +174,7 @@ fn tell<N: Runs>(
     world: &mut N,
     number: ClientId,
     task: Task<'_>,
-) -> Result<Option<(Node, Happened)>, AllocError>
+) -> Result<Option<(NodeId, Happened)>, AllocError>
     ensures { (s : Session) → N.stands s.system world.old
         → Carried s (happening.Tell number task.entry) (λ t. N.stands t world.new) result }
 {
@@ -182,7 +182,7 @@ fn tell<N: Runs>(
         return Ok(None);
     }
     let command = command_of(alloc, task)?;
-    let to = Node::Client(number);
+    let to = NodeId::Client(number);
     let happened = hand(world, &to, Input::Command(command), None)?;
     Ok(Some((to, happened)))
 }
@@ -194,7 +194,7 @@ fn put<N: Runs>(
     marks: &Marks,
     partition: PartitionId,
     batch: Batch<'_>,
-) -> Result<Option<(Node, Happened)>, AllocError>
+) -> Result<Option<(NodeId, Happened)>, AllocError>
     ensures { (s : Session) → N.stands s.system world.old → marks.now ≡ s.marks
         → Carried s (happening.Put partition batch.entry) (λ t. N.stands t world.new) result }
 {
@@ -202,7 +202,7 @@ fn put<N: Runs>(
         return Ok(None);
     }
     let values = values_of(alloc, batch)?;
-    let to = Node::Partition(partition);
+    let to = NodeId::Partition(partition);
     let happened = hand(world, &to, Input::Put(values), marks.at(&to))?;
     Ok(Some((to, happened)))
 }
@@ -212,7 +212,7 @@ fn deliver<N: Runs>(
     world: &mut N,
     marks: &Marks,
     number: usize,
-) -> Result<Option<(Node, Happened)>, AllocError>
+) -> Result<Option<(NodeId, Happened)>, AllocError>
     ensures { (s : Session) → N.stands s.system world.old → marks.now ≡ s.marks
         → Carried s (happening.Deliver number) (λ t. N.stands t world.new) result }
 {
@@ -225,7 +225,7 @@ fn deliver<N: Runs>(
 }
 
 // A node is opened again, if it is there and has a log. What it appends then doesn't fail.
-fn restart<N: Runs>(world: &mut N, to: Node) -> Result<Option<(Node, Happened)>, AllocError>
+fn restart<N: Runs>(world: &mut N, to: NodeId) -> Result<Option<(NodeId, Happened)>, AllocError>
     ensures { (s : Session) → N.stands s.system world.old
         → Carried s (happening.Restart to) (λ t. N.stands t world.new) result }
 {
@@ -241,9 +241,9 @@ fn restart<N: Runs>(world: &mut N, to: Node) -> Result<Option<(Node, Happened)>,
 fn hand_marked<N: Runs>(
     world: &mut N,
     marks: &Marks,
-    to: Node,
+    to: NodeId,
     input: Input,
-) -> Result<Option<(Node, Happened)>, AllocError>
+) -> Result<Option<(NodeId, Happened)>, AllocError>
     ensures { (s : Session) → N.stands s.system world.old → marks.now ≡ s.marks
         → Marked s to (input_of input) (λ t. N.stands t world.new) result }
 {
@@ -258,11 +258,11 @@ fn carry_out<N: Runs>(
     world: &mut N,
     marks: &Marks,
     what: Happening<'_>,
-) -> Result<Option<(Node, Happened)>, AllocError>
+) -> Result<Option<(NodeId, Happened)>, AllocError>
     ensures { (s : Session) → N.stands s.system world.old → marks.now ≡ s.marks
         → Carried s what.entry (λ t. N.stands t world.new) result }
 {
-    let offsets = Node::Partition(PartitionId::OFFSETS);
+    let offsets = NodeId::Partition(PartitionId::OFFSETS);
     match what {
         Happening::Client(number, txn) => make(world, number, txn),
         Happening::Processor(client, txn, group, inputs) => {
@@ -272,9 +272,9 @@ fn carry_out<N: Runs>(
         Happening::Put(partition, batch) => put(alloc, world, marks, partition, batch),
         Happening::Deliver(number) => deliver(world, marks, number),
         Happening::Expire(now) => {
-            hand_marked(world, marks, Node::Coordinator, Input::Expire(now))
+            hand_marked(world, marks, NodeId::Coordinator, Input::Expire(now))
         }
-        Happening::Remind => hand_marked(world, marks, Node::Coordinator, Input::Remind),
+        Happening::Remind => hand_marked(world, marks, NodeId::Coordinator, Input::Remind),
         Happening::Drop(group, member) => {
             hand_marked(world, marks, offsets, Input::Drop(group, member))
         }
@@ -283,7 +283,7 @@ fn carry_out<N: Runs>(
 }
 
 // Takes the mark of a node back, where its append has failed.
-fn settle(marks: &mut Marks, place: &Node, failed: bool)
+fn settle(marks: &mut Marks, place: &NodeId, failed: bool)
     ensures { marks.new ≡ marks_after marks.old place.now failed }
 {
     if failed {
@@ -295,7 +295,7 @@ fn settle(marks: &mut Marks, place: &Node, failed: bool)
 fn write_one<N: Runs, W: Write>(
     world: &N,
     number: usize,
-    from: &Node,
+    from: &NodeId,
     writer: &mut W,
 ) -> io::Result<()>
     ensures { (s : System) → N.stands s world.now
@@ -312,7 +312,7 @@ fn write_one<N: Runs, W: Write>(
 fn write_lines<N: Runs, W: Write>(
     world: &N,
     first: usize,
-    from: &Node,
+    from: &NodeId,
     writer: &mut W,
 ) -> io::Result<()>
     ensures { (s : System) → N.stands s world.now
@@ -325,11 +325,11 @@ fn write_lines<N: Runs, W: Write>(
     Ok(())
 }
 
-// Writes what a node hands out: the messages from a number on.
+// Writes what a node sends: the messages from a number on.
 fn write_messages<N: Runs, W: Write>(
     world: &N,
     first: usize,
-    from: &Node,
+    from: &NodeId,
     writer: &mut W,
 ) -> io::Result<()>
     ensures { (s : System) → N.stands s world.now
@@ -346,7 +346,7 @@ fn write_messages<N: Runs, W: Write>(
 fn write_step<N: Runs, W: Write>(
     world: &N,
     first: usize,
-    from: &Node,
+    from: &NodeId,
     note: Note,
     writer: &mut W,
 ) -> io::Result<()>
@@ -403,7 +403,7 @@ pub fn happen<N: Runs, W: Write>(
 /// [`ScriptFault::Write`] where the writer failed.
 pub fn fail<N: Runs, W: Write>(
     running: &mut Running<N>,
-    place: &Node,
+    place: &NodeId,
     left: Left,
     writer: &mut W,
 ) -> Result<bool, ScriptFault>

@@ -30,7 +30,7 @@ fn list_of(alloc: Global, words: Words<'_>) -> Result<ValueList, AllocError>
 ///
 /// # Errors
 ///
-/// Only for want of memory.
+/// Only where memory runs out.
 pub fn values_of(alloc: Global, batch: Batch<'_>) -> Result<Values, AllocError>
     ensures first { IfOk result (λ values. values.first ≡ batch.entry.0) }
     ensures more { IfOk result (λ values. values.more ≡ batch.entry.1) }
@@ -52,7 +52,7 @@ fn offsets_of(alloc: Global, offset: PartitionOffset) -> Result<Offsets, AllocEr
 ///
 /// # Errors
 ///
-/// Only for want of memory.
+/// Only where memory runs out.
 pub fn command_of(alloc: Global, task: Task<'_>) -> Result<Command, AllocError>
     ensures { IfOk result (λ command. machine.command_of command ≡ command_of task.entry) }
 {

@@ -5,30 +5,27 @@ use crate::options::Partitions;
 use crate::peer::Peer;
 use crate::speakers::Speakers;
 use kx_broker::{answer_fetch, page_room};
-use kx_message::{ClientId, Fetch, Message, Node as NodeId};
+use kx_message::{ClientId, Fetch, Message, NodeId};
 use kx_published::book::Naming;
 use kx_publishing::Readable;
-use kx_wire::{FrameFault, Frames};
+use kx_stream::{FrameReader, StreamFault};
 use std::alloc::{AllocError, Global};
 use std::sync::{Arc, Wait};
-
-// How many bytes are asked of a connection at once.
-const PIECE: usize = 65_536;
 
 /// A connection is closed by the server.
 #[derive(Drop)]
 pub(crate) struct Closed;
 
-/// Since memory ran out.
+/// Memory ran out.
 impl From<AllocError> for Closed {
     fn from(_: AllocError) -> Self {
         Closed
     }
 }
 
-/// Since bytes came that are no frame.
-impl From<FrameFault> for Closed {
-    fn from(_: FrameFault) -> Self {
+/// The connection can't be read, or bytes arrived that are no frame.
+impl From<StreamFault> for Closed {
+    fn from(_: StreamFault) -> Self {
         Closed
     }
 }
@@ -116,30 +113,15 @@ impl<L: Readable, J: Naming, R: Wait + Drop> Connection<L, J, R> {
         Ok(())
     }
 
-    // Takes the requests whose frames are whole with these bytes. What is no frame closes the
-    // connection once those before it were taken.
-    fn take_piece(&mut self, rt: &R, frames: &mut Frames, read: &[u8]) -> Result<(), Closed> {
-        let messages = frames.feed(read)?;
-        self.take_all(rt, messages)?;
-        frames.feed(&[])?;
-        Ok(())
-    }
-
-    // Takes requests until the other end closes.
+    // Takes requests until the other end closes. Bytes that are no frame close the connection once
+    // the requests before them were taken.
     fn take_stream(&mut self, rt: &R) -> Result<(), Closed> {
-        let mut piece = vec![in self.alloc; 0u8; PIECE]?;
-        let mut frames = Frames::new(self.alloc);
+        let mut frames = FrameReader::new(self.alloc)?;
         for _ in rt.forever() {
-            let Ok(count) = self.peer.read(piece.as_mut_slice()) else {
-                return Err(Closed);
-            };
-            if count == 0 {
-                return Ok(());
+            match self.peer.next(&mut frames)? {
+                Some(messages) => self.take_all(rt, messages)?,
+                None => return Ok(()),
             }
-            let Some(read) = piece.as_slice().get(..count) else {
-                return Err(Closed);
-            };
-            self.take_piece(rt, &mut frames, read)?;
         }
         Ok(())
     }

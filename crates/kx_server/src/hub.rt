@@ -4,25 +4,36 @@ use crate::peer::Peer;
 use crate::readers::Readers;
 use crate::routes::Routes;
 use kx_machine::Input;
-use kx_message::{ClientId, Message, Node as NodeId};
+use kx_message::{ClientId, Message, NodeId};
 use kx_nodes::{Gate, Handle, Node, NodeFault, Receipt};
 use kx_published::book::Naming;
 use kx_publishing::{PublishedMachine, PublishedNode, Readable, Tended};
-use std::alloc::AllocError;
+use std::alloc::{AllocError, Global};
+use std::mem;
 use std::sync::{Arc, Mutex, Wait};
 
 // While more messages than these wait for workers, no request is taken from a connection.
 const FEW_WAITING: u64 = 4095;
 
 /// A node of a server: its log may be published.
-pub(crate) type ServedNode<L, J, R> = Node<PublishedMachine<L, J, R>>;
+pub type ServedNode<L, J, R> = Node<PublishedMachine<L, J, R>>;
 
 /// A node of a server, and the readers of its log, where that is published.
 #[derive(Drop)]
-pub(crate) struct Place<L: Readable, J: Naming, R: Wait + Drop> {
+pub struct Place<L: Readable, J: Naming, R: Wait + Drop> {
     // dropped before the node, whose drop waits until they have left
     pub(crate) readers: Option<Readers<J>>,
     pub(crate) node: Arc<ServedNode<L, J, R>>,
+}
+
+impl<L: Readable, J: Naming, R: Wait + Drop> Place<L, J, R> {
+    /// A node without readers: each page is a step of the node.
+    pub fn unread(node: Arc<ServedNode<L, J, R>>) -> Self {
+        Place {
+            readers: None,
+            node,
+        }
+    }
 }
 
 /// Answers each client over the connection that spoke last for it.
@@ -50,7 +61,7 @@ impl<R: Wait + Drop> Answers<R> {
         Ok(())
     }
 
-    /// No reply goes over this connection any more.
+    /// Sends no reply over this connection any more.
     pub(crate) fn forget(&self, peer: &Peer) {
         self.routes.lock(&self.rt).forget(peer.number());
     }
@@ -89,17 +100,26 @@ impl<R: Wait + Drop> Gate for Answers<R> {
 /// What the threads of a server share.
 #[derive(Drop)]
 pub(crate) struct Hub<L: Readable, J: Naming, R: Wait + Drop> {
+    alloc: Global,
     places: Vec<Place<L, J, R>>,
     nodes: Handle<PublishedMachine<L, J, R>, Answers<R>>,
+    // the receipts of steps that no worker made; None once some were lost
+    kept: Mutex<Option<Vec<Receipt>>>,
 }
 
 impl<L: Readable, J: Naming, R: Wait + Drop> Hub<L, J, R> {
     /// Nodes with their readers, and what their workers share.
     pub(crate) fn new(
+        alloc: Global,
         places: Vec<Place<L, J, R>>,
         nodes: Handle<PublishedMachine<L, J, R>, Answers<R>>,
     ) -> Self {
-        Hub { places, nodes }
+        Hub {
+            alloc,
+            places,
+            nodes,
+            kept: Mutex::new(Some(Vec::new(alloc))),
+        }
     }
 
     /// Replies to a client go over this connection from now on.
@@ -107,7 +127,7 @@ impl<L: Readable, J: Naming, R: Wait + Drop> Hub<L, J, R> {
         self.nodes.gate().speaks(client, peer)
     }
 
-    /// No reply goes over this connection any more.
+    /// Sends no reply over this connection any more.
     pub(crate) fn forget(&self, peer: &Peer) {
         self.nodes.gate().forget(peer);
     }
@@ -117,11 +137,53 @@ impl<L: Readable, J: Naming, R: Wait + Drop> Hub<L, J, R> {
         self.nodes.wait_for_few(rt, FEW_WAITING);
     }
 
-    // One step of the node of this name, and how many messages it sends. None where there is no
-    // such node, or no memory for a step; then there was none.
-    fn step(&self, rt: &R, name: NodeId, input: Input) -> Option<usize> {
+    // Keeps the receipt of a traced node's step. Where memory runs out, all are lost.
+    fn keep(&self, rt: &R, receipt: Receipt) {
+        let mut kept = self.kept.lock(rt);
+        let fits = match &mut *kept {
+            Some(receipts) => receipts.push(receipt).is_ok(),
+            None => false,
+        };
+        if !fits {
+            *kept = None;
+        }
+    }
+
+    /// The receipts of the steps of traced nodes that no worker made.
+    ///
+    /// # Errors
+    ///
+    /// Only where memory ran out for one of them.
+    pub(crate) fn take_receipts(&self, rt: &R) -> Result<Vec<Receipt>, AllocError> {
+        let mut kept = self.kept.lock(rt);
+        match mem::replace(&mut *kept, Some(Vec::new(self.alloc))) {
+            Some(receipts) => Ok(receipts),
+            None => Err(AllocError),
+        }
+    }
+
+    // The node of this name, if it is one of these.
+    fn place(&self, name: NodeId) -> Option<&Place<L, J, R>> {
+        self.places.iter().find(|place| place.node.name() == name)
+    }
+
+    // Whether receipts of the steps of the node of this name are kept.
+    fn is_traced(&self, name: NodeId) -> bool {
+        match self.place(name) {
+            Some(place) => place.node.is_traced(),
+            None => false,
+        }
+    }
+
+    /// One step of the node of this name, and how many messages it sends. None where there is no
+    /// such node, or no memory for a step; then there was none.
+    pub(crate) fn step(&self, rt: &R, name: NodeId, input: Input) -> Option<usize> {
         let receipt = self.nodes.take(rt, name, input)?.ok()?;
-        Some(receipt.taken.messages.as_slice().len())
+        let count = receipt.taken.messages.as_slice().len();
+        if self.is_traced(name) {
+            self.keep(rt, receipt);
+        }
+        Some(count)
     }
 
     /// The coordinator ends the first transaction that has lasted too long at this time, in
@@ -143,7 +205,10 @@ impl<L: Readable, J: Naming, R: Wait + Drop> Hub<L, J, R> {
     pub(crate) fn tend(&self, rt: &R, now: u64) {
         for place in &self.places {
             if let Ok(Tended::Restarted(served)) = place.node.tend(rt, now) {
-                self.nodes.send_on(rt, served.receipt);
+                let receipt = self.nodes.send_on(rt, served.receipt);
+                if place.node.is_traced() {
+                    self.keep(rt, receipt);
+                }
             }
         }
     }
@@ -156,7 +221,6 @@ impl<L: Readable, J: Naming, R: Wait + Drop> Hub<L, J, R> {
 
     /// The readers of the published log of a node. None where it isn't published.
     pub(crate) fn readers(&self, name: NodeId) -> Option<&Readers<J>> {
-        let place = self.places.iter().find(|place| place.node.name() == name)?;
-        place.readers.as_ref()
+        self.place(name)?.readers.as_ref()
     }
 }

@@ -1,5 +1,8 @@
 //! The nodes of a server, whose logs are in memory or in the files of a folder, and what a folder
 //! lacks.
+//!
+//! A log in which another program wrote (a leader epoch, a longer marker) can't be copied byte by
+//! byte by produce and marker, so its pages are steps of the node.
 ghost use Rattle.std.specs.Prelude.{◌≡◌, ◌<◌, All, IfOk};
 ghost use Rattle.kx_broker.specs.Serving.{opened_partition};
 ghost use Rattle.kx_laws.specs.Grown.{IsGrown};
@@ -12,7 +15,7 @@ ghost use Rattle.kx_server.specs.Options.{IsConnections};
 use crate::fault::ServeFault;
 use crate::files::LogFile;
 use crate::hub::Place;
-use crate::options::{Connections, MOST_PARTITIONS, Partitions};
+use crate::options::{Connections, Partitions};
 use crate::owed::{first_missing, names};
 use crate::readers::{MOST_READERS, Readers};
 use kx_broker::{OffsetsMachine, PartitionMachine};
@@ -20,7 +23,7 @@ use kx_coord_node::CoordinatorMachine;
 use kx_files::FileStore;
 use kx_log::{MemStore, OpenFault, Store, StoreFault};
 use kx_machines::BrokerMachine;
-use kx_message::{Node as NodeId, PartitionId};
+use kx_message::{NodeId, PartitionId};
 use kx_nodes::{Node, Untraced};
 use kx_published::book::{Naming, Opened};
 use kx_publishing::{PublishedMachine, Publishes, Readable, wrote_itself};
@@ -215,7 +218,7 @@ impl<'a, F: Folder, R: Wait + Drop + Copy> Making<'a, F, R> {
 
     // Warns of logs that are there and aren't served.
     fn warn_of_more(&self) -> Result<(), AllocError> {
-        for number in self.partitions.get()..MOST_PARTITIONS {
+        for number in self.partitions.get()..PartitionId::DATA_COUNT {
             let file = LogFile::Partition(number);
             if self.folder.has(self.alloc, file)? {
                 self.folder.warn(file, "the log is there, and isn't served");

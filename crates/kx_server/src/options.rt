@@ -2,10 +2,8 @@
 ghost use Rattle.std.specs.Prelude.{◌≡◌, ◌≤◌, MatchOption};
 ghost use Rattle.kx_server.specs.Options.{IsConnections, IsPartitions};
 
+use kx_message::PartitionId;
 use std::marker::Model;
-
-// The most data partitions of a server.
-pub(crate) const MOST_PARTITIONS: u16 = 16;
 
 // The most connections that a server serves.
 const MOST_CONNECTIONS: usize = 1024;
@@ -34,7 +32,7 @@ impl Partitions {
             (λ it. (it ≡ count) × IsPartitions count) }
     {
         match count {
-            1..=MOST_PARTITIONS => Some(Partitions(count)),
+            1..=PartitionId::DATA_COUNT => Some(Partitions(count)),
             _ => None,
         }
     }

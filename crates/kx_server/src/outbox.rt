@@ -20,11 +20,12 @@ struct Waiting {
 /// What became of a message that was put in.
 #[derive(Clone, Copy, Debug, PartialEq, Eq)]
 pub(crate) enum Put {
-    /// It waits to be written.
+    /// The message waits to be written.
     Taken,
-    /// It was dropped, since the outbox was closed before.
+    /// The message was dropped, since the outbox was closed before.
     Closed,
-    /// It was dropped, since [`Queue::push`] refused it, and the outbox was closed by this.
+    /// The message was dropped, since [`Queue::push`] refused it, and the outbox was closed by
+    /// this.
     Refused,
 }
 

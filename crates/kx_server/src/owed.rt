@@ -3,7 +3,6 @@ ghost use Rattle.std.specs.Prelude.{◌≡◌, IfSome, None, true};
 ghost use Rattle.std.specs.List.{list_any};
 ghost use Rattle.kx_server.specs.Owed.{NothingMissing, is_missing, is_owed, needs};
 
-use crate::options::MOST_PARTITIONS;
 use kx_message::PartitionId;
 use kx_txnlog::{Entry, Row, State, read_entry};
 use std::alloc::Global;
@@ -18,8 +17,8 @@ fn is_owed(state: State) -> bool
     }
 }
 
-// Whether a row needs a partition: its transaction lists it, and is under way, or its markers weren't
-// all answered.
+// Whether a row needs a partition: its transaction lists it, and is under way, or its markers
+// weren't all answered.
 fn row_needs(row: &Row, partition: PartitionId) -> bool
     ensures { result ≡ needs partition row.now }
 {
@@ -45,7 +44,7 @@ pub(crate) fn first_missing(rows: &[Row], kept: &[PartitionId]) -> Option<Partit
     ensures some { IfSome result (λ partition. is_missing rows.now kept.now partition ≡ true) }
     ensures none { result ≡ None → NothingMissing rows.now kept.now }
 {
-    for number in 0..MOST_PARTITIONS {
+    for number in 0..PartitionId::DATA_COUNT {
         if let Ok(partition) = PartitionId::try_from(number) {
             if is_missing(rows, kept, partition) {
                 return Some(partition);

@@ -1,9 +1,8 @@
 //! The other end of a connection.
 use crate::outbox::{Outbox, Put};
 use kx_message::Message;
-use kx_stream::send;
+use kx_stream::{FrameReader, StreamFault, send};
 use std::alloc::Global;
-use std::io;
 use std::io::Read;
 use std::net::{Shutdown, TcpStream};
 use std::sync::Wait;
@@ -41,9 +40,13 @@ impl Peer {
         self.number
     }
 
-    /// Reads bytes from the connection.
-    pub(crate) fn read(&self, piece: &mut [u8]) -> io::Result<usize> {
-        (&mut &self.stream).read(piece)
+    /// Waits for bytes, and returns the requests whose frames are whole then, in order. None where
+    /// the other end has closed.
+    pub(crate) fn next(
+        &self,
+        frames: &mut FrameReader,
+    ) -> Result<Option<Vec<Message>>, StreamFault> {
+        frames.next(&mut &self.stream)
     }
 
     /// Waits until few bytes wait to be written, and says whether the connection is open.
@@ -83,13 +86,15 @@ impl Peer {
         }
     }
 
-    /// No more answers are taken; what was answered is still written.
+    /// Takes no more answers; what was answered is still written.
     pub(crate) fn finish<R: Wait>(&self, rt: &R) {
         self.outbox.close(rt);
     }
 
     /// Reads on for a while, and drops what comes. A connection that is given up while bytes wait
     /// to be read is reset, and the other end may lose answers that are on their way.
+    // Closing a socket with bytes unread resets it, and answers on their way are lost at the other
+    // end; so what arrives is read for a while and dropped.
     pub(crate) fn linger(&self) {
         let patience = Duration::from_millis(LINGER_MILLIS);
         if self.stream.set_read_timeout(Some(patience)).is_err() {
@@ -97,14 +102,14 @@ impl Peer {
         }
         let mut piece = [0u8; LINGER_PIECE];
         for _ in 0..LINGER_PIECES {
-            match self.read(&mut piece) {
+            match (&mut &self.stream).read(&mut piece) {
                 Ok(0) | Err(_) => break,
                 Ok(_) => {}
             }
         }
     }
 
-    /// Nothing more is read or written.
+    /// Closes the connection: nothing more is read or written.
     pub(crate) fn hang_up<R: Wait>(&self, rt: &R) {
         self.outbox.close(rt);
         let _ = self.stream.shutdown(Shutdown::Both);

@@ -44,7 +44,7 @@ fn len_of(message: &Message) -> usize
 }
 
 impl Queue {
-    /// No message.
+    /// A queue without messages.
     pub fn new(alloc: Global) -> Queue
         ensures { result ≡ [] }
     {

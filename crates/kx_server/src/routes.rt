@@ -12,7 +12,7 @@ pub(crate) struct Routes {
 }
 
 impl Routes {
-    /// No client.
+    /// Routes of no client.
     pub(crate) fn new(alloc: Global) -> Routes {
         Routes {
             peers: IndexMap::new(alloc),

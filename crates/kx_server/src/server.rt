@@ -10,13 +10,14 @@ use crate::fault::{NetFault, ServeFault};
 use crate::hub::{Answers, Hub, Place};
 use crate::locking::lock_folder;
 use crate::opening::{Folder, InFiles, InMemory, Making};
+use crate::operator::Operator;
 use crate::options::{Partitions, ServeOptions};
 use crate::peer::Peer;
 use crate::routes::Routes;
 use crate::ticking::{Going, keep_time, moment};
 use crate::waiting::wait_until;
 use kx_message::PartitionId;
-use kx_nodes::{JoinSet, Workers};
+use kx_nodes::{JoinSet, Receipt, Workers};
 use kx_published::book::{Naming, Opened};
 use kx_publishing::{PublishedMachine, Readable};
 use std::alloc::{AllocError, Global};
@@ -185,12 +186,19 @@ fn take_connections<
 // The workers of a server's nodes.
 type Served<L, J, R> = Workers<PublishedMachine<L, J, R>, Answers<R>, R>;
 
-// Starts the workers of these nodes.
+// Starts this many workers of these nodes.
 fn start_workers<
     L: Readable + Send + Sync + 'static,
     J: Naming + Send + Sync + 'static,
     R: Threads + Wait + Copy + Send + Sync + Drop + 'static,
->(rt: R, alloc: Global, places: &[Place<L, J, R>]) -> Result<Served<L, J, R>, AllocError> {
+>(
+    rt: R,
+    alloc: Global,
+    places: &[Place<L, J, R>],
+    count: usize,
+) -> Result<Served<L, J, R>, AllocError>
+    requires { 1 ≤ count }
+{
     let mut nodes = Vec::new(alloc);
     for place in places {
         nodes.push(Arc::try_clone(&place.node)?)?;
@@ -199,7 +207,7 @@ fn start_workers<
         rt,
         alloc,
         nodes,
-        WORKERS,
+        count,
         Answers::new(rt, Routes::new(alloc)),
     )
 }
@@ -215,55 +223,121 @@ fn share<
     workers: &Served<L, J, R>,
 ) -> Result<Shared<L, J, R>, AllocError> {
     Ok(Shared {
-        hub: Arc::new(alloc, Hub::new(places, workers.handle()?))?,
+        hub: Arc::new(alloc, Hub::new(alloc, places, workers.handle()?))?,
         going: Arc::new(alloc, Going::new())?,
     })
 }
 
-// Serves the connections that come to a listener, beside the clock.
-fn serve_shared<
-    L: Readable + Send + Sync + 'static,
-    J: Naming + Send + Sync + 'static,
-    R: Eprint + Threads + Wait + Clock + Copy + Send + Sync + Drop + 'static,
->(
+/// A server whose workers run. It is ended by [`serve`](Server::serve) or [`end`](Server::end).
+pub struct Server<L: Readable, J: Naming, R: Threads + Wait + Drop> {
     rt: R,
     alloc: Global,
-    shared: &Shared<L, J, R>,
-    listener: &TcpListener,
-    options: &ServeOptions<'_>,
-) -> Result<(), ServeFault> {
-    let mut clock = JoinSet::new(rt, alloc);
-    let mut connections = JoinSet::new(rt, alloc);
-    let served = match shared.add_clock(&mut clock, rt, options.expires) {
-        Ok(()) => take_connections(rt, alloc, shared, &mut connections, listener, options),
-        Err(_) => Err(ServeFault::Memory),
-    };
-    connections.join();
-    shared.going.end(&rt);
-    clock.join();
-    served
+    workers: Served<L, J, R>,
+    shared: Shared<L, J, R>,
 }
 
-// Serves the connections that come to a listener with these nodes.
-fn serve_nodes<
+impl<
     L: Readable + Send + Sync + 'static,
     J: Naming + Send + Sync + 'static,
     R: Eprint + Threads + Wait + Clock + Copy + Send + Sync + Drop + 'static,
->(
-    rt: R,
-    alloc: Global,
-    places: Vec<Place<L, J, R>>,
-    listener: &TcpListener,
-    options: &ServeOptions<'_>,
-) -> Result<(), ServeFault> {
-    let workers = start_workers(rt, alloc, places.as_slice())?;
-    let served = match share(alloc, places, &workers) {
-        Ok(shared) => serve_shared(rt, alloc, &shared, listener, options),
-        Err(_) => Err(ServeFault::Memory),
-    };
-    // Nodes without traces leave no receipts.
-    let _ = workers.end();
-    served
+> Server<L, J, R> {
+    /// A server of these nodes, with this many threads that deliver what nodes send to nodes. It
+    /// has served no connection yet.
+    ///
+    /// # Errors
+    ///
+    /// Only where memory or threads run out; then no thread runs.
+    pub fn start(
+        rt: R,
+        alloc: Global,
+        nodes: Vec<Place<L, J, R>>,
+        workers: usize,
+    ) -> Result<Self, AllocError>
+        requires { 1 ≤ workers }
+    {
+        let workers = start_workers(rt, alloc, nodes.as_slice(), workers)?;
+        match share(alloc, nodes, &workers) {
+            Ok(shared) => Ok(Server {
+                rt,
+                alloc,
+                workers,
+                shared,
+            }),
+            Err(refused) => {
+                // The workers were given no input, so they have no receipts.
+                let _ = workers.end();
+                Err(refused)
+            }
+        }
+    }
+
+    /// Takes steps that no client may ask for.
+    ///
+    /// # Errors
+    ///
+    /// Only where 2^63 - 1 of them exist.
+    pub fn operator(&self) -> Result<Operator<L, J, R>, AllocError> {
+        Ok(Operator::of(Arc::try_clone(&self.shared.hub)?))
+    }
+
+    // Serves the connections that come to a listener, beside the clock.
+    fn serve_shared(
+        &self,
+        listener: &TcpListener,
+        options: &ServeOptions<'_>,
+    ) -> Result<(), ServeFault> {
+        let (rt, alloc) = (self.rt, self.alloc);
+        let mut clock = JoinSet::new(rt, alloc);
+        let mut connections = JoinSet::new(rt, alloc);
+        let served = match self.shared.add_clock(&mut clock, rt, options.expires) {
+            Ok(()) => {
+                take_connections(rt, alloc, &self.shared, &mut connections, listener, options)
+            }
+            Err(_) => Err(ServeFault::Memory),
+        };
+        connections.join();
+        self.shared.going.end(&rt);
+        clock.join();
+        served
+    }
+
+    /// Serves as many connections of a listener as the options say, at once, and ends when the last
+    /// of them has ended. Then no thread of the server runs. Returns the receipts of all steps of
+    /// traced nodes, in any order.
+    ///
+    /// # Errors
+    ///
+    /// `Net` where no connection can be taken any more, `Memory` where memory or threads run out or
+    /// a receipt was lost. Connections that were taken are served to their ends also then.
+    pub fn serve(
+        self,
+        listener: &TcpListener,
+        options: &ServeOptions<'_>,
+    ) -> Result<Vec<Receipt>, ServeFault> {
+        let served = self.serve_shared(listener, options);
+        let receipts = self.end();
+        served?;
+        Ok(receipts?)
+    }
+
+    /// Ends the server. Returns the receipts of all steps of traced nodes, in any order.
+    ///
+    /// # Errors
+    ///
+    /// Only where memory ran out for a receipt; all threads have ended then, too.
+    pub fn end(self) -> Result<Vec<Receipt>, AllocError> {
+        let Server {
+            rt,
+            alloc: _,
+            workers,
+            shared,
+        } = self;
+        let ended = workers.end();
+        let kept = shared.hub.take_receipts(&rt);
+        let mut receipts = ended?;
+        receipts.append(&mut kept?)?;
+        Ok(receipts)
+    }
 }
 
 // Opens the books of the published logs of data partitions, in order.
@@ -342,7 +416,9 @@ fn serve_named<
         return Err(net_fault(&listener, NetFault::Other));
     };
     tell(out, "listening", usize::from(address.port()))?;
-    serve_nodes(rt, alloc, nodes, &listener, options)?;
+    let server = Server::start(rt, alloc, nodes, WORKERS)?;
+    // Nodes without traces leave no receipts.
+    server.serve(&listener, options)?;
     tell(out, "served", options.connections.get())
 }
 

@@ -16,7 +16,7 @@ pub(crate) struct Speakers {
 }
 
 impl Speakers {
-    /// No client.
+    /// A list of no client.
     pub(crate) fn new(alloc: Global) -> Speakers {
         Speakers {
             numbers: IndexSet::new(alloc),

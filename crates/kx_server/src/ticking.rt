@@ -1,6 +1,6 @@
-//! The clock of a server: nodes whose stores failed are opened again, logs that readers don't see yet
-//! are published, markers that weren't answered are sent again, and where the server is asked to,
-//! transactions that have lasted too long are ended.
+//! The clock of a server: nodes whose stores failed are opened again, logs that readers don't see
+//! yet are published, markers that weren't answered are sent again, and where the server is asked
+//! to, transactions that have lasted too long are ended.
 ghost use Rattle.std.specs.Prelude.{◌≡◌, ◌/◌, min};
 ghost use Rattle.core.specs.Duration.{as_nanos};
 

@@ -14,8 +14,8 @@ use Rattle.kx_stream.specs.declared.fault.StreamFault.{StreamFault}
 use Rattle.kx_stream.specs.declared.fault.StreamFault.TheVariants.{Read, Write, Frame}
 use Rattle.kx_stream.proofs.Writing.{frames-append}
 use Rattle.kx_stream.proofs.Rows.{serves_none}
-use Rattle.kx_wire.specs.Frames.{Bad, Fed, Front, More, Reads, Faulty, Splits, Stands, Stream}
-use Rattle.kx_wire.specs.Frames.{Whole, frame_at}
+use Rattle.kx_wire.specs.Frames.{Bad, Fed, Front, More, Over, Reads, Faulty, Splits, Stands}
+use Rattle.kx_wire.specs.Frames.{Stream, Whole, frame_at}
 use Rattle.kx_wire.specs.declared.fault.FrameFault.{FrameFault}
 use Rattle.kx_wire.specs.declared.fault.FrameFault.TheVariants as fault
 
@@ -35,43 +35,36 @@ pub all_both : {A : Type 0} (P : A → Type 0) (xs ys : List A) → AllByRecursi
 all_both P [] ys first second = second
 all_both P (x ∷ xs) ys first second = (first.0, all_both P xs ys first.1 second)
 
------- what asking for nothing more tells
-
-abbrev Quiet : Stream → List ℕ → Result (List Message) FrameFault → Stream → Type 0
-Quiet mid piece answer new = (partial : List ℕ) → mid ≡ Reads partial → piece ≡ []
-    → (answer ≡ Ok []) × (new ≡ mid)
+------ what a check of a reader says, where a stream stands so after messages
 
 -- a fault is that of the frame that stands there
-pub is_told : (front : Front) (messages : List Message) (rest piece : List ℕ) (mid new : Stream)
-    (answer : Result (List Message) FrameFault) (f : FrameFault) → Stands front messages rest mid
-    → Fed mid piece answer new → Quiet mid piece answer new → piece ≡ [] → answer ≡ Err f
-    → front ≡ Bad f
-is_told (Whole m behind) messages rest piece mid new answer f stands fed quiet none told =
-    absurd stands
-is_told (Bad g) messages rest piece mid new answer f stands fed quiet none told =
-    let faulty : Fed (Faulty g) piece answer new =
-    subst (λ (s : Stream). Fed s piece answer new) stands.1 fed in
-    ap (λ (x : FrameFault). Bad x) (one_fault answer g f faulty.0 told)
-is_told More messages rest piece mid new answer f stands fed quiet none told =
-    absurd (no_fault answer [] f (quiet rest stands none).0 told)
+pub checked_bad : (front : Front) (messages : List Message) (rest : List ℕ) (mid new : Stream)
+    (answer : Result (Unit {0}) FrameFault) (f : FrameFault) → Stands front messages rest mid
+    → ((partial : List ℕ) → mid ≡ Reads partial → (answer ≡ Ok tt) × (new ≡ mid))
+    → ((g : FrameFault) → mid ≡ Faulty g → (answer ≡ Err g) × (new ≡ Over))
+    → answer ≡ Err f → front ≡ Bad f
+checked_bad (Whole m behind) messages rest mid new answer f stands fine faulty told = absurd stands
+checked_bad (Bad g) messages rest mid new answer f stands fine faulty told =
+    ap (λ (x : FrameFault). Bad x) (one_fault answer g f (faulty g stands.1).0 told)
+checked_bad More messages rest mid new answer f stands fine faulty told =
+    absurd (no_fault answer tt f (fine rest stands).0 told)
 
 -- without one, less than a frame stands there, and is held back
-pub is_quiet : (front : Front) (messages more : List Message) (rest piece : List ℕ)
-    (mid new : Stream) (answer : Result (List Message) FrameFault)
-    → Stands front messages rest mid → Fed mid piece answer new → Quiet mid piece answer new
-    → piece ≡ [] → answer ≡ Ok more → (front ≡ More) × (new ≡ Reads rest)
-is_quiet (Whole m behind) messages more rest piece mid new answer stands fed quiet none told =
-    absurd stands
-is_quiet (Bad g) messages more rest piece mid new answer stands fed quiet none told =
-    let faulty : Fed (Faulty g) piece answer new =
-    subst (λ (s : Stream). Fed s piece answer new) stands.1 fed in
-    absurd (no_fault answer more g told faulty.0)
-is_quiet More messages more rest piece mid new answer stands fed quiet none told =
-    (refl, (quiet rest stands none).1 ∙ stands)
+pub checked_fine : (front : Front) (messages : List Message) (rest : List ℕ) (mid new : Stream)
+    (answer : Result (Unit {0}) FrameFault) → Stands front messages rest mid
+    → ((partial : List ℕ) → mid ≡ Reads partial → (answer ≡ Ok tt) × (new ≡ mid))
+    → ((g : FrameFault) → mid ≡ Faulty g → (answer ≡ Err g) × (new ≡ Over))
+    → answer ≡ Ok tt → (front ≡ More) × (new ≡ Reads rest)
+checked_fine (Whole m behind) messages rest mid new answer stands fine faulty told = absurd stands
+checked_fine (Bad g) messages rest mid new answer stands fine faulty told =
+    absurd (no_fault answer tt g told (faulty g stands.1).0)
+checked_fine More messages rest mid new answer stands fine faulty told =
+    (refl, (fine rest stands).1 ∙ stands)
 
 ------ a piece
 
-module _ {M : Type 0} (stands : NodeState → M → Type 0) (allows : M → Store → Type 0) where
+module _ {M : Type 0} (stands : NodeState → M → Type 0)
+    (allows : M → Option ℕ → Store → Type 0) where
   pub nothing_served : (bytes : List ℕ) (m : M) (known : Option (List ℕ)) (f : FrameFault)
       → (frame_at bytes ≡ Bad f) ⊎ (f ≡ fault.Memory)
       → Served stands allows bytes m m known known (Err (Frame f))

@@ -35,7 +35,8 @@ split_at all at x within is =
 pub taken_all : (all : List Message) (at : ℕ) → length all ≤ at → take at all ≡ all
 taken_all all at enough = take_all at all enough
 
-module _ {M : Type 0} (stands : NodeState → M → Type 0) (allows : M → Store → Type 0) where
+module _ {M : Type 0} (stands : NodeState → M → Type 0)
+    (allows : M → Option ℕ → Store → Type 0) where
   abbrev Serving : M → List Message → List Message → M → Type 0
   Serving = Serves stands allows
 

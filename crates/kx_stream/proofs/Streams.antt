@@ -1,22 +1,22 @@
 -- A stream, piece by piece.
-use Rattle.std.proofs.Common.{◌≡◌, ◌≢◌, ◌≤◌, ◌+◌, ℕ, List, [], ◌++◌, Option, Result, Ok, Err, refl}
-use Rattle.std.proofs.Common.{sym, ap, ◌∙◌, subst, append_assoc, append-nil, inl, inr, take, length}
+use Rattle.std.proofs.Common.{◌≡◌, ◌≤◌, ◌+◌, ℕ, List, [], ◌++◌, Option, None, Result, Ok, Err, refl}
+use Rattle.std.proofs.Common.{sym, ap, ◌∙◌, subst, append_assoc, append-nil, inl, inr, length}
 use Rattle.std.proofs.Common.{arith, length-append}
 use Rattle.std.specs.Prelude.{MatchResult, OnOk}
-use Rattle.std.proofs.lemmas.List.{length-take-le}
-use Rattle.std.specs.Io.KnownBytes.{Appends, Consumes}
+use Rattle.std.specs.Io.KnownBytes.{Appends, Consumes, IsAtEnd}
 use Rattle.std.proofs.KnownBytes.{Appends-nil, Consumes-nil, Consumes-trans}
 use Rattle.kx_machine.specs.Meaning.{NodeState}
 use Rattle.kx_message.specs.Message.{IsSendable}
 use Rattle.kx_message.specs.Reader.{unsigned}
 use Rattle.kx_message.specs.declared.message.Message.{Message}
 use Rattle.kx_model.specs.Disk.{Store}
+use Rattle.kx_stream.specs.Reader.{Gives, ReadGives}
 use Rattle.kx_stream.specs.Sending.{frames}
 use Rattle.kx_stream.specs.Stream.{Ends, IsDone, PieceServed, Served}
 use Rattle.kx_stream.specs.declared.fault.StreamFault.{StreamFault}
 use Rattle.kx_stream.specs.declared.fault.StreamFault.TheVariants.{Read, Write, Frame}
 use Rattle.kx_stream.specs.declared.stream.ReadsEnd.{ReadsEnd}
-use Rattle.kx_stream.proofs.Pieces.{all_both, nothing_served}
+use Rattle.kx_stream.proofs.Pieces.{all_both, nothing_served, piece_refused}
 use Rattle.kx_stream.proofs.Writing.{appends_both, broken_after, cut_behind, frames-append}
 use Rattle.kx_stream.proofs.Rows.{serves_both, serves_none}
 use Rattle.kx_wire.specs.Frames.{More, Reads, Stream, frame_at}
@@ -26,19 +26,22 @@ nothing_is_less : frame_at [] ≡ More
 unfolding frame_at unsigned
 nothing_is_less = refl
 
--- a read that gave something
-pub gave_some : (buf : List ℕ) (count : ℕ) → count ≢ 0 → count ≤ length buf
-    → 1 ≤ length (take count buf)
-gave_some buf count some within = omega (arith, some, length-take-le count buf within)
+-- what a read gave, where these bytes are held of the stream
+pub read_gives : (stream next : Stream) (partial read : List ℕ) (left : Option (List ℕ))
+    (answer : Result (Option (List Message)) StreamFault) → stream ≡ Reads partial
+    → Gives stream read left answer next → ReadGives partial read left answer next
+read_gives stream next partial read left answer held gives =
+    subst (λ (s : Stream). Gives s read left answer next) held gives
 
--- a read that gave nothing
-pub gave_nothing : (a b c : Option (List ℕ)) (read buf : List ℕ) (count : ℕ) → Consumes a b read
-    → Consumes b c (take count buf) → count ≡ 0 → Consumes a c read
-gave_nothing a b c read buf count first second none =
-    let still = subst (λ (n : ℕ). Consumes b c (take n buf)) none second in
-    subst (Consumes a c) (append-nil read) (Consumes-trans a b c read [] first still)
+-- nothing more was read
+none_read : (input now left : Option (List ℕ)) (before read : List ℕ) → Consumes input now before
+    → Consumes now left read → read ≡ [] → Consumes input left before
+none_read input now left before read first second none =
+    subst (Consumes input left) (append-nil before)
+    (Consumes-trans input now left before [] first (subst (Consumes now left) none second))
 
-module _ {M : Type 0} (stands : NodeState → M → Type 0) (allows : M → Store → Type 0) where
+module _ {M : Type 0} (stands : NodeState → M → Type 0)
+    (allows : M → Option ℕ → Store → Type 0) where
   -- some of the stream was read, by so many reads of a byte or more; all that came of it is served
   -- and written, and the rest is held
   pub record Along (reads : ℕ) (before after : M) (input left old new : Option (List ℕ))
@@ -183,3 +186,53 @@ module _ {M : Type 0} (stands : NodeState → M → Type 0) (allows : M → Stor
   pub no_memory : (m : M) (known : Option (List ℕ))
       → Served stands allows [] m m known known (Err (Frame fault.Memory))
   no_memory m known = nothing_served stands allows [] m known fault.Memory (inr refl)
+
+  -- the stream is at its end
+  pub at_end : (reads : ℕ) (before after : M) (input now left old new : Option (List ℕ))
+      (stream next : Stream) → Along reads before after input now old new stream
+      → ((read : List ℕ) × Consumes now left read × Gives stream read left (Ok None) next)
+      → (read : List ℕ) × Consumes input left read
+      × (IsAtEnd left × Served stands allows read before after old new (Ok tt))
+  at_end reads before after input now left old new stream next along (read, consumed, gives) =
+      let g = read_gives stream next along.served.behind read left (Ok None) along.held gives in (
+        along.read,
+        none_read input now left along.read read along.consumed consumed g.0,
+        (g.1, along.served),
+      )
+
+  -- a read failed
+  pub read_failed : (reads : ℕ) (before after : M) (input now left old new : Option (List ℕ))
+      (stream next : Stream) → Along reads before after input now old new stream
+      → ((read : List ℕ) × Consumes now left read × Gives stream read left (Err Read) next)
+      → (read : List ℕ) × Consumes input left read
+      × (Unit {0} × Served stands allows read before after old new (Ok tt))
+  read_failed reads before after input now left old new stream next along
+      (read, consumed, gives) =
+      let g = read_gives stream next along.served.behind read left (Err Read) along.held gives in (
+        along.read,
+        none_read input now left along.read read along.consumed consumed g.0,
+        (tt, along.served),
+      )
+
+  -- the reader gave a fault
+  pub reader_failed : (reads : ℕ) (before after : M) (input now left old new : Option (List ℕ))
+      (stream next : Stream) (fault : StreamFault)
+      → Along reads before after input now old new stream
+      → ((read : List ℕ) × Consumes now left read × Gives stream read left (Err fault) next)
+      → (read : List ℕ) × Consumes input left read
+      × Served stands allows read before after old new (Err fault)
+  reader_failed reads before after input now left old new stream next (Frame f) along
+      (read, consumed, gives) =
+      ended reads before after after input now left old new new read stream next (Frame f) along
+      consumed (λ partial e. piece_refused stands allows partial read after new f next
+      (read_gives stream next partial read left (Err (Frame f)) e gives))
+  reader_failed reads before after input now left old new stream next Read along
+      (read, consumed, gives) =
+      let g = read_gives stream next along.served.behind read left (Err Read) along.held gives in (
+        along.read,
+        none_read input now left along.read read along.consumed consumed g.0,
+        unread along.read before after old new along.served,
+      )
+  reader_failed reads before after input now left old new stream next Write along
+      (read, consumed, gives) =
+      absurd (read_gives stream next along.served.behind read left (Err Write) along.held gives)

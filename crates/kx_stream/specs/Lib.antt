@@ -1,4 +1,5 @@
 pub mod Faults
+pub mod Reader
 pub mod Sending
 pub mod Serving
 pub mod Stream

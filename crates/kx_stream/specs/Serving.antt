@@ -1,5 +1,5 @@
 -- What a machine does with the messages of a stream.
-use Rattle.std.specs.Prelude.{◌≡◌, ◌⊎◌, List, [], ◌∷◌, ◌++◌}
+use Rattle.std.specs.Prelude.{◌≡◌, ◌⊎◌, ℕ, List, [], ◌∷◌, ◌++◌, Option}
 use Rattle.kx_machine.specs.Meaning.{IsTaken, NodeState}
 use Rattle.kx_machine.specs.declared.taken.Taken.{Taken}
 use Rattle.kx_message.specs.declared.message.Message.{Message}
@@ -8,7 +8,8 @@ use Rattle.kx_model.specs.Step.{Comes}
 
 -- a machine is known by the nodes of the definitions for which it stands, and by what its store may
 -- do next
-module _ {M : Type 0} (stands : NodeState → M → Type 0) (allows : M → Store → Type 0) where
+module _ {M : Type 0} (stands : NodeState → M → Type 0)
+    (allows : M → Option ℕ → Store → Type 0) where
   -- it took the message by a step of the definitions, and handed these out
   pub record Takes (before : M) (message : Message) (handed : List Message) (after : M)
       : Type 0 where

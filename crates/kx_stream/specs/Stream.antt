@@ -42,7 +42,8 @@ IsDone AtEnd read left = IsAtEnd left
 IsDone ReadFailed read left = Unit {0}
 IsDone TooMany read left = 2 ^ 32 ≤ length read
 
-module _ {M : Type 0} (stands : NodeState → M → Type 0) (allows : M → Store → Type 0) where
+module _ {M : Type 0} (stands : NodeState → M → Type 0)
+    (allows : M → Option ℕ → Store → Type 0) where
   -- the bytes begin with the frames of messages, which the machine took, one after the other; what
   -- it handed out is written
   pub record Served (bytes : List ℕ) (before after : M) (old new : Option (List ℕ))

@@ -12,17 +12,17 @@ use thiserror::Error;
 #[derive(Clone, Copy, Debug, PartialEq, Eq, Error)]
 pub enum StreamFault {
     /// A read failed, or each of 2^32 reads gave something. The messages that were read whole are
-    /// served, and what the machine handed out is written.
+    /// served, and what the machine sent is written.
     #[error("the stream cannot be read")]
     Read,
-    /// A write failed. A front of the frames of what the machine handed out is written, and not all
-    /// of them.
+    /// A write failed. A front of the frames of what the machine sent is written, and not all of
+    /// them.
     #[error("the replies cannot be written")]
     Write,
     /// What comes next in the stream is no frame of a message, after the messages before it were
-    /// served; or memory ran out for reading or for a frame; or a message that was handed out is
-    /// longer than a frame, and then [`FrameFault::TooLong`]. The frames of what was handed out
-    /// before are written.
+    /// served; or memory ran out for reading or for a frame; or a message that was sent is longer
+    /// than a frame, and then [`FrameFault::TooLong`]. The frames of what was sent before are
+    /// written.
     #[error("{0}")]
     Frame(FrameFault),
 }

@@ -1,4 +1,4 @@
-//! What a machine hands out, written as frames.
+//! What a machine sends, written as frames.
 ghost use Rattle.std.specs.Prelude.{◌≡◌, ◌≤◌, length, take, IfOk, MatchResult};
 ghost use Rattle.std.specs.Io.KnownBytes.{Appends, Keeps};
 ghost use Rattle.kx_stream.specs.Sending.{Sends, Writes, Written};
@@ -11,8 +11,8 @@ use std::io::{ErrorKind, Write};
 /// How often a write that was interrupted is tried again.
 const TRIES: u32 = u32::MAX;
 
-// Writes a front of some bytes by one write, and says how many of them. A write that was interrupted
-// writes none.
+// Writes a front of some bytes by one write, and says how many of them. A write that was
+// interrupted writes none.
 fn write_front<W: Write>(writer: &mut W, bytes: &[u8]) -> Result<usize, StreamFault>
     ensures within { IfOk result (λ count. count ≤ length bytes.now) }
     ensures bytes { MatchResult result

@@ -1,4 +1,4 @@
-//! Messages handed to a machine, and what it hands out for them.
+//! Messages handed to a machine, and what it sends for them.
 ghost use Rattle.kx_stream.specs.Serving.{Answers, Serves};
 ghost use Rattle.kx_stream.specs.Stream.{AllServed, OneServed};
 
@@ -9,7 +9,7 @@ use kx_wire::Message;
 use std::alloc::Global;
 use std::io::Write;
 
-// Hands the machine a message, and writes what it hands out. A step without memory writes nothing.
+// Hands the machine a message, and writes what it sends. A step without memory writes nothing.
 fn serve_one<M: Machine, W: Write>(
     alloc: Global,
     machine: &mut M,
@@ -29,7 +29,7 @@ fn serve_one<M: Machine, W: Write>(
     }
 }
 
-/// Hands the machine messages, one after the other, and writes what it hands out for each before it
+/// Hands the machine messages, one after the other, and writes what it sends for each before it
 /// takes the next.
 ///
 /// # Errors

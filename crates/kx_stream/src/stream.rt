@@ -2,37 +2,34 @@
 ghost use Rattle.std.specs.Prelude.{◌≡◌, ℕ, List, Ok, Err, MatchResult, OnOk};
 ghost use Rattle.std.specs.Io.KnownBytes.{Consumes, IsAtEnd};
 ghost use Rattle.kx_stream.specs.Stream.{IsDone, PieceServed, Served};
-ghost use Rattle.kx_wire.specs.Frames.{Reads};
+ghost use Rattle.kx_wire.specs.Frames.{Fed, Reads};
 
 use crate::fault::StreamFault;
+use crate::reader::FrameReader;
 use crate::serving::serve_all;
 use kx_machine::Machine;
-use kx_wire::Frames;
+use kx_message::Message;
 use std::alloc::Global;
 use std::io::{Read, Write};
-
-/// How many bytes a reader is asked for at once.
-const PIECE: usize = 65_536;
 
 /// How often a reader is asked at most, whatever it gives.
 const READS: u64 = 1 << 32;
 
-// Takes a piece of the stream: the machine takes the messages whose frames are whole with it. A
-// fault of the frame after them is told once they are served.
+// The machine takes messages that came with a piece of the stream. A fault of the frame after them
+// is answered once they are served.
 fn serve_piece<M: Machine, W: Write>(
     alloc: Global,
-    frames: &mut Frames,
+    frames: &mut FrameReader,
     machine: &mut M,
-    piece: &[u8],
+    messages: &[Message],
     writer: &mut W,
 ) -> Result<(), StreamFault>
-    ensures { (partial : List ℕ) → frames.old ≡ Reads partial
-        → PieceServed M.stands M.allows partial piece.now machine.old machine.new frames.new
+    ensures { (partial piece : List ℕ) → Fed (Reads partial) piece (Ok messages.now) frames.old
+        → PieceServed M.stands M.allows partial piece machine.old machine.new frames.new
         (W.contents writer.old) (W.contents writer.new) result }
 {
-    let messages = frames.feed(piece)?;
-    serve_all(alloc, machine, messages.as_slice(), writer)?;
-    frames.feed(&[])?;
+    serve_all(alloc, machine, messages, writer)?;
+    frames.check()?;
     Ok(())
 }
 
@@ -61,16 +58,15 @@ fn serve_pieces<R: Read, W: Write, M: Machine>(
         (λ fault. Served M.stands M.allows read machine.old machine.new
         (W.contents writer.old) (W.contents writer.new) (Err fault)) }
 {
-    let mut piece = vec![in alloc; 0; PIECE]?;
-    let mut frames = Frames::new(alloc);
+    let mut frames = FrameReader::new(alloc)?;
     for reads in 0..READS {
-        let Ok(count) = reader.read(&mut piece) else {
-            return Ok(ReadsEnd::ReadFailed);
+        let messages = match frames.next(reader) {
+            Ok(Some(messages)) => messages,
+            Ok(None) => return Ok(ReadsEnd::AtEnd),
+            Err(StreamFault::Read) => return Ok(ReadsEnd::ReadFailed),
+            Err(fault) => return Err(fault),
         };
-        if count == 0 {
-            return Ok(ReadsEnd::AtEnd);
-        }
-        serve_piece(alloc, &mut frames, machine, &piece[..count], writer)?;
+        serve_piece(alloc, &mut frames, machine, messages.as_slice(), writer)?;
     }
     Ok(ReadsEnd::TooMany)
 }
@@ -85,8 +81,8 @@ fn serve_pieces<R: Read, W: Write, M: Machine>(
 ///
 /// [`StreamFault::Read`] where a read failed, or each of 2^32 reads gave something: all messages
 /// that were read whole are served, and their answers written. [`StreamFault::Write`] where a write
-/// failed: a front of the answers is written, and not all of them. [`StreamFault::Frame`] where what
-/// comes next is no frame of a message, or one that was handed out isn't written, or memory ran out:
+/// failed: a front of the answers is written, and not all of them. [`StreamFault::Frame`] where
+/// what comes next is no frame of a message, or one that was sent isn't written, or memory ran out:
 /// the answers before it are written. The machine keeps the steps that it made by then.
 pub fn serve_stream<R: Read, W: Write, M: Machine>(
     alloc: Global,

@@ -3,8 +3,8 @@ use Rattle.std.proofs.Common.{◌≡◌, ℕ, Bool, true, false, cond, List, [],
 use Rattle.std.proofs.Common.{None, refl, sym, ap, ◌∙◌, subst}
 use Rattle.std.specs.Prelude.{slice_get, is_none, not, ◌&&◌}
 use Rattle.kx_message.specs.declared.message.Message.{Message}
-use Rattle.kx_message.specs.declared.message.Node.{Node}
-use Rattle.kx_message.specs.declared.message.Node.TheVariants as node
+use Rattle.kx_message.specs.declared.message.NodeId.{NodeId}
+use Rattle.kx_message.specs.declared.message.NodeId.TheVariants as node
 use Rattle.kx_model.specs.Client.{Client, Command, Commanded, Declines, Does, Fault, NotReady}
 use Rattle.kx_model.specs.Client.{Failed, NotTransactional, TooLarge, Init, Begin, Send}
 use Rattle.kx_model.specs.Client.{JoinGroup, LeaveGroup, SendOffsets, End, Resend, Poll, FetchPage}
@@ -157,7 +157,7 @@ module _ (s : System) where
   if_taken event input n (Some c) (Some p) there is = taken event input n c p there is
 
   -- of whatever node is handed an input
-  at_node : (event : Event) (to : Node) (input : Input) (store : Store)
+  at_node : (event : Event) (to : NodeId) (input : Input) (store : Store)
       → (step s.world event).0 ≡ (handed s.world to store input).0
       → Follows event (turn_at s to input)
   at_node event node.Coordinator input store is = no_turn event
@@ -165,13 +165,13 @@ module _ (s : System) where
   at_node event (node.Client n) input store is =
       if_taken event input n (client_at s.world n) (processing_at s n) refl is
 
-  if_delivered : (event : Event) (to : Node) (store : Store) (m : Option Message)
+  if_delivered : (event : Event) (to : NodeId) (store : Store) (m : Option Message)
       → (step s.world event).0 ≡ (delivered s.world to store m).0
       → Follows event (turn_delivered s to m)
   if_delivered event to store None is = no_turn event
   if_delivered event to store (Some m) is = at_node event to (Comes m) store is
 
-  if_handed : (to : Node) (input : Input) (store : Store)
+  if_handed : (to : NodeId) (input : Input) (store : Store)
       → Follows (Hand to input store) (turn_handed s to input)
   unfolding step
   if_handed to (Comes m) store = no_turn (Hand to (Comes m) store)

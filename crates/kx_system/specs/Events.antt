@@ -1,7 +1,7 @@
 -- What a system with processors does is what a world without them does, whose clients are told the
 -- commands that the processors' polls come to.
 use Rattle.std.specs.Prelude.{ℕ, List, [], ◌∷◌, ◌++◌, map, Option, Some, None, if◌then◌else◌}
-use Rattle.kx_message.specs.declared.message.Node.TheVariants as node
+use Rattle.kx_message.specs.declared.message.NodeId.TheVariants as node
 use Rattle.kx_model.specs.Client.{Command, Commanded, Declines, Does, Poll}
 use Rattle.kx_model.specs.Disk.{Works}
 use Rattle.kx_model.specs.Step.{Input, Commands}

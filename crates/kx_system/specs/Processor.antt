@@ -68,6 +68,8 @@ pub data Sequel : Type 0 where
 
 -- what the processor is about to ask for, or waits for; `left` are the input partitions that come
 -- later in the pass
+-- A processor that stopped for good is at a stage of its own and its client hasn't failed, so a
+-- step of a system is a run of its world.
 pub data Stage : Type 0 where
   -- to be a member, as each pass begins
   Joining : Stage

@@ -5,8 +5,8 @@ use Rattle.kx_varint.specs.Text.{IsBytes}
 use Rattle.kx_batch.specs.Record.{Record}
 use Rattle.kx_message.specs.Ranges.{IsName}
 use Rattle.kx_message.specs.declared.message.Message.{Message}
-use Rattle.kx_message.specs.declared.message.Node.{Node}
-use Rattle.kx_message.specs.declared.message.Node.TheVariants as node
+use Rattle.kx_message.specs.declared.message.NodeId.{NodeId}
+use Rattle.kx_message.specs.declared.message.NodeId.TheVariants as node
 use Rattle.kx_model.specs.Client.{Client}
 use Rattle.kx_model.specs.Step.{Input, Comes, Done, NodeStep, StepNote}
 use Rattle.kx_model.specs.World.{Event, IsEvent, World, Make, Deliver, Hand, client_at, is_new}
@@ -50,18 +50,18 @@ turn_with input (Some client) (Some processing) = Some (record {
   input = input;
 })
 
-abbrev pub turn_at : System → Node → Input → Option Turn
+abbrev pub turn_at : System → NodeId → Input → Option Turn
 turn_at s node.Coordinator input = None
 turn_at s (node.Partition number) input = None
 turn_at s (node.Client number) input =
     turn_with input (client_at s.world number) (processing_at s number)
 
-abbrev pub turn_delivered : System → Node → Option Message → Option Turn
+abbrev pub turn_delivered : System → NodeId → Option Message → Option Turn
 turn_delivered s to None = None
 turn_delivered s to (Some m) = turn_at s to (Comes m)
 
 -- a message comes by its number alone
-abbrev pub turn_handed : System → Node → Input → Option Turn
+abbrev pub turn_handed : System → NodeId → Input → Option Turn
 turn_handed s to (Comes m) = None
 turn_handed s to input = turn_at s to input
 

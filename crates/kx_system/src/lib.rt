@@ -1,7 +1,7 @@
 //! Systems some of whose clients are processors, which consume, process and produce: what a
-//! processor is, what it hands out and what it makes of replies, and the whole system with some of
-//! them as one machine. They stand in `specs/`; the functions here do nothing when they run, and
-//! carry laws about the definitions in their contracts.
+//! processor is, what it sends and what it makes of replies, and the whole system with some of them
+//! as one machine. They stand in `specs/`; the functions here do nothing when they run, and carry
+//! laws about the definitions in their contracts.
 #![tactic(auto)]
 
 ghost use Rattle.std.specs.Prelude.{◌≡◌, ℕ, List};

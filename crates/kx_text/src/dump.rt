@@ -98,6 +98,7 @@ fn write_field<W: Write>(writer: &mut W, field: Option<&[u8]>) -> io::Result<()>
 }
 
 // Writes what stands in front of a record's key.
+// 128 bits, since no format bounds base offset plus delta.
 fn write_offset<W: Write>(writer: &mut W, offset: i128) -> io::Result<()>
     ensures { OnOk result (Appends (W.contents writer.old) (W.contents writer.new)
         (codes "record " ++ signed_decimal offset ++ codes " ")) }

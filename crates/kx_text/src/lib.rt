@@ -1,8 +1,9 @@
 //! All that is read or printed as text, whoever carries it out: the lines, words and numbers of a
 //! script, what puts, fetches and refusals print, and dumps. `words` cuts a line and reads its
-//! numbers, `mode` which records a fetch shows, `lines` takes a script line by line, `reads`
-//! counts the reads, and `fault` says why it ends; `answers` and `pages` print answers; `dump` prints the record batches of a
-//! file, and `program` does so for kx_main and has the statuses that it ends with.
+//! numbers, `mode` which records a fetch shows, `lines` takes a script line by line, `reads` counts
+//! the reads, and `fault` says why it ends; `answers` and `pages` print answers; `dump` prints the
+//! record batches of a file, and `program` does so for kx_main and has the statuses that it ends
+//! with.
 #![tactic(auto)]
 
 mod answers;

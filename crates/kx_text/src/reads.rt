@@ -28,7 +28,7 @@ pub fn may_read(made: u64) -> bool
     made < MOST_READS
 }
 
-/// A reader that counts the reads it makes of another one, and fails in place of the read behind
+/// A reader that counts the reads it makes of another one, and fails in place of the read after
 /// 2^32 of them. Looking at bytes that an earlier read gave is no read.
 #[derive(Drop)]
 pub struct CountedReads<R> {

@@ -9,7 +9,7 @@ use std::marker::Model;
 /// How many bytes a word has at most.
 const LONGEST: usize = 64;
 
-// What stands before the first such byte, and what stands behind it where there is one.
+// What stands before the first such byte, and what stands after it where there is one.
 fn cut_at(byte: u8, text: &[u8]) -> (&[u8], Option<&[u8]>)
     ensures front { result.0.now ≡ before byte text.now }
     ensures rest { option_map (λ s. s.now) result.1 ≡ behind byte text.now }

@@ -1,5 +1,8 @@
 //! Numbers of fixed width, highest byte first, as Kafka's protocol writes INT8 to INT64: at the
 //! front of some bytes, at a place of a text, and appended.
+//!
+//! Readers and writers stand one by one over one private reader, since a macro can't write
+//! functions with contracts.
 ghost use Rattle.std.specs.Prelude.{◌≡◌, ◌<◌, ◌≤◌, ◌+◌, ◌++◌, ◌^◌, ℕ, length, take, drop, OnOk};
 ghost use Rattle.std.specs.Prelude.{OnErr, MatchResult, Ok, Err};
 ghost use Rattle.std.specs.Int.{Width, w8, w16, w32, w64, byte_len, cast_signed, to_be_bytes};
@@ -10,7 +13,7 @@ ghost use Rattle.kx_varint.specs.declared.fault.VarFault.TheVariants.{Short};
 use crate::fault::VarFault;
 use std::alloc::AllocError;
 
-// A front of so many bytes, and the bytes behind it.
+// A front of this many bytes, and the bytes after it.
 fn front_of(bytes: &[u8], size: usize) -> Result<(&[u8], &[u8]), VarFault>
     ensures { MatchResult result
         (λ x. (size ≤ length bytes.now) × (x.0.now ≡ take size bytes.now)
@@ -53,7 +56,7 @@ fn u64_of(text: &[u8]) -> u64
     ])
 }
 
-/// The unsigned number of 8 bits at the front, and the bytes behind it. Takes no memory.
+/// The unsigned number of 8 bits at the front, and the bytes after it. Takes no memory.
 ///
 /// # Errors
 ///
@@ -66,7 +69,7 @@ pub fn read_u8(bytes: &[u8]) -> Result<(u8, &[u8]), VarFault>
     Ok((u8_of(front), rest))
 }
 
-/// The signed number of 8 bits at the front, and the bytes behind it. Takes no memory.
+/// The signed number of 8 bits at the front, and the bytes after it. Takes no memory.
 ///
 /// # Errors
 ///
@@ -79,7 +82,7 @@ pub fn read_i8(bytes: &[u8]) -> Result<(i8, &[u8]), VarFault>
     Ok((u8_of(field).cast_signed(), rest))
 }
 
-/// The unsigned number of 16 bits at the front, and the bytes behind it. Takes no memory.
+/// The unsigned number of 16 bits at the front, and the bytes after it. Takes no memory.
 ///
 /// # Errors
 ///
@@ -92,7 +95,7 @@ pub fn read_u16(bytes: &[u8]) -> Result<(u16, &[u8]), VarFault>
     Ok((u16_of(front), rest))
 }
 
-/// The signed number of 16 bits at the front, and the bytes behind it. Takes no memory.
+/// The signed number of 16 bits at the front, and the bytes after it. Takes no memory.
 ///
 /// # Errors
 ///
@@ -105,7 +108,7 @@ pub fn read_i16(bytes: &[u8]) -> Result<(i16, &[u8]), VarFault>
     Ok((u16_of(field).cast_signed(), rest))
 }
 
-/// The unsigned number of 32 bits at the front, and the bytes behind it. Takes no memory.
+/// The unsigned number of 32 bits at the front, and the bytes after it. Takes no memory.
 ///
 /// # Errors
 ///
@@ -118,7 +121,7 @@ pub fn read_u32(bytes: &[u8]) -> Result<(u32, &[u8]), VarFault>
     Ok((u32_of(front), rest))
 }
 
-/// The signed number of 32 bits at the front, and the bytes behind it. Takes no memory.
+/// The signed number of 32 bits at the front, and the bytes after it. Takes no memory.
 ///
 /// # Errors
 ///
@@ -131,7 +134,7 @@ pub fn read_i32(bytes: &[u8]) -> Result<(i32, &[u8]), VarFault>
     Ok((u32_of(field).cast_signed(), rest))
 }
 
-/// The unsigned number of 64 bits at the front, and the bytes behind it. Takes no memory.
+/// The unsigned number of 64 bits at the front, and the bytes after it. Takes no memory.
 ///
 /// # Errors
 ///
@@ -144,7 +147,7 @@ pub fn read_u64(bytes: &[u8]) -> Result<(u64, &[u8]), VarFault>
     Ok((u64_of(front), rest))
 }
 
-/// The signed number of 64 bits at the front, and the bytes behind it. Takes no memory.
+/// The signed number of 64 bits at the front, and the bytes after it. Takes no memory.
 ///
 /// # Errors
 ///
@@ -193,7 +196,7 @@ pub fn i64_at(text: &[u8], at: usize) -> i64
 ///
 /// # Errors
 ///
-/// Only for want of memory; then `out` is as before.
+/// Only where memory runs out; then `out` is as before.
 #[tactic(auto, unfolding(crate::specs::BigEndian::unsigned_text))]
 pub fn put_u8(out: &mut Vec<u8>, n: u8) -> Result<(), AllocError>
     ensures ok { OnOk result (out.new.items ≡ out.old.items ++ unsigned_text w8 n) }
@@ -206,7 +209,7 @@ pub fn put_u8(out: &mut Vec<u8>, n: u8) -> Result<(), AllocError>
 ///
 /// # Errors
 ///
-/// Only for want of memory; then `out` is as before.
+/// Only where memory runs out; then `out` is as before.
 #[tactic(auto, unfolding(crate::specs::BigEndian::signed_text))]
 pub fn put_i8(out: &mut Vec<u8>, n: i8) -> Result<(), AllocError>
     ensures ok { OnOk result (out.new.items ≡ out.old.items ++ signed_text w8 n) }
@@ -219,7 +222,7 @@ pub fn put_i8(out: &mut Vec<u8>, n: i8) -> Result<(), AllocError>
 ///
 /// # Errors
 ///
-/// Only for want of memory; then `out` is as before.
+/// Only where memory runs out; then `out` is as before.
 #[tactic(auto, unfolding(crate::specs::BigEndian::unsigned_text))]
 pub fn put_u16(out: &mut Vec<u8>, n: u16) -> Result<(), AllocError>
     ensures ok { OnOk result (out.new.items ≡ out.old.items ++ unsigned_text w16 n) }
@@ -232,7 +235,7 @@ pub fn put_u16(out: &mut Vec<u8>, n: u16) -> Result<(), AllocError>
 ///
 /// # Errors
 ///
-/// Only for want of memory; then `out` is as before.
+/// Only where memory runs out; then `out` is as before.
 #[tactic(auto, unfolding(crate::specs::BigEndian::signed_text))]
 pub fn put_i16(out: &mut Vec<u8>, n: i16) -> Result<(), AllocError>
     ensures ok { OnOk result (out.new.items ≡ out.old.items ++ signed_text w16 n) }
@@ -245,7 +248,7 @@ pub fn put_i16(out: &mut Vec<u8>, n: i16) -> Result<(), AllocError>
 ///
 /// # Errors
 ///
-/// Only for want of memory; then `out` is as before.
+/// Only where memory runs out; then `out` is as before.
 #[tactic(auto, unfolding(crate::specs::BigEndian::unsigned_text))]
 pub fn put_u32(out: &mut Vec<u8>, n: u32) -> Result<(), AllocError>
     ensures ok { OnOk result (out.new.items ≡ out.old.items ++ unsigned_text w32 n) }
@@ -258,7 +261,7 @@ pub fn put_u32(out: &mut Vec<u8>, n: u32) -> Result<(), AllocError>
 ///
 /// # Errors
 ///
-/// Only for want of memory; then `out` is as before.
+/// Only where memory runs out; then `out` is as before.
 #[tactic(auto, unfolding(crate::specs::BigEndian::signed_text))]
 pub fn put_i32(out: &mut Vec<u8>, n: i32) -> Result<(), AllocError>
     ensures ok { OnOk result (out.new.items ≡ out.old.items ++ signed_text w32 n) }
@@ -271,7 +274,7 @@ pub fn put_i32(out: &mut Vec<u8>, n: i32) -> Result<(), AllocError>
 ///
 /// # Errors
 ///
-/// Only for want of memory; then `out` is as before.
+/// Only where memory runs out; then `out` is as before.
 #[tactic(auto, unfolding(crate::specs::BigEndian::unsigned_text))]
 pub fn put_u64(out: &mut Vec<u8>, n: u64) -> Result<(), AllocError>
     ensures ok { OnOk result (out.new.items ≡ out.old.items ++ unsigned_text w64 n) }
@@ -284,7 +287,7 @@ pub fn put_u64(out: &mut Vec<u8>, n: u64) -> Result<(), AllocError>
 ///
 /// # Errors
 ///
-/// Only for want of memory; then `out` is as before.
+/// Only where memory runs out; then `out` is as before.
 #[tactic(auto, unfolding(crate::specs::BigEndian::signed_text))]
 pub fn put_i64(out: &mut Vec<u8>, n: i64) -> Result<(), AllocError>
     ensures ok { OnOk result (out.new.items ≡ out.old.items ++ signed_text w64 n) }

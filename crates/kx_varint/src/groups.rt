@@ -227,7 +227,7 @@ pub fn varint_len(n: i32) -> usize
 ///
 /// # Errors
 ///
-/// Only for want of memory; then `out` is as before.
+/// Only where memory runs out; then `out` is as before.
 #[tactic(auto, unfolding(crate::specs::Varint::shortest_text))]
 #[inline(always)]
 pub fn put_varint(out: &mut Vec<u8>, n: i32) -> Result<(), AllocError>
@@ -242,7 +242,7 @@ pub fn put_varint(out: &mut Vec<u8>, n: i32) -> Result<(), AllocError>
 ///
 /// # Errors
 ///
-/// Only for want of memory; then `out` is as before.
+/// Only where memory runs out; then `out` is as before.
 #[tactic(auto, unfolding(crate::specs::Varint::shortest_text))]
 #[inline(always)]
 pub fn put_varlong(out: &mut Vec<u8>, n: i64) -> Result<(), AllocError>

@@ -16,7 +16,7 @@ pub const PARKED_LIMIT: usize = 5;
 /// What becomes of a request that is to be parked.
 #[derive(Clone, Copy, Debug, PartialEq, Eq)]
 pub enum Asked {
-    /// It waits for the coordinator.
+    /// The request waits for the coordinator.
     Parked,
     /// Five others of its id and epoch wait, and it doesn't.
     Full,
@@ -26,6 +26,8 @@ pub enum Asked {
 #[derive(Drop)]
 pub struct Guard {
     alloc: Global,
+    // A map by id and epoch, so a look-up doesn't grow with the requests of others; the order
+    // between different ids isn't kept.
     by_held: IndexMap<(ProducerId, Epoch), Vec<Request>>,
 }
 
@@ -43,7 +45,7 @@ impl Model for Guard {
 }
 
 impl Guard {
-    /// None is parked. It takes memory from `alloc` as they come.
+    /// A guard with no parked request. It takes memory from `alloc` as they come.
     pub fn new(alloc: Global) -> Guard
         ensures { result ≡ [] }
     {
@@ -54,12 +56,12 @@ impl Guard {
     }
 
     /// Parks a request, unless five others of its id and epoch are. One that is equal to a parked
-    /// one isn't parked twice: it is let go and answered [`Asked::Parked`], and takes no memory.
+    /// one isn't parked twice: it is dropped and answered [`Asked::Parked`], and takes no memory.
     ///
     /// # Errors
     ///
-    /// Only for want of memory, where it is to be parked. Then all is as before, and the request is
-    /// let go, as it is at [`Asked::Full`].
+    /// Only where memory runs out, where it is to be parked. Then all is as before, and the request
+    /// is dropped, as it is at [`Asked::Full`].
     pub fn ask(&mut self, request: Request) -> Result<Asked, AllocError>
         ensures answer { MatchResult result (λ asked. (asked ≡ answer_to self.old request)
             × SameParked self.new (after self.old request))
@@ -103,7 +105,7 @@ impl Guard {
         Ok(())
     }
 
-    /// Those of an id and epoch, in order of arrival, at most five.
+    /// The parked requests of an id and epoch, in order of arrival, at most five.
     pub fn parked(&self, held: Held) -> &[Request]
         ensures value { result.now ≡ parked_for self.now held }
         ensures few { length (parked_for self.now held) ≤ parked_limit }

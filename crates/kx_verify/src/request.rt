@@ -145,7 +145,7 @@ impl Request {
         self.held
     }
 
-    /// The message that it came as, lent.
+    /// The message that it came as, borrowed.
     pub fn message(&self) -> &Append
         ensures { IsParked (message_of result.now) self.now }
     {

@@ -35,7 +35,7 @@ impl FrameFault {
     }
 }
 
-/// Want of memory is [`FrameFault::Memory`].
+/// Out of memory is [`FrameFault::Memory`].
 impl From<AllocError> for FrameFault {
     ghost from_gives = { λ refused fault. fault ≡ FrameFault.Memory };
 

@@ -20,7 +20,7 @@ use kx_message::{LONGEST_FRAME, Message};
 use std::alloc::{AllocError, Global};
 use std::marker::Model;
 
-// The message of a frame, by its length and the bytes behind the length.
+// The message of a frame, by its length and the bytes after the length.
 fn of_length(alloc: Global, len: usize, rest: &[u8]) -> Result<Option<Message>, FrameFault>
     requires { 0 < len }
     ensures read { MatchResult result
@@ -69,7 +69,7 @@ fn front(alloc: Global, bytes: &[u8]) -> Result<Option<(Message, usize)>, FrameF
     }
 }
 
-// The messages at the front of some bytes, how many bytes their frames take, and the fault behind
+// The messages at the front of some bytes, how many bytes their frames take, and the fault after
 // them.
 #[derive(Drop)]
 struct Scanned {
@@ -106,7 +106,7 @@ fn scan(alloc: Global, bytes: &[u8]) -> Result<Scanned, AllocError>
     }
 }
 
-// Takes the first bytes out, so that what stands behind them is left.
+// Takes the first bytes out, so that what stands after them is left.
 fn drop_front(partial: &mut Vec<u8>, used: usize)
     requires { used ≤ length partial.old.items }
     ensures { partial.new.items ≡ drop used partial.old.items }
@@ -116,8 +116,8 @@ fn drop_front(partial: &mut Vec<u8>, used: usize)
     partial.truncate(left);
 }
 
-// Takes a piece that isn't empty: what is held is then the rest behind the messages, and nothing
-// where a fault stands there. A piece behind nothing is read where it stands, and only its rest is
+// Takes a piece that isn't empty: what is held is then the rest after the messages, and nothing
+// where a fault stands there. A piece after nothing is read where it stands, and only its rest is
 // copied, if it may go on.
 fn take_piece(partial: &mut Vec<u8>, piece: &[u8]) -> Result<Scanned, AllocError>
     requires { piece.now ≢ [] }
@@ -198,8 +198,8 @@ impl Frames {
     /// message comes next, at once where no message comes before it in the piece, and else at the
     /// next call, even of an empty piece. From then on every call answers [`FrameFault::Failed`].
     /// At [`FrameFault::Memory`] nothing of the piece was taken, and it can be fed again. Memory is
-    /// wanted to put a piece behind bytes that are held; where nothing is held, to give messages,
-    /// to read the fields of a message with bytes or a list, and to hold back less than a frame.
+    /// wanted to put a piece after bytes that are held; where nothing is held, to give messages, to
+    /// read the fields of a message with bytes or a list, and to hold back less than a frame.
     pub fn feed(&mut self, piece: &[u8]) -> Result<Vec<Message>, FrameFault>
         ensures fed { Fed self.old piece.now (answer_of result) self.new }
         ensures nothing { (partial : List ℕ) → self.old ≡ Reads partial → piece.now ≡ []
@@ -254,7 +254,7 @@ pub fn frames_tell_messages_apart()
 {}
 
 /// A law: the frames of messages that can be sent, fed in any pieces, come as these messages, and
-/// nothing fails but for want of memory.
+/// nothing fails but where memory runs out.
 pub fn streams_come_as_their_messages()
     ensures { (pieces : List (List ℕ)) (messages : List Message)
         → AllByRecursion IsSendable messages → IsBytes (joined pieces)

@@ -12,7 +12,7 @@ pub use frames::{
 pub use kx_message::{
     AbortedTxn, AbortedTxns, AddPartition, AddReply, Bytes, Caller, ClientId, EndReply, EndTxn,
     Epoch, ErrorCode, Fetch, FetchReply, GroupId, Held, InitProducerId, InitReply, Join, JoinReply,
-    Leave, LeaveReply, MarkerReply, Message, Node, OffsetFetch, OffsetFetchReply, Offsets,
+    Leave, LeaveReply, MarkerReply, Message, NodeId, OffsetFetch, OffsetFetchReply, Offsets,
     OffsetsReply, Outcome, PartitionId, PartitionOffset, Produce, ProduceReply, ProducerId, Raised,
     Timeout, TxnId, TxnOffsetCommit, ValueFault, WriteMarker, code, message, outcome, payload,
     replies, requests,

@@ -3,7 +3,7 @@ use Rattle.std.specs.Prelude.{◌≡◌, ◌≤◌, ℕ, Bool, true, false, List
 use Rattle.std.specs.Prelude.{Some, None, MatchOption}
 use Rattle.kx_message.specs.Messages as the
 use Rattle.kx_model.specs.Coordinator as model
-use Rattle.kx_model.specs.Coordinator.{Note, State, Empty, Ongoing, Prepare, Complete}
+use Rattle.kx_model.specs.Coordinator.{TxnEntry, State, Empty, Ongoing, Prepare, Complete}
 use Rattle.kx_model.specs.Coordinator.{Written, next_id}
 use Rattle.kx_model.specs.CoordinatorNode.{Reply, has_no_id, id_limit}
 use Rattle.kx_model.specs.Requests as requests
@@ -15,7 +15,7 @@ use Rattle.kx_coord.specs.declared.answer.ReplyTo.{ReplyTo}
 use Rattle.kx_coord.specs.declared.answer.ReplyTo.TheVariants as to
 
 -- the next id of a log, or none where ids are used up
-abbrev pub IsNextId : List Note → Option ℕ → Type 0
+abbrev pub IsNextId : List TxnEntry → Option ℕ → Type 0
 IsNextId log next = MatchOption next (id_limit ≤ next_id log) (λ id. id ≡ next_id log)
 
 -- a row was made, or an id is missing for it
@@ -24,7 +24,7 @@ IsMade r made = MatchOption made (has_no_id (Written r) ≡ true) (λ row. row_o
 
 -- the answer, where an entry needs an id and none is left
 pub record NeedsId (a : requests.Answer) : Type 0 where
-  pub note : Note
+  pub note : TxnEntry
   pub is : a.note ≡ Some note
   pub none : has_no_id note ≡ true
 

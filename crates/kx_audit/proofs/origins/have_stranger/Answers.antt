@@ -1,4 +1,4 @@
-use Rattle.std.proofs.Common.{◌≡◌, Some, length, refl, arith, rules}
+use Rattle.std.proofs.Common.{◌≡◌, ◌++◌, Some, length, refl, arith, rules}
 use Rattle.std.specs.Prelude.{slice_get}
 use Rattle.std.proofs.lemmas.Option.{slice_get_read, slice_get_within}
 use Rattle.kx_audit.specs.Origins.{sent_by}
@@ -15,7 +15,7 @@ returns-then-branch-clause-some g c = λ _.
       number = n;
       node = p;
       there = slice_get_read nodes (length nodes) n p refl (omega arith) c.node-item.is;
-      takes = rw c.in_ok-all.ensures at c.in_ok-takes_stranger.ensures.some (search rules);
+      takes = rw c.in_ok-gather.ensures at c.in_ok-takes_stranger.ensures.some (search rules);
     }
 
 pub loop-node-preserved : goal.loop-node-preserved
@@ -25,8 +25,9 @@ loop-node-preserved g c =
     let p = c.node-item.result in
     let at : slice_get nodes n ≡ Some p =
     slice_get_read nodes (length nodes) n p refl (omega arith) c.node-item.is in
-    let none = rw c.in_ok-all.ensures at c.in_ok-takes_stranger.ensures.none (search rules) in
-    more_places nodes n p (λ k q. TakesStranger (sent_by nodes) q.trace.steps → ⊥) at
+    let none = rw c.in_ok-gather.ensures at c.in_ok-takes_stranger.ensures.none (search rules) in
+    more_places nodes n p
+    (λ k q. TakesStranger (c.args.arrived ++ sent_by nodes) q.trace.steps → ⊥) at
     c.loop-node.invariant none
 
 pub returns-clause-none : goal.returns-clause-none

@@ -12,5 +12,5 @@ returns g c =
     (g.B.Machine.Machine.allows c.prepare.new.machine)
     (λ node store. MayMeet node (mode_for c.args.step.now c.args.behind.now) store)
     (λ node stood. c.take.ensures node (c.prepare.ensures.stands node stood))
-    (λ node store stood allowed. subst (λ mode. MayMeet node mode store) c.mode_for.ensures
-    (c.prepare.ensures.meets node store (c.prepare.ensures.stands node stood) allowed))
+    (λ node size store stood allowed. subst (λ mode. MayMeet node mode store) c.mode_for.ensures
+    (c.prepare.ensures.meets node size store (c.prepare.ensures.stands node stood) allowed))

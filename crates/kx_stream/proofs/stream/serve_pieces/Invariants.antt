@@ -1,4 +1,3 @@
-use Rattle.std.specs.Prelude.{◌≡◌, length}
 use Rattle.kx_stream.proofs.Streams.{Along}
 use Rattle.kx_stream.proofs.stream.serve_pieces.Given as goal
 
@@ -7,4 +6,3 @@ invariant-loop-reads g l =
     Along g.M.Machine.stands g.M.Machine.allows l.reads l.initial.machine l.machine
     (g.R.Read.remaining l.initial.reader) (g.R.Read.remaining l.reader)
     (g.W.Write.contents l.initial.writer) (g.W.Write.contents l.writer) l.frames
-    × (length l.piece.items ≡ 65536)

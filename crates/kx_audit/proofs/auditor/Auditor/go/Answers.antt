@@ -29,6 +29,7 @@ pub taken-requires : goal.taken-requires
 taken-requires g c =
     let p = c.index_mut-replayer.result.now in
     let i : Merged _ _ = record {
+      clients = c.self.inside.clients;
       nodes = c.self.inside.nodes.items;
       turns = c.self.inside.turns.items;
       sent = c.self.inside.sent;
@@ -42,6 +43,7 @@ pub advance-requires : goal.advance-requires
 advance-requires g c =
     let p = c.index_mut-replayer.result.now in
     let i : Merged _ _ = record {
+      clients = c.self.inside.clients;
       nodes = c.self.inside.nodes.items;
       turns = c.self.inside.turns.items;
       sent = c.self.inside.sent;
@@ -54,6 +56,7 @@ pub invariant_of-result : goal.invariant_of-result
 invariant_of-result g c =
     let p = c.index_mut-replayer.result.now in
     let i : Merged _ _ = record {
+      clients = c.self.inside.clients;
       nodes = c.self.inside.nodes.items;
       turns = c.self.inside.turns.items;
       sent = c.self.inside.sent;
@@ -76,6 +79,7 @@ pub returns-clause-traces : goal.returns-clause-traces
 returns-clause-traces g c =
     let p = c.index_mut-replayer.result.now in
     let i : Merged _ _ = record {
+      clients = c.self.inside.clients;
       nodes = c.self.inside.nodes.items;
       turns = c.self.inside.turns.items;
       sent = c.self.inside.sent;
@@ -89,6 +93,7 @@ pub returns-clause-fewer : goal.returns-clause-fewer
 returns-clause-fewer g c =
     let p = c.index_mut-replayer.result.now in
     let i : Merged _ _ = record {
+      clients = c.self.inside.clients;
       nodes = c.self.inside.nodes.items;
       turns = c.self.inside.turns.items;
       sent = c.self.inside.sent;

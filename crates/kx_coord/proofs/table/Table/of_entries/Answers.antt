@@ -1,7 +1,7 @@
 use Rattle.std.proofs.Common.{◌≡◌, ◌∙◌, ◌+◌, ◌<◌, ◌++◌, ℕ, List, [], ◌∷◌, ap, get_or, length, map}
 use Rattle.std.proofs.Common.{subst, sym, take}
 use Rattle.std.proofs.lemmas.List.{map-append}
-use Rattle.kx_model.specs.Coordinator.{Note}
+use Rattle.kx_model.specs.Coordinator.{TxnEntry}
 use Rattle.kx_txnlog.specs.Entry.{note_of}
 use Rattle.kx_txnlog.specs.declared.entry.Entry.{Entry}
 use Rattle.kx_coord.specs.Internal.Follows.{Follows}
@@ -26,5 +26,5 @@ loop-entry-preserved c =
     let noted = c.note.ensures log follows in
     let same = noted_more c.args.entries.now c.loop-entry.entry-index c.entry-item.result
     c.in_ok-copy.copy c.loop-entry-test.true c.entry-item.is c.in_ok-copy.ensures.cases in
-    subst (λ (l : List Note). Follows l c.note.new.self.rows.entries c.note.new.self.next_id
+    subst (λ (l : List TxnEntry). Follows l c.note.new.self.rows.entries c.note.new.self.next_id
     c.note.new.self.epoch) same noted

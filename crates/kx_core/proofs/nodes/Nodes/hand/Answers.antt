@@ -3,8 +3,8 @@ use Rattle.kx_core.specs.Clients.{processors_in}
 use Rattle.kx_core.specs.World.{IsHandedIn, StandForAll, given}
 use Rattle.kx_core.proofs.Standing.{matched}
 use Rattle.kx_core.proofs.Systems.{no_turn, still}
-use Rattle.kx_message.specs.declared.message.Node.{Node}
-use Rattle.kx_message.specs.declared.message.Node.TheVariants as node
+use Rattle.kx_message.specs.declared.message.NodeId.{NodeId}
+use Rattle.kx_message.specs.declared.message.NodeId.TheVariants as node
 use Rattle.kx_core.proofs.nodes.Nodes.hand.Goals as goal
 
 pub returns-in-Partition-2 : goal.returns-in-Partition-2
@@ -17,7 +17,7 @@ returns-in-Partition-2 g c = λ s h.
     let after = c.hand_partition.new.self in
     let same = c.hand_partition.ensures.clients in
     matched c.hand_partition.result (c.hand_partition.ensures.stand s.world h.world)
-    (λ taken t. subst (λ (to : Node). IsHandedIn s to c.args.mode (given c.args.handed)
+    (λ taken t. subst (λ (to : NodeId). IsHandedIn s to c.args.mode (given c.args.handed)
     (StandForAll C P O image_of after) taken) (sym c.in-Partition-2.is)
     (no_turn C P O image_of c.args.self.now after s place c.args.mode (given c.args.handed) taken
     h refl (ap (processors_in image_of) same) t))

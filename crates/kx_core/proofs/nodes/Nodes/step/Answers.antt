@@ -1,8 +1,9 @@
-use Rattle.std.proofs.Common.{◌∙◌, List, ap, refl, subst, sym}
+use Rattle.std.proofs.Common.{◌∙◌, ◌∷◌, [], List, ap, refl, subst, sym}
 use Rattle.std.specs.Prelude.{slice_get}
 use Rattle.kx_core.specs.World.{Occurs, StandForAll}
-use Rattle.kx_core.proofs.Happening.{is_delivered, is_handed, is_made, makes_client}
+use Rattle.kx_core.proofs.Happening.{is_arrived, is_delivered, is_handed, is_made, makes_client}
 use Rattle.kx_core.proofs.Happening.{makes_processor, not_delivered, not_handed}
+use Rattle.kx_core.proofs.Happening.{request_arrived}
 use Rattle.kx_core.proofs.Standing.{matched}
 use Rattle.kx_machine.specs.declared.taken.Taken.{Taken}
 use Rattle.kx_message.specs.declared.message.Message.{Message}
@@ -93,3 +94,19 @@ returns-else-is_message g c = λ s h sent.
     (λ taken t. subst (λ event. Occurs image_of s event Stand taken) (sym c.in-Hand.is)
     (is_handed image_of Stand s taken c.in-Hand.to c.in-Hand.input c.in-Hand.store other t))
     (λ refused stand. stand)
+
+pub returns-in_ok-message-in-Arrive : goal.returns-in_ok-message-in-Arrive
+returns-in_ok-message-in-Arrive g c = λ s h sent.
+    let C = g.C.Machine.stands in
+    let P = g.P.Machine.stands in
+    let O = g.O.Machine.stands in
+    let image_of = g.F.Process.image_of in
+    let Stand = StandForAll C P O image_of c.args.self.now in
+    let taken = c.arrived.result in
+    let request = c.in-Arrive.request in
+    subst (λ event. Occurs image_of s event Stand taken) (sym c.in-Arrive.is)
+    (is_arrived image_of Stand s taken request (request_arrived C P O image_of _ s request h)
+    (ap (λ (t : Taken). t.messages) c.arrived.ensures
+    ∙ ap (λ (m : Message). m ∷ []) c.in_ok-message-in-Arrive.ensures)
+    (ap (λ (t : Taken). t.note) c.arrived.ensures)
+    (ap (λ (t : Taken). t.failed) c.arrived.ensures))

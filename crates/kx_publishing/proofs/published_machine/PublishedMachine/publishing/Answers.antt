@@ -10,6 +10,7 @@ invariant_of-result g c =
     let done = c.in_ok-publisher.publisher in (
       runs_with g.L.Locked.stands g.L.Readable.log g.met.L.Readable.log_is c.args.locked wrote.0
           wrote.1 wrote.2 done
-          (log, ap (λ (l : List Stored). l ++ log) c.in_ok-publisher.ensures.2),
+          (log, ap (λ (l : List Stored). l ++ log) c.in_ok-publisher.ensures.2)
+          (log, ap (λ (l : List Stored). l ++ log) c.in_ok-publisher.ensures.3),
       search rules,
     )

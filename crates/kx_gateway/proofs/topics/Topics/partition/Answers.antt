@@ -1,0 +1,9 @@
+use Rattle.std.proofs.Common.{arith, refl, subst}
+use Rattle.kx_gateway.specs.Topics.{IsTable}
+use Rattle.kx_gateway.proofs.Tables.{table_room}
+use Rattle.kx_gateway.proofs.topics.Topics.partition.Goals as goal
+
+pub loop-topic-init : goal.loop-topic-init
+loop-topic-init c =
+    let room = table_room c.args.self.now (subst IsTable c.self.view_is c.self.invariant) in
+    record { found = refl; room = omega (arith, room) }

@@ -1,0 +1,9 @@
+pub mod Topics
+pub mod Codes
+pub mod Offer
+pub mod Answers
+pub mod Produce
+pub mod Fetch
+pub mod Init
+pub mod TableFile
+pub mod Metadata

@@ -1,0 +1,21 @@
+-- The APIs that are served, in which versions.
+use Rattle.std.specs.Prelude.{pos, List, [], ◌∷◌, Bool, ◌==◌}
+use Rattle.std.specs.List.{list_any}
+use Rattle.kx_kafka_types.specs.Schema.{Values}
+use Rattle.kx_kafka.specs.declared.api_key.ApiKey.{ApiKey}
+use Rattle.kx_kafka.specs.declared.api_key.ApiKey.TheVariants as api
+use Rattle.kx_kafka.specs.Apis.{number_of, first_version, last_version}
+use Rattle.kx_kafka.specs.Layouts.{api_version}
+
+abbrev pub offered : List ApiKey
+offered =
+    api.Produce ∷ api.Fetch ∷ api.ListOffsets ∷ api.Metadata ∷ api.FindCoordinator
+    ∷ api.ApiVersions ∷ api.InitProducerId ∷ []
+
+abbrev pub is_offered : ApiKey → Bool
+is_offered key = list_any (λ k. number_of k == number_of key) offered
+
+-- its number, and from which version it is spoken up to which
+abbrev pub range_of : ApiKey → Values api_version
+range_of key =
+    (pos (number_of key), (pos (first_version key), (pos (last_version key), tt)))

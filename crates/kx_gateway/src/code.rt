@@ -1,0 +1,28 @@
+//! Error codes of Kafka's that the core has none of.
+ghost use Rattle.std.specs.Prelude.{◌≡◌, pos};
+ghost use Rattle.kx_gateway.specs.Codes.{number_of};
+
+/// An error code that the core never answers, with the number of the Kafka protocol guide's table
+/// "Error Codes".
+#[derive(Clone, Copy, Debug, PartialEq, Eq)]
+pub enum GatewayCode {
+    /// Kafka doesn't allow the name for a topic.
+    InvalidTopic = 17,
+    /// No broker waits for as many replicas as that.
+    InvalidRequiredAcks = 21,
+    /// The API isn't spoken in this version.
+    UnsupportedVersion = 35,
+    /// A field has a value that Kafka has no meaning for.
+    InvalidRequest = 42,
+    /// The client may not use the transactional id.
+    TransactionalIdAuthorizationFailed = 53,
+}
+
+impl GatewayCode {
+    /// The number of the code as it goes over the wire, an int16.
+    pub fn number(self) -> i16
+        ensures { result ≡ pos (number_of self) }
+    {
+        self as i16
+    }
+}

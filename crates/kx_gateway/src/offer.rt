@@ -1,0 +1,81 @@
+//! The APIs that are served, in which versions.
+ghost use Rattle.std.specs.Prelude.{◌≡◌, IfOk, map};
+ghost use Rattle.kx_kafka.specs.Frames.{frame_text, response_text};
+ghost use Rattle.kx_kafka.specs.Layouts.{api_versions_response};
+ghost use Rattle.kx_kafka.specs.Requests.{plain};
+ghost use Rattle.kx_gateway.specs.Offer.{is_offered, offered, range_of};
+
+use kx_kafka::{
+    ApiKey, ApiVersion, ApiVersionsResponse, KafkaFault, Version, Writes, response_frame,
+};
+use std::alloc::Global;
+
+/// Whether the API is served.
+pub fn is_offered(api: ApiKey) -> bool
+    ensures { result ≡ is_offered api }
+{
+    matches!(
+        api,
+        ApiKey::Produce
+            | ApiKey::Fetch
+            | ApiKey::ListOffsets
+            | ApiKey::Metadata
+            | ApiKey::FindCoordinator
+            | ApiKey::ApiVersions
+            | ApiKey::InitProducerId
+    )
+}
+
+// The versions of an API that are spoken.
+fn range_of(api: ApiKey) -> ApiVersion
+    ensures { ⟦<ApiVersion as Writes>⟧.values result ≡ range_of api }
+{
+    ApiVersion {
+        api_key: api.number(),
+        min_version: api.first_version() as i16,
+        max_version: api.last_version() as i16,
+    }
+}
+
+fn offered_ranges() -> [ApiVersion; 7]
+    ensures { map ⟦<ApiVersion as Writes>⟧.values result ≡ map range_of offered }
+{
+    [
+        range_of(ApiKey::Produce),
+        range_of(ApiKey::Fetch),
+        range_of(ApiKey::ListOffsets),
+        range_of(ApiKey::Metadata),
+        range_of(ApiKey::FindCoordinator),
+        range_of(ApiKey::ApiVersions),
+        range_of(ApiKey::InitProducerId),
+    ]
+}
+
+// The responses to ApiVersions have this layout in each version of the request.
+const PLAIN: Version = Version {
+    number: 0,
+    flexible: false,
+};
+
+/// The frame of a response to ApiVersions, in the layout of version 0: the APIs that are served,
+/// each from its first version that is spoken to the last. The code is 0, or 35 for a request in
+/// another version, of which [`RequestFront`](kx_kafka::RequestFront) alone can be read.
+///
+/// # Errors
+///
+/// Only [`KafkaFault::Memory`].
+pub fn api_versions_frame(
+    alloc: Global,
+    correlation_id: i32,
+    error_code: i16,
+) -> Result<Vec<u8>, KafkaFault>
+    ensures { IfOk result (λ frame. frame.items ≡ frame_text (response_text plain correlation_id
+        api_versions_response (error_code, (map range_of offered, tt)))) }
+{
+    let api_keys = offered_ranges();
+    let response = ApiVersionsResponse {
+        error_code,
+        api_keys: &api_keys,
+    };
+    response_frame(alloc, PLAIN, correlation_id, &response)
+}

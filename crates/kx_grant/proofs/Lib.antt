@@ -1,0 +1,7 @@
+pub mod Again
+pub mod Ends
+pub mod Known
+pub mod Places
+pub mod Rises
+pub mod Sends
+pub mod Within

@@ -1,0 +1,104 @@
+//! Laws of the definitions.
+ghost use Rattle.std.specs.Prelude.{◌≡◌, ◌≢◌, ◌≤◌, ◌⊎◌, ◌↔◌, ℕ, ℤ, pos, List, Option, Some, true};
+ghost use Rattle.std.specs.Prelude.{false, ◌<◌, ◌+◌};
+ghost use Rattle.kx_message.specs.declared.message.Held.{Held};
+ghost use Rattle.kx_message.specs.declared.outcome.Outcome.{Outcome};
+ghost use Rattle.kx_message.specs.declared.code.ErrorCode.{ErrorCode};
+ghost use Rattle.kx_grant.specs.Sequences.{IsSequence, sequences, since};
+ghost use Rattle.kx_grant.specs.Grant.{after_batch, batch_verdict, begun, end_verdict};
+ghost use Rattle.kx_grant.specs.Grant.{ended, listed_at, next_at, reopened};
+ghost use Rattle.kx_grant.specs.Steps.{AllRaise, EndsSo, Fits, IsGrant, IsRaised, Step};
+ghost use Rattle.kx_grant.specs.Steps.{after_all};
+ghost use Rattle.kx_grant.specs.Steps.{after_step, all_keep_grant, all_records_in, all_stay, rank};
+ghost use Rattle.kx_grant.specs.declared.grant.Grant.{Grant};
+ghost use Rattle.kx_grant.specs.declared.grant.LastRow.{LastRow};
+ghost use Rattle.kx_grant.specs.declared.grant.Listed.{Listed};
+ghost use Rattle.kx_grant.specs.declared.grant.Phase.{Phase};
+ghost use Rattle.kx_grant.specs.declared.verdicts.BatchVerdict.{BatchVerdict};
+ghost use Rattle.kx_grant.specs.declared.verdicts.EndVerdict.{EndVerdict};
+
+/// A law: in one transaction a client's batch is sent to the core with one id, epoch and base
+/// sequence, however often it arrives, and batches of a partition that begin at different sequences
+/// are sent with different base sequences. In different transactions batches are sent with
+/// different ids or epochs, if the core raises the epoch at each end. A late batch of an earlier
+/// transaction isn't sent to the core: one that begins before the sequence at which the transaction
+/// began in the partition, as long as both together have fewer than 2^31 records.
+pub fn a_batch_is_sent_as_one()
+    ensures one { (g : Grant) (steps : List Step) (held other one two : Held)
+        (p first later count more : ℕ) (at place : ℤ)
+        → IsGrant g → IsSequence first → IsSequence later
+        → batch_verdict g held p (pos first) count ≡ BatchVerdict.Send one at
+        → all_stay steps ≡ true
+        → batch_verdict (after_all (after_batch g held p (pos first) count) steps) other p
+        (pos later) more ≡ BatchVerdict.Send two place
+        → (two ≡ one) × (first ≡ later ↔ at ≡ place) }
+    ensures apart { (g : Grant) (steps : List Step) (held other one two : Held) (p q : ℕ)
+        (first later : ℤ) (count more : ℕ) (at place : ℤ)
+        → batch_verdict g held p first count ≡ BatchVerdict.Send one at
+        → all_stay steps ≡ false → AllRaise (after_batch g held p first count) steps
+        → batch_verdict (after_all (after_batch g held p first count) steps) other q later more
+        ≡ BatchVerdict.Send two place
+        → IsRaised one two }
+    ensures late { (g : Grant) (held : Held) (p first count : ℕ) (listed : Listed)
+        (base sent : ℕ) (one : Held) (at : ℤ)
+        → IsSequence base → IsSequence first
+        → listed_at g p ≡ Some listed → listed.base ≡ Some base → next_at g p ≡ Some sent
+        → 0 < since first base → since first base + since base sent < sequences
+        → batch_verdict g held p (pos first) count ≡ BatchVerdict.Send one at → ⊥ }
+{}
+
+/// A law: a batch that was taken, or refused for good, before its transaction ended is sent to the
+/// core in no later transaction, for as long as the producer keeps its id and epoch and counts
+/// fewer than 2^31 records in the partition from the batch on.
+pub fn a_batch_is_sent_in_one_transaction()
+    ensures { (g : Grant) (steps : List Step) (held next : Held) (decided : Outcome)
+        (p first counted count : ℕ) (one : Held) (at : ℤ)
+        → IsSequence first → IsSequence counted
+        → next_at g p ≡ Some counted → 0 < since first counted
+        → all_keep_grant steps ≡ true
+        → since first counted + all_records_in (ended decided next g) p steps < sequences
+        → batch_verdict (after_all (ended decided next g) steps) held p (pos first) count
+        ≡ BatchVerdict.Send one at → ⊥ }
+{}
+
+/// A law: once a batch was sent to the core, the core is asked to end its transaction. An end is
+/// answered with code 0 without asking only if nothing of its transaction was sent to the core, or
+/// if the core ended it before with this outcome: a grant remembers an outcome only after a step
+/// that ends a transaction so, or after a restart, from the coordinator's log.
+pub fn an_end_is_decided_by_the_core()
+    ensures asked { (g : Grant) (steps : List Step) (held one : Held) (p : ℕ) (first : ℤ)
+        (count : ℕ) (at : ℤ) (outcome : Outcome)
+        → batch_verdict g held p first count ≡ BatchVerdict.Send one at
+        → all_stay steps ≡ true
+        → end_verdict (after_all (after_batch g held p first count) steps) held outcome
+        ≡ EndVerdict.Ask one outcome }
+    ensures answered { (g : Grant) (held : Held) (outcome : Outcome)
+        → end_verdict g held outcome ≡ EndVerdict.Answer ErrorCode.NoError
+        → (g.phase ≡ Phase.Empty) ⊎ ((g.phase ≡ Phase.Ended outcome)
+        ⊎ (g.phase ≡ Phase.Decided outcome)) }
+    ensures remembered { (g : Grant) (step : Step) (outcome : Outcome)
+        → (after_step g step).phase ≡ Phase.Ended outcome
+        → (g.phase ≡ Phase.Ended outcome) ⊎ EndsSo g step outcome }
+    ensures read { (g : Grant) (step : Step) (outcome : Outcome)
+        → (after_step g step).phase ≡ Phase.Decided outcome → g.phase ≡ Phase.Decided outcome }
+{}
+
+/// A law: a producer that asks for an id anew is granted another pair than it held, if the core
+/// raises the epoch at each end and at each new grant.
+pub fn a_bump_answers_another_pair()
+    ensures behind { (g : Grant) (steps : List Step) → rank g.granted ≤ rank g.core
+        → AllRaise g steps
+        → rank (after_all g steps).granted ≤ rank (after_all g steps).core }
+    ensures another { (g : Grant) (asked held : Held) → rank g.granted ≤ rank g.core
+        → IsRaised g.core held → (begun (Some asked) held).granted ≢ g.granted }
+{}
+
+/// A law: what a grant knows of a client's sequences are sequences, 0 to 2^31 - 1, from the begin
+/// on and after each step, as the int32 of a batch is one where it isn't below 0.
+pub fn grants_know_sequences()
+    ensures begun { (before : Option Held) (held : Held) → IsGrant (begun before held) }
+    ensures reopened { (granted core : Held) (row : LastRow)
+        → IsGrant (reopened granted core row) }
+    ensures kept { (g : Grant) (step : Step) → IsGrant g → Fits step
+        → IsGrant (after_step g step) }
+{}

@@ -1,0 +1,42 @@
+//! What becomes of a producer's requests.
+
+use kx_message::{ErrorCode, Held, Outcome};
+
+/// What becomes of a request for an id.
+#[derive(Clone, Copy, Debug, PartialEq, Eq)]
+pub enum InitVerdict {
+    /// The core is asked for a new grant.
+    Ask,
+    /// Another producer was granted the transactional id since.
+    Fenced,
+}
+
+/// What becomes of a batch.
+#[derive(Clone, Copy, Debug, PartialEq, Eq)]
+pub enum BatchVerdict {
+    /// The core is asked to append it, with this id and epoch and this base sequence.
+    Send {
+        /// The core's id and epoch for the transaction.
+        held: Held,
+        /// The sequence of its first record at the core, 0 to 2^31 - 1.
+        first: i32,
+    },
+    /// It is refused with this code, and the core isn't asked.
+    Refused(ErrorCode),
+}
+
+/// What becomes of a request to end the transaction.
+#[derive(Clone, Copy, Debug, PartialEq, Eq)]
+pub enum EndVerdict {
+    /// The core is asked to end it, with this id and epoch and this outcome.
+    Ask {
+        /// The core's id and epoch for the transaction.
+        held: Held,
+        /// How it ends.
+        outcome: Outcome,
+    },
+    /// It is answered with this code, and the core isn't asked.
+    Answer(ErrorCode),
+    /// Another producer was granted the transactional id since.
+    Fenced,
+}

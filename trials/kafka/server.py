@@ -1,0 +1,86 @@
+"""Starts and ends the program for a trial, and says what came of the trial."""
+import os
+import shutil
+import signal
+import subprocess
+import sys
+import tempfile
+
+
+class Server:
+    """PROGRAM kafka, on a port that is free, in a folder or in memory."""
+
+    def __init__(self, program, *words, folder=None):
+        self.program, self.words, self.folder, self.process, self.port = program, words, folder, None, 0
+
+    def start(self):
+        words = [self.program, "kafka", "--port", str(self.port), *self.words]
+        if self.folder:
+            words += ["--dir", self.folder]
+        self.process = subprocess.Popen(words, stdout=subprocess.PIPE, text=True)
+        line = self.process.stdout.readline().split()
+        if len(line) != 2 or line[0] != "listening":
+            raise SystemExit(f"the server said {line}")
+        self.port = int(line[1])
+        return self
+
+    def kill(self, how=signal.SIGKILL):
+        self.process.send_signal(how)
+        self.process.wait()
+
+    def seconds_of_processor(self):
+        """User and system time that the server has taken."""
+        with open(f"/proc/{self.process.pid}/stat") as stat:
+            fields = stat.read().rsplit(")", 1)[1].split()
+        return (int(fields[11]) + int(fields[12])) / os.sysconf("SC_CLK_TCK")
+
+    @property
+    def address(self):
+        return f"127.0.0.1:{self.port}"
+
+    def __enter__(self):
+        return self.start()
+
+    def __exit__(self, *_):
+        self.kill()
+
+
+class Trial:
+    """Counts what was looked at, and what wasn't as it should be."""
+
+    def __init__(self):
+        self.passed = self.failed = 0
+
+    def look(self, what, found, wanted):
+        if found == wanted:
+            self.passed += 1
+            print(f"ok {what}")
+        else:
+            self.failed += 1
+            print(f"FAILED {what}: found {found!r}, wanted {wanted!r}")
+
+    def end(self):
+        print(f"{self.passed} passed, {self.failed} failed")
+        raise SystemExit(1 if self.failed else 0)
+
+
+def program():
+    """The program of the first word, or the one that the gate has built. Ends the trial in words where
+    it doesn't serve stock clients."""
+    top = os.path.dirname(os.path.dirname(os.path.dirname(os.path.abspath(__file__))))
+    found = sys.argv[1] if len(sys.argv) > 1 else os.path.join(top, "crates/kx_main/out/kx_main")
+    if subprocess.run([found, "kafka", "--help"], capture_output=True, check=False).returncode != 0:
+        print("skipped: the program serves no stock clients")
+        raise SystemExit(0)
+    return found
+
+
+def needs(tool, package):
+    """Ends the trial in words where a tool isn't installed."""
+    if shutil.which(tool) is None:
+        print(f"skipped: {tool} isn't installed (Debian's {package})")
+        raise SystemExit(0)
+
+
+def folder():
+    return tempfile.TemporaryDirectory(prefix="kx-")
