@@ -329,7 +329,7 @@ module _ {C P O F : Type 0} (Coordinates : NodeState → C → Type 0) (Serves :
         store = t.store;
         allowed = subst
             (λ (o : Option Partition).
-                IsMode m (bytes_for (partition_node number o) input) t.store) (sym here) t.allowed;
+            IsMode m (bytes_for (partition_node number o) input) t.store) (sym here) t.allowed;
         stand = subst (λ (x : Stepped). Stand
             (record nodes { partitions = slice_set nodes.partitions number after }) x.0) (sym done)
             (record {
