@@ -14,6 +14,30 @@ fn of_client(alloc: Global, request: &[u8], number: u32) -> Result<Vec<u8>, Step
     Ok(whole)
 }
 
+// A frame with zeros in the place of each port that stands after the server's address.
+fn without_port(alloc: Global, frame: &[u8], port: u16) -> Result<Vec<u8>, StepFault> {
+    let mut named = Vec::from_slice(alloc, b"127.0.0.1".as_slice())?;
+    named.extend_from_slice(u32::from(port).to_be_bytes().as_slice())?;
+    let mut hidden = Vec::new(alloc);
+    let mut rest = frame;
+    for _ in 0..frame.len() {
+        let Some((first, after)) = rest.split_first() else {
+            break;
+        };
+        match rest.strip_prefix(named.as_slice()) {
+            Some(after) => {
+                hidden.extend_from_slice(b"127.0.0.1\0\0\0\0".as_slice())?;
+                rest = after;
+            }
+            None => {
+                hidden.push(*first)?;
+                rest = after;
+            }
+        }
+    }
+    Ok(hidden)
+}
+
 /// The connections of a session, each under a name.
 #[derive(Drop)]
 pub(crate) struct Clients {
@@ -135,6 +159,24 @@ impl Clients {
     pub(crate) fn tell_next(&self, name: &str, told: &mut String) -> Result<(), StepFault> {
         let frame = match self.named(name)?.receive(self.alloc)? {
             Some(frame) => told_bytes(self.alloc, frame.as_slice())?,
+            None => String::from_str(self.alloc, "nothing")?,
+        };
+        Ok(writeln!(told, "{name} {frame}")?)
+    }
+
+    /// Tells the next frame that comes over a connection, with zeros where the server names its own
+    /// port after its address.
+    pub(crate) fn tell_portless(
+        &self,
+        name: &str,
+        port: u16,
+        told: &mut String,
+    ) -> Result<(), StepFault> {
+        let frame = match self.named(name)?.receive(self.alloc)? {
+            Some(frame) => {
+                let frame = without_port(self.alloc, frame.as_slice(), port)?;
+                told_bytes(self.alloc, frame.as_slice())?
+            }
             None => String::from_str(self.alloc, "nothing")?,
         };
         Ok(writeln!(told, "{name} {frame}")?)

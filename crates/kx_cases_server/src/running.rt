@@ -2,7 +2,8 @@
 use crate::lines::{Lines, next_line};
 use crossbeam_channel::Receiver;
 use kx_cases::{StepFault, value};
-use kx_server::{Connections, Partitions, ServeFault, ServeOptions, serve};
+use kx_kafka_server::{KafkaOptions, KafkaServeFault, Topics, serve_kafka, topics_asked};
+use kx_server::{Connections, Partitions, ServeFault, ServeOptions, Until, serve};
 use std::alloc::{AllocError, Global};
 use std::fs::{File, Files};
 use std::net::{Net, TcpListener, TcpStream};
@@ -54,11 +55,66 @@ impl Wanted {
     }
 }
 
+/// What a server of stock clients is asked for.
+#[derive(Drop)]
+pub(crate) struct Stock {
+    pub(crate) topics: Topics,
+    pub(crate) makes_topics: bool,
+    pub(crate) connections: Connections,
+    pub(crate) dir: Option<String>,
+}
+
+impl Stock {
+    /// What these words ask for; topics are made where none are given.
+    pub(crate) fn new(
+        alloc: Global,
+        connections: &str,
+        topics: Option<&str>,
+        dir: Option<&str>,
+    ) -> Result<Stock, StepFault> {
+        let dir = match dir {
+            Some(dir) => Some(String::from_str(alloc, dir)?),
+            None => None,
+        };
+        Ok(Stock {
+            topics: match topics {
+                Some(topics) => topics_asked(alloc, topics).map_err(|_| StepFault::Unknown)?,
+                None => Topics::new(alloc),
+            },
+            makes_topics: topics.is_none(),
+            connections: Connections::new(value(connections)?).ok_or(StepFault::Unknown)?,
+            dir,
+        })
+    }
+
+    /// These as options, on any port that is free.
+    fn options(&self) -> KafkaOptions<'_> {
+        KafkaOptions {
+            topics: &self.topics,
+            makes_topics: self.makes_topics,
+            port: 0,
+            dir: self.dir.as_deref(),
+            connections: self.connections,
+            until: Until::Served,
+            tells_progress: false,
+        }
+    }
+}
+
+/// How a server ended.
+#[derive(Drop)]
+pub(crate) enum Ended {
+    /// One of the project's own protocol.
+    Own(Result<(), ServeFault>),
+    /// One of stock clients.
+    Stock(Result<(), KafkaServeFault>),
+}
+
 /// A server on a thread of its own.
 #[derive(Drop)]
 pub(crate) struct Running {
     lines: Receiver<Vec<u8>>,
-    server: JoinHandle<Result<(), ServeFault>>,
+    server: JoinHandle<Ended>,
 }
 
 // The port that the first line names. None where no line comes.
@@ -92,7 +148,34 @@ impl Running {
         R::Dir: Send,
     {
         let (mut out, lines) = Lines::new(rt, alloc)?;
-        let Ok(server) = thread::spawn(&rt, move || serve(rt, &wanted.options(), &mut out)) else {
+        let run = move || Ended::Own(serve(rt, &wanted.options(), &mut out));
+        let Ok(server) = thread::spawn(&rt, run) else {
+            return Err(AllocError);
+        };
+        Ok(Running { lines, server })
+    }
+
+    /// Starts a server of stock clients.
+    pub(crate) fn start_stock<
+        R: Net<Listener = TcpListener, Stream = TcpStream>
+            + Files<File = File>
+            + AllocGlobal
+            + Eprint
+            + Threads
+            + Wait
+            + Clock
+            + Copy
+            + Send
+            + Sync
+            + Drop
+            + 'static,
+    >(rt: R, alloc: Global, wanted: Stock) -> Result<Running, AllocError>
+    where
+        R::Dir: Send,
+    {
+        let (mut out, lines) = Lines::new(rt, alloc)?;
+        let run = move || Ended::Stock(serve_kafka(rt, &wanted.options(), &mut out));
+        let Ok(server) = thread::spawn(&rt, run) else {
             return Err(AllocError);
         };
         Ok(Running { lines, server })
@@ -124,10 +207,11 @@ impl Running {
     }
 }
 
-/// Tells the number and the words of the fault of a server, if it has one.
-pub(crate) fn tell_end(told: &mut String, ended: Result<(), ServeFault>) -> Result<(), AllocError> {
+/// Tells the number, where it has one, and the words of the fault of a server, if there is one.
+pub(crate) fn tell_end(told: &mut String, ended: Ended) -> Result<(), AllocError> {
     match ended {
-        Ok(()) => Ok(()),
-        Err(fault) => writeln!(told, "fault {} {fault}", fault.number()),
+        Ended::Own(Ok(())) | Ended::Stock(Ok(())) => Ok(()),
+        Ended::Own(Err(fault)) => writeln!(told, "fault {} {fault}", fault.number()),
+        Ended::Stock(Err(fault)) => writeln!(told, "fault {fault}"),
     }
 }

@@ -5,9 +5,13 @@
 //!   and tells `listening`, once it takes connections; `serve P N in FOLDER` has its logs in a
 //!   folder, `serve P N nowhere` in that of the empty name, and `serve P N expiring` ends
 //!   transactions that last too long;
+//! - `kafka N` starts a server of stock clients for N connections, with its logs in memory, which
+//!   makes topics; `kafka N with TOPICS` has these, and makes none; `in FOLDER` after either has its
+//!   files in a folder;
 //! - `open A` connects, under the name A; `crowd A N BYTES` connects N times, each under the name A
 //!   and with this request, and tells how many of them are answered;
 //! - `send A BYTES` writes bytes, and `bytewise A BYTES` writes them in pieces of one byte;
+//! - `portless A` tells the next frame, with zeros where the server names its own port;
 //! - `receive A` tells the next frame; `closed A` tells whether the server closes the connection;
 //!   `pages A` tells how many pages come until it does;
 //! - `until A REQUEST REPLY` sends a request again and again, and tells whether that reply came;
@@ -25,7 +29,7 @@
 //!   and how often it was told that it waits.
 use crate::clients::Clients;
 use crate::folder::{append, clear, rename, shorten, tell_there};
-use crate::running::{Running, Wanted, tell_end};
+use crate::running::{Ended, Running, Stock, Wanted, tell_end};
 use crate::waiting::tell_patience;
 use kx_cases::{StepFault, Texts, value};
 use kx_server::serve;
@@ -99,11 +103,28 @@ where
         Ok(())
     }
 
+    // Starts a server of stock clients.
+    fn start_stock(
+        &mut self,
+        connections: &str,
+        topics: Option<&str>,
+        dir: Option<&str>,
+    ) -> Result<(), StepFault> {
+        let wanted = Stock::new(self.alloc, connections, topics, dir)?;
+        let running = Running::start_stock(self.rt, self.alloc, wanted)?;
+        if let Some(port) = running.port(&self.rt, self.alloc)? {
+            self.port = port;
+            writeln!(self.told, "listening")?;
+        }
+        self.running = Some(running);
+        Ok(())
+    }
+
     // Has a second server try a folder, on this thread: it never gets as far as a connection.
     fn rival(&mut self, dir: &str) -> Result<(), StepFault> {
         let wanted = Wanted::new(self.alloc, "1", "1", Some(dir), false)?;
         let mut out = Vec::new(self.alloc);
-        let ended = serve(self.rt, &wanted.options(), &mut out);
+        let ended = Ended::Own(serve(self.rt, &wanted.options(), &mut out));
         Ok(tell_end(&mut self.told, ended)?)
     }
 
@@ -207,6 +228,14 @@ where
             ["serve", partitions, connections, "in", dir] => {
                 self.start(partitions, connections, Some(*dir), false)
             }
+            ["kafka", connections] => self.start_stock(connections, None, None),
+            ["kafka", connections, "in", dir] => self.start_stock(connections, None, Some(*dir)),
+            ["kafka", connections, "with", topics] => {
+                self.start_stock(connections, Some(*topics), None)
+            }
+            ["kafka", connections, "with", topics, "in", dir] => {
+                self.start_stock(connections, Some(*topics), Some(*dir))
+            }
             ["end"] => self.end(),
             ["rival", folder] => self.rival(folder),
             ["wait", millis] => {
@@ -239,6 +268,10 @@ where
             ["open", name] => self.clients.open(&self.rt, self.port, name),
             ["send", name, bytes] => self.send(name, bytes),
             ["bytewise", name, bytes] => self.send_bytewise(name, bytes),
+            ["portless", name] => {
+                let port = self.port;
+                self.clients.tell_portless(name, port, &mut self.told)
+            }
             ["receive", name] => self.clients.tell_next(name, &mut self.told),
             ["closed", name] => self.clients.tell_closed(name, &mut self.told),
             ["finish", name] => {

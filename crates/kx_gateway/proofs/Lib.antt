@@ -1,7 +1,10 @@
+pub mod Coded
 pub mod Dealt
 pub mod Lines
 pub mod Named
 pub mod Pages
+pub mod Sent
 pub mod Shares
 pub mod Tables
+pub mod Taken
 pub mod Values

@@ -11,11 +11,14 @@ use Rattle.kx_kafka.specs.declared.metadata.MetadataResponsePartition.{MetadataR
 use Rattle.kx_kafka.specs.declared.metadata.MetadataResponseTopic.{MetadataResponseTopic}
 use Rattle.kx_kafka.specs.declared.produce.PartitionProduceResponse.{PartitionProduceResponse}
 use Rattle.kx_kafka.specs.declared.produce.TopicProduceResponse.{TopicProduceResponse}
+use Rattle.kx_kafka.specs.declared.topics.PartitionError.{PartitionError}
+use Rattle.kx_kafka.specs.declared.topics.TopicErrors.{TopicErrors}
 use Rattle.kx_kafka.specs.Layouts.{aborted_transaction, fetch_response_partition}
 use Rattle.kx_kafka.specs.Layouts.{fetchable_topic_response, list_offsets_partition_response}
 use Rattle.kx_kafka.specs.Layouts.{list_offsets_topic_response, metadata_response_partition}
 use Rattle.kx_kafka.specs.Layouts.{metadata_response_topic, partition_produce_response}
-use Rattle.kx_kafka.specs.Layouts.{topic_produce_response}
+use Rattle.kx_kafka.specs.Layouts.{partition_error, topic_errors, topic_produce_response}
+use Rattle.kx_gateway.specs.declared.transactions.CodedTopic.{CodedTopic}
 
 abbrev pub produced_values : PartitionProduceResponse → Values partition_produce_response
 produced_values it = (it.index, (it.error_code, (it.base_offset, (it.log_append_time_ms, tt))))
@@ -71,3 +74,12 @@ led_values it = (
 abbrev pub named_values : MetadataResponseTopic → Values metadata_response_topic
 named_values it =
     (it.error_code, (it.name.now, (it.is_internal, (map led_values it.partitions.now, tt))))
+
+abbrev pub error_values : PartitionError → Values partition_error
+error_values it = (it.partition_index, (it.error_code, tt))
+
+abbrev pub coded_values : CodedTopic → Values topic_errors
+coded_values it = (it.name.now, (map error_values it.errors.items, tt))
+
+abbrev pub topic_error_values : TopicErrors → Values topic_errors
+topic_error_values it = (it.name.now, (map error_values it.partitions.now, tt))

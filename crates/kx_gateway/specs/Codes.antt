@@ -8,6 +8,7 @@ number_of code.InvalidTopic = 17
 number_of code.InvalidRequiredAcks = 21
 number_of code.UnsupportedVersion = 35
 number_of code.InvalidRequest = 42
+number_of code.InvalidTransactionTimeout = 50
 number_of code.TransactionalIdAuthorizationFailed = 53
 
 ------ those of the core that the gateway answers itself

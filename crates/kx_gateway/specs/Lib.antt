@@ -7,3 +7,5 @@ pub mod Fetch
 pub mod Init
 pub mod TableFile
 pub mod Metadata
+pub mod TxnBatch
+pub mod Transactions

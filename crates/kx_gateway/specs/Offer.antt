@@ -10,7 +10,8 @@ use Rattle.kx_kafka.specs.Layouts.{api_version}
 abbrev pub offered : List ApiKey
 offered =
     api.Produce ∷ api.Fetch ∷ api.ListOffsets ∷ api.Metadata ∷ api.FindCoordinator
-    ∷ api.ApiVersions ∷ api.InitProducerId ∷ []
+    ∷ api.ApiVersions ∷ api.InitProducerId ∷ api.AddPartitionsToTxn ∷ api.AddOffsetsToTxn
+    ∷ api.EndTxn ∷ []
 
 abbrev pub is_offered : ApiKey → Bool
 is_offered key = list_any (λ k. number_of k == number_of key) offered

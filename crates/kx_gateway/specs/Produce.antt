@@ -5,13 +5,15 @@ use Rattle.std.specs.Ordering.{int_eq}
 use Rattle.kx_batch.specs.declared.fault.BatchFault.{BatchFault}
 use Rattle.kx_batch.specs.Batch.{Batch, Spelled, batch_at}
 use Rattle.kx_batch.specs.Producer.{with_producer}
+use Rattle.kx_message.specs.Values.{name_with}
 use Rattle.kx_message.specs.declared.requests.Caller.{Caller}
 use Rattle.kx_kafka.specs.declared.produce.PartitionProduceResponse.{PartitionProduceResponse}
 use Rattle.kx_gateway.specs.declared.code.GatewayCode.TheVariants as code
 use Rattle.kx_gateway.specs.declared.produce.ProduceAsk.{ProduceAsk}
-use Rattle.kx_gateway.specs.declared.produce.ProduceAsk.TheVariants.{Refused, Append}
+use Rattle.kx_gateway.specs.declared.produce.ProduceAsk.TheVariants.{Refused, Append, InTransaction}
 use Rattle.kx_gateway.specs.Codes.{number_of, unknown_partition, invalid_record}
 use Rattle.kx_gateway.specs.Topics.{Entry, partition_at}
+use Rattle.kx_gateway.specs.TxnBatch.{SentBatch, sent_batch, whole}
 
 -- none, the leader's or all replicas' (Kafka protocol guide, Produce, "acks")
 abbrev pub is_acks : ℤ → Bool
@@ -35,28 +37,48 @@ unfoldable pub sent_text : List ℕ → List ℕ
 sent_text text =
     if is_odd (batch_at text) then with_producer (negsuc 0) (negsuc 0) (negsuc 0) text else text
 
--- what there is of a batch for a partition
-abbrev pub append_to : Caller → Option ℕ → Option (List ℕ) → ProduceAsk
-append_to caller None records = Refused (pos unknown_partition)
-append_to caller (Some partition) None = Refused (pos invalid_record)
-append_to caller (Some partition) (Some text) = Append (record {
+-- outside of transactions
+abbrev pub append_alone : Caller → ℕ → List ℕ → ProduceAsk
+append_alone caller partition text = Append (record {
   caller = caller;
   txn = None;
   partition = partition;
   batch = sent_text text;
 })
 
--- a transactional id is refused
-abbrev pub without_txn : Option (List ℕ) → ProduceAsk → ProduceAsk
-without_txn None ask = ask
-without_txn (Some id) ask = Refused (pos (number_of code.TransactionalIdAuthorizationFailed))
+-- with a transactional id: a batch of a transaction, or any other text as it came
+abbrev pub append_in : Caller → List ℕ → ℕ → List ℕ → Option SentBatch → ProduceAsk
+append_in caller txn partition text None = Append (record {
+  caller = caller;
+  txn = Some txn;
+  partition = partition;
+  batch = text;
+})
+append_in caller txn partition text (Some batch) = InTransaction batch
+
+-- what there is of a batch for a partition
+abbrev pub append_to : Caller → Option ℕ → Option (List ℕ) → Option (List ℕ) → ProduceAsk
+append_to caller None records txn = Refused (pos unknown_partition)
+append_to caller (Some partition) None txn = Refused (pos invalid_record)
+append_to caller (Some partition) (Some text) None = append_alone caller partition text
+append_to caller (Some partition) (Some text) (Some txn) =
+    append_in caller txn partition text (sent_batch txn partition (whole (batch_at text)))
+
+-- a transactional id that the core can't hold is refused
+abbrev pub with_txn : Option (List ℕ) → (Option (List ℕ) → ProduceAsk) → ProduceAsk
+with_txn None ask = Refused (pos (number_of code.TransactionalIdAuthorizationFailed))
+with_txn (Some txn) ask = ask (Some txn)
+
+abbrev pub for_txn : Option (List ℕ) → (Option (List ℕ) → ProduceAsk) → ProduceAsk
+for_txn None ask = ask None
+for_txn (Some id) ask = with_txn (name_with id) ask
 
 -- the first that fits
 unfoldable pub produce_ask : List Entry → Caller → ℤ → Option (List ℕ) → List ℕ → ℤ
     → Option (List ℕ) → ProduceAsk
 produce_ask table caller acks txn topic index records =
     if is_acks acks
-    then without_txn txn (append_to caller (partition_at table topic index) records)
+    then for_txn txn (append_to caller (partition_at table topic index) records)
     else Refused (pos (number_of code.InvalidRequiredAcks))
 
 -- records keep the time that they came with

@@ -14,6 +14,8 @@ pub enum GatewayCode {
     UnsupportedVersion = 35,
     /// A field has a value that Kafka has no meaning for.
     InvalidRequest = 42,
+    /// A transaction may not stay open for so long.
+    InvalidTransactionTimeout = 50,
     /// The client may not use the transactional id.
     TransactionalIdAuthorizationFailed = 53,
 }

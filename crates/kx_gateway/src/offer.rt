@@ -23,6 +23,9 @@ pub fn is_offered(api: ApiKey) -> bool
             | ApiKey::FindCoordinator
             | ApiKey::ApiVersions
             | ApiKey::InitProducerId
+            | ApiKey::AddPartitionsToTxn
+            | ApiKey::AddOffsetsToTxn
+            | ApiKey::EndTxn
     )
 }
 
@@ -37,7 +40,7 @@ fn range_of(api: ApiKey) -> ApiVersion
     }
 }
 
-fn offered_ranges() -> [ApiVersion; 7]
+fn offered_ranges() -> [ApiVersion; 10]
     ensures { map ⟦<ApiVersion as Writes>⟧.values result ≡ map range_of offered }
 {
     [
@@ -48,6 +51,9 @@ fn offered_ranges() -> [ApiVersion; 7]
         range_of(ApiKey::FindCoordinator),
         range_of(ApiKey::ApiVersions),
         range_of(ApiKey::InitProducerId),
+        range_of(ApiKey::AddPartitionsToTxn),
+        range_of(ApiKey::AddOffsetsToTxn),
+        range_of(ApiKey::EndTxn),
     ]
 }
 

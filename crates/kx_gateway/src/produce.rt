@@ -6,26 +6,31 @@ ghost use Rattle.kx_kafka_types.specs.Rows.{elements};
 ghost use Rattle.kx_kafka.specs.Frames.{frame_text, response_text};
 ghost use Rattle.kx_kafka.specs.Layouts.{produce_response, topic_produce_data};
 ghost use Rattle.kx_gateway.specs.Answers.{answered};
-ghost use Rattle.kx_gateway.specs.Produce.{has_sequence, is_odd, is_plain, produce_ask, produced};
-ghost use Rattle.kx_gateway.specs.Produce.{sent_text};
+ghost use Rattle.kx_gateway.specs.Produce.{append_alone, append_in, append_to, has_sequence, is_odd};
+ghost use Rattle.kx_gateway.specs.Produce.{is_plain, produce_ask, produced, sent_text};
+ghost use Rattle.kx_gateway.specs.TxnBatch.{sent_batch, whole};
 
 use crate::code::GatewayCode;
+use crate::ids::txn_of;
 use crate::topics::Topics;
+use crate::txn_batch::TxnBatch;
 use kx_batch::{BatchView, set_producer};
 use kx_kafka::{
     Array, KafkaFault, PartitionProduceData, PartitionProduceResponse, ProduceRequest,
     ProduceResponse, RequestHeader, TopicProduceData, TopicProduceResponse, Writes, response_frame,
 };
-use kx_message::{Bytes, Caller, ErrorCode, Produce, ProduceReply};
+use kx_message::{Bytes, Caller, ErrorCode, PartitionId, Produce, ProduceReply, TxnId};
 use std::alloc::{AllocError, Global};
 
 /// What becomes of the batch for a partition.
 #[derive(Drop)]
-pub enum ProduceAsk {
+pub enum ProduceAsk<'a> {
     /// It is refused with this code, and the core isn't asked.
     Refused(i16),
     /// The core is asked to append it.
     Append(Produce),
+    /// The grant of the transactional id decides.
+    InTransaction(TxnBatch<'a>),
 }
 
 // The core takes a batch of no producer with base sequence -1 alone.
@@ -74,24 +79,90 @@ fn sent_text(alloc: Global, text: &[u8]) -> Result<Vec<u8>, AllocError>
     Ok(sent)
 }
 
-/// What the core is asked for the batch that a client sends to a partition, or with which code it
-/// is refused, the first that fits: 21 where `acks` isn't -1, 0 or 1; 53 for a transactional id; 3
-/// where the partition isn't there; 87 for null records. The batch is appended as it is; but a
-/// whole valid batch without a producer's id and epoch has base sequence -1.
+// What the core is asked outside of transactions.
+fn append_alone<'a>(
+    alloc: Global,
+    caller: Caller,
+    partition: PartitionId,
+    text: &[u8],
+) -> Result<ProduceAsk<'a>, AllocError>
+    ensures { IfOk result (λ ask. ask ≡ append_alone caller partition text.now) }
+{
+    let batch = Bytes::from_vec(sent_text(alloc, text)?);
+    Ok(ProduceAsk::Append(Produce {
+        caller,
+        txn: None,
+        partition,
+        batch,
+    }))
+}
+
+// What becomes of the batch of a producer with a transactional id.
+fn append_in<'a>(
+    alloc: Global,
+    caller: Caller,
+    txn: TxnId,
+    partition: PartitionId,
+    text: &'a [u8],
+) -> Result<ProduceAsk<'a>, AllocError>
+    ensures { IfOk result (λ ask. ask ≡ append_in caller txn partition text.now
+        (sent_batch txn partition (whole (batch_at text.now)))) }
+{
+    if let Some(batch) = TxnBatch::of_records(txn, partition, text) {
+        return Ok(ProduceAsk::InTransaction(batch));
+    }
+    let batch = Bytes::from_vec(Vec::from_slice(alloc, text)?);
+    Ok(ProduceAsk::Append(Produce {
+        caller,
+        txn: Some(txn),
+        partition,
+        batch,
+    }))
+}
+
+// What becomes of a batch for a partition, if there is one and it is there.
+fn append_to<'a>(
+    alloc: Global,
+    caller: Caller,
+    partition: Option<PartitionId>,
+    records: Option<&'a [u8]>,
+    txn: Option<TxnId>,
+) -> Result<ProduceAsk<'a>, AllocError>
+    ensures { IfOk result (λ ask. ask ≡ append_to caller partition
+        (option_map (λ s. s.now) records.entry) txn) }
+{
+    let Some(partition) = partition else {
+        return Ok(ProduceAsk::Refused(ErrorCode::UnknownTopicOrPartition.number()));
+    };
+    let Some(text) = records else {
+        return Ok(ProduceAsk::Refused(ErrorCode::InvalidRecord.number()));
+    };
+    match txn {
+        None => append_alone(alloc, caller, partition, text),
+        Some(txn) => append_in(alloc, caller, txn, partition, text),
+    }
+}
+
+/// What becomes of the batch that a client sends to a partition, the first that fits. It is refused
+/// with code 21 where `acks` isn't -1, 0 or 1; with 53 for a transactional id that the core can't
+/// hold; with 3 where the partition isn't there; with 87 for null records. Without a transactional
+/// id it is appended as it is; but a whole valid batch without a producer's id and epoch has base
+/// sequence -1. With one, the grant decides of a whole valid batch that is part of a transaction
+/// and has a producer's id and epoch; any other text goes to the core as it is.
 ///
 /// # Errors
 ///
 /// Only where memory runs out.
 #[tactic(auto, unfolding(crate::specs::Produce::produce_ask))]
-pub fn ask_produce(
+pub fn ask_produce<'a>(
     alloc: Global,
     topics: &Topics,
     caller: Caller,
     acks: i16,
     transactional_id: Option<&[u8]>,
     topic: &[u8],
-    asked: &PartitionProduceData<'_>,
-) -> Result<ProduceAsk, AllocError>
+    asked: &PartitionProduceData<'a>,
+) -> Result<ProduceAsk<'a>, AllocError>
     ensures { IfOk result (λ ask. ask ≡ produce_ask topics.now caller acks
         (option_map (λ s. s.now) transactional_id.entry) topic.now asked.now.index
         (option_map (λ s. s.now) asked.now.records)) }
@@ -99,22 +170,14 @@ pub fn ask_produce(
     if !matches!(acks, -1..=1) {
         return Ok(ProduceAsk::Refused(GatewayCode::InvalidRequiredAcks.number()));
     }
-    if transactional_id.is_some() {
-        return Ok(ProduceAsk::Refused(GatewayCode::TransactionalIdAuthorizationFailed.number()));
+    let partition = topics.partition(topic, asked.index);
+    let Some(id) = transactional_id else {
+        return append_to(alloc, caller, partition, asked.records, None);
+    };
+    match txn_of(id) {
+        None => Ok(ProduceAsk::Refused(GatewayCode::TransactionalIdAuthorizationFailed.number())),
+        Some(txn) => append_to(alloc, caller, partition, asked.records, Some(txn)),
     }
-    let Some(partition) = topics.partition(topic, asked.index) else {
-        return Ok(ProduceAsk::Refused(ErrorCode::UnknownTopicOrPartition.number()));
-    };
-    let Some(records) = asked.records else {
-        return Ok(ProduceAsk::Refused(ErrorCode::InvalidRecord.number()));
-    };
-    let batch = Bytes::from_vec(sent_text(alloc, records)?);
-    Ok(ProduceAsk::Append(Produce {
-        caller,
-        txn: None,
-        partition,
-        batch,
-    }))
 }
 
 /// What a partition of a response says of the core's reply: its code and its offset. Records keep

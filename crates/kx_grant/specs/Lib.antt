@@ -1,3 +1,5 @@
 pub mod Sequences
 pub mod Grant
 pub mod Steps
+pub mod Codes
+pub mod Heard

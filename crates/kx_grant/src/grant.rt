@@ -308,6 +308,13 @@ impl Grant {
         }
     }
 
+    /// Whether a producer with this id and epoch is the one that was granted.
+    pub fn holds(&self, held: &Held) -> bool
+        ensures { result ≡ is_held self.now.granted held.now }
+    {
+        is_held(&self.granted, held)
+    }
+
     // The client's next sequence in a partition, where it is known.
     fn next_at(&self, partition: PartitionId) -> Option<u32>
         ensures { result ≡ next_at self.now partition }

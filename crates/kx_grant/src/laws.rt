@@ -4,6 +4,8 @@ ghost use Rattle.std.specs.Prelude.{false, ◌<◌, ◌+◌};
 ghost use Rattle.kx_message.specs.declared.message.Held.{Held};
 ghost use Rattle.kx_message.specs.declared.outcome.Outcome.{Outcome};
 ghost use Rattle.kx_message.specs.declared.code.ErrorCode.{ErrorCode};
+ghost use Rattle.kx_grant.specs.Codes.{end_code, init_code, produce_code};
+ghost use Rattle.kx_grant.specs.Heard.{Hear, after_hear, after_hears, is_heard};
 ghost use Rattle.kx_grant.specs.Sequences.{IsSequence, sequences, since};
 ghost use Rattle.kx_grant.specs.Grant.{after_batch, batch_verdict, begun, end_verdict};
 ghost use Rattle.kx_grant.specs.Grant.{ended, listed_at, next_at, reopened};
@@ -14,6 +16,8 @@ ghost use Rattle.kx_grant.specs.declared.grant.Grant.{Grant};
 ghost use Rattle.kx_grant.specs.declared.grant.LastRow.{LastRow};
 ghost use Rattle.kx_grant.specs.declared.grant.Listed.{Listed};
 ghost use Rattle.kx_grant.specs.declared.grant.Phase.{Phase};
+ghost use Rattle.kx_grant.specs.declared.heard.Heard.{Heard};
+ghost use Rattle.kx_grant.specs.declared.heard.Role.{Role};
 ghost use Rattle.kx_grant.specs.declared.verdicts.BatchVerdict.{BatchVerdict};
 ghost use Rattle.kx_grant.specs.declared.verdicts.EndVerdict.{EndVerdict};
 
@@ -101,4 +105,22 @@ pub fn grants_know_sequences()
         → IsGrant (reopened granted core row) }
     ensures kept { (g : Grant) (step : Step) → IsGrant g → Fits step
         → IsGrant (after_step g step) }
+{}
+
+/// A law: once a connection was heard in a role, no older one is heard in it again, whatever else
+/// is heard.
+pub fn older_connections_are_not_heard()
+    ensures { (h : Heard) (role : Role) (connection older : ℕ) (hears : List Hear)
+        → is_heard h role connection ≡ true → older < connection
+        → is_heard (after_hears (after_hear h role connection) hears) role older ≡ false }
+{}
+
+/// A law: a response has code 0 exactly where the core's code is 0.
+pub fn zero_is_the_cores()
+    ensures init { (version : ℤ) (code : ErrorCode)
+        → (init_code version code ≡ ErrorCode.NoError) ↔ (code ≡ ErrorCode.NoError) }
+    ensures end { (version : ℤ) (code : ErrorCode)
+        → (end_code version code ≡ ErrorCode.NoError) ↔ (code ≡ ErrorCode.NoError) }
+    ensures produce { (code : ErrorCode)
+        → (produce_code code ≡ ErrorCode.NoError) ↔ (code ≡ ErrorCode.NoError) }
 {}

@@ -7,14 +7,17 @@
 
 mod fenced;
 mod grant;
+mod heard;
 mod laws;
 mod sequence;
 mod verdicts;
 
-pub use fenced::{end_fenced_code, init_fenced_code};
+pub use fenced::{end_code, end_fenced_code, init_code, init_fenced_code, is_final, produce_code};
 pub use grant::{Grant, LastRow};
+pub use heard::{Heard, Role};
 pub use laws::{
     a_batch_is_sent_as_one, a_batch_is_sent_in_one_transaction, a_bump_answers_another_pair,
-    an_end_is_decided_by_the_core, grants_know_sequences,
+    an_end_is_decided_by_the_core, grants_know_sequences, older_connections_are_not_heard,
+    zero_is_the_cores,
 };
 pub use verdicts::{BatchVerdict, EndVerdict, InitVerdict};

@@ -1,10 +1,13 @@
 -- How the program ends, and what was written by then.
 use Rattle.std.proofs.Common.{◌≡◌, ◌∙◌, ◌⊎◌, ℕ, List, Bool, Option, None, Some, Result, Ok, Err}
-use Rattle.std.proofs.Common.{inl, inr, IfSome, MatchResult}
+use Rattle.std.proofs.Common.{inl, inr, IfSome, MatchResult, refl, subst, sym}
+use Rattle.std.specs.Prelude.{OnOk}
 use Rattle.std.specs.Io.KnownBytes.{Appends, Keeps}
 use Rattle.kx_demo.specs.Telling.{Tells, SaysYes, SaysNo, GaveUp, Fails}
 use Rattle.kx_demo.specs.declared.fault.DemoFault.{DemoFault}
-use Rattle.kx_program.specs.Program.{DumpsBytes, DumpsFile, Plays}
+use Rattle.kx_program.specs.Program.{DumpsBytes, DumpsFile, Plays, ServesStock}
+use Rattle.kx_kafka_server.specs.declared.fault.KafkaServeFault.{KafkaServeFault}
+use Rattle.kx_server.specs.Lines.{Listens}
 use Rattle.kx_text.specs.Statuses.{ending_of}
 use Rattle.kx_text.specs.declared.fault.ScriptFault.{ScriptFault}
 use Rattle.kx_text.specs.declared.program.Ending.{Ending}
@@ -54,3 +57,21 @@ plays_flushed old mid new before after kept (inl failed) plays = inl failed
 plays_flushed old mid new before after kept (inr same) (inl failed) = inl (same ∙ failed)
 plays_flushed old mid new before after kept (inr same) (inr (played, tells, is)) =
     inr (played, tells_kept old mid new played kept tells, same ∙ is)
+
+-- stock clients were served, or weren't
+pub stock_served : (served : Result (Unit {0}) KafkaServeFault) (old new : Option (List ℕ))
+    (how : Ending) → OnOk served (Listens old new) → how ≡ ending_of served
+    → ServesStock old new how
+stock_served (Ok done) old new how listens is = subst (ServesStock old new) (sym is) listens
+stock_served (Err fault) old new how listens is = subst (ServesStock old new) (sym is) tt
+
+keeps_same : (known : Option (List ℕ)) → Keeps known known
+keeps_same None = tt
+keeps_same (Some xs) = refl
+
+-- the topics that were asked for are wrong
+pub stock_refused : (known : Option (List ℕ)) (how : Ending)
+    → (how ≡ ending.Failed) ⊎ (how ≡ ending.WrongArguments) → ServesStock known known how
+stock_refused known how (inl failed) = subst (ServesStock known known) (sym failed) tt
+stock_refused known how (inr wrong) =
+    subst (ServesStock known known) (sym wrong) (keeps_same known)

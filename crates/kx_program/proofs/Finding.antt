@@ -49,6 +49,10 @@ asks_no_file name rows is_watched (task.Serve options) is none asked =
     let named : name ≡ codes "serve" = asked.0 in
     let bad : 100 ≡ 115 = ap (λ (t : Text). slice_index t 0) (sym is ∙ named) in
     absurd (omega (arith, bad))
+asks_no_file name rows is_watched (task.Kafka kafka) is none asked =
+    let named : name ≡ codes "kafka" = asked.0 in
+    let bad : 100 ≡ 107 = ap (λ (t : Text). slice_index t 0) (sym is ∙ named) in
+    absurd (omega (arith, bad))
 asks_no_file name rows is_watched (task.Demo demo) is none asked =
     let named : name ≡ codes "demo" = asked.0 in
     let bad : 117 ≡ 101 = ap (λ (t : Text). slice_index t 1) (sym is ∙ named) in

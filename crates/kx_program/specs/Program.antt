@@ -14,7 +14,7 @@ use Rattle.kx_program.specs.declared.asking.Refusal.{Refusal}
 use Rattle.kx_program.specs.declared.task.Task.{Task}
 use Rattle.kx_program.specs.declared.task.Task.TheVariants as task
 use Rattle.kx_script.specs.Script.{Ends}
-use Rattle.kx_server.specs.Lines.{Prints}
+use Rattle.kx_server.specs.Lines.{Listens, Prints}
 use Rattle.kx_server.specs.declared.fault.ServeFault.{ServeFault}
 use Rattle.kx_text.specs.Dump.{Dumps}
 use Rattle.kx_text.specs.Statuses.{ending_of}
@@ -43,6 +43,13 @@ abbrev pub ServesAll : ℕ → Option (List ℕ) → Option (List ℕ) → Endin
 ServesAll connections old new how = (served : Result (Unit {0}) ServeFault)
     × OnOk served (Prints connections old new) × (how ≡ ending_of served)
 
+-- stock clients were served, from when the port was told; where the topics are wrong nothing was
+-- written
+abbrev pub ServesStock : Option (List ℕ) → Option (List ℕ) → Ending → Type 0
+ServesStock old new ending.Done = Listens old new
+ServesStock old new ending.WrongArguments = Keeps old new
+ServesStock old new ending.Failed = Unit {0}
+
 -- a demonstration was played and told; else the program failed
 abbrev pub Plays : Option (List ℕ) → Option (List ℕ) → Ending → Type 0
 Plays old new how = (how ≡ ending.Failed) ⊎ ((played : Result Bool DemoFault)
@@ -53,6 +60,7 @@ abbrev pub Performs : Option (List ℕ) → Option (List ℕ) → Option (List �
 Performs input old new task.Sim how = Simulates input old new how
 Performs input old new (task.Dump path) how = DumpsFile old new how
 Performs input old new (task.Serve options) how = ServesAll options.connections old new how
+Performs input old new (task.Kafka asked) how = ServesStock old new how
 Performs input old new (task.Demo asked) how = Plays old new how
 
 -- where the words can't be had: one that isn't text is wrong

@@ -7,6 +7,7 @@ use Rattle.kx_play.specs.Options.{IsRecords, IsWorkers}
 use Rattle.kx_play.specs.declared.options.PlayOptions.{PlayOptions}
 use Rattle.kx_program.specs.Usage.{program_app}
 use Rattle.kx_program.specs.declared.task.Demonstration.{Demonstration}
+use Rattle.kx_program.specs.declared.task.StockClients.{StockClients}
 use Rattle.kx_program.specs.declared.task.Task.{Task}
 use Rattle.kx_program.specs.declared.task.Task.TheVariants as task
 use Rattle.kx_relay.specs.Line.{IsHolding, IsLosses}
@@ -35,6 +36,14 @@ pub record IsServe (rows : List Row) (is_watched : Bool) (options : ServeOptions
   pub tells : options.tells_progress ≡ is_watched
   pub expires : Flags (one_of (codes "expire") rows) options.expires
 
+-- the options of `kafka`
+pub record IsKafka (rows : List Row) (is_watched : Bool) (asked : StockClients) : Type 0 where
+  pub topics : option_map (λ t. t.now) asked.topics ≡ first_of (codes "topics") rows
+  pub port : Writes 16 (one_of (codes "port") rows) asked.port
+  pub dir : option_map (λ d. d.now) asked.dir ≡ first_of (codes "dir") rows
+  pub makes : Flags (one_of (codes "no-auto-topics") rows) asked.no_auto_topics
+  pub tells : asked.tells_progress ≡ is_watched
+
 -- what is played
 pub record IsPlay (rows : List Row) (options : PlayOptions) : Type 0 where
   pub workers : Writes 16 (one_of (codes "workers") rows) options.workers
@@ -59,6 +68,8 @@ IsAsked name rows is_watched (task.Dump path) =
     (name ≡ codes "dump") × (first_of (codes "FILE") rows ≡ Some path.now)
 IsAsked name rows is_watched (task.Serve options) =
     (name ≡ codes "serve") × IsServe rows is_watched options
+IsAsked name rows is_watched (task.Kafka asked) =
+    (name ≡ codes "kafka") × IsKafka rows is_watched asked
 IsAsked name rows is_watched (task.Demo asked) = (name ≡ codes "demo") × IsDemo rows asked
 
 -- what was found of a subcommand asks for this

@@ -52,6 +52,22 @@ abbrev pub serve_app : App
 serve_app = with_rule (with_rule (with_rule (with_rule (with_rule (new_app (codes "serve"))
     partitions_rule) connections_rule) port_rule) dir_rule) expire_rule
 
+abbrev pub topics_rule : Rule
+topics_rule = read_by parser.NonEmptyString (option_of (codes "topics"))
+
+abbrev pub kafka_port_rule : Rule
+kafka_port_rule = read_by (between 0 65535) (with_default (codes "9092") (option_of (codes "port")))
+
+abbrev pub no_auto_topics_rule : Rule
+no_auto_topics_rule = record (new_rule (codes "no-auto-topics")) {
+  long = Some (codes "no-auto-topics");
+  action = Some SetTrue;
+}
+
+abbrev pub kafka_app : App
+kafka_app = with_rule (with_rule (with_rule (with_rule (new_app (codes "kafka"))
+    topics_rule) kafka_port_rule) dir_rule) no_auto_topics_rule
+
 abbrev pub workers_rule : Rule
 workers_rule = read_by (between 1 16) (with_default (codes "4") (option_of (codes "workers")))
 
@@ -82,6 +98,6 @@ with_needed_subcommand app = record app { top = record app.top { subcommand_requ
 
 -- the whole command line
 abbrev pub program_app : App
-program_app = with_subcommand (with_subcommand (with_subcommand (with_subcommand
+program_app = with_subcommand (with_subcommand (with_subcommand (with_subcommand (with_subcommand
     (with_needed_subcommand (new_app (codes "kx_main"))) sim_app.top) dump_app.top) serve_app.top)
-    demo_app.top
+    kafka_app.top) demo_app.top

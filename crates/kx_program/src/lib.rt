@@ -9,6 +9,7 @@
 #![tactic(auto)]
 
 mod asking;
+mod kafka;
 mod program;
 mod streams;
 mod task;

@@ -8,6 +8,7 @@ ghost use Rattle.kx_program.specs.Program.{DoesWords, IsWithoutWords, Performs, 
 ghost use Rattle.kx_text.specs.declared.program.Ending.TheVariants as ending;
 
 use crate::asking::{Refusal, asked};
+use crate::kafka::kafka;
 use crate::streams::{dump_read, failed, played_ending, served_ending, sim, usage_ending};
 use crate::task::{Demonstration, Task};
 use kx_demo::DemoFault;
@@ -121,6 +122,7 @@ fn perform<
         Task::Sim => sim(rt.alloc(), input, out, errors),
         Task::Dump(path) => dump_read(path, fs::read(rt, *path), out, errors),
         Task::Serve(options) => served_ending(kx_server::serve(*rt, options, out), errors),
+        Task::Kafka(asked) => kafka(rt, asked, out, errors),
         Task::Demo(asked) => {
             let ending = demo(rt, asked, out, errors);
             flushed(ending, out, errors)

@@ -13,6 +13,7 @@ ghost use Rattle.kx_text.specs.declared.program.Ending.TheVariants as ending;
 
 use clap::error::ErrorKind as UsageFault;
 use kx_demo::DemoFault;
+use kx_kafka_server::KafkaServeFault;
 use kx_script::run_sim;
 use kx_server::ServeFault;
 use kx_text::{DumpFault, Ending, ScriptFault, run_dump};
@@ -90,6 +91,17 @@ pub fn dump_read<O: Write + Drop, E: Write>(
 
 /// How the program ends when a server has ended. Of a fault it writes a line on standard error.
 pub fn served_ending<E: Write>(served: Result<(), ServeFault>, errors: &mut E) -> Ending
+    ensures { result ≡ ending_of served }
+{
+    match served {
+        Ok(()) => Ending::Done,
+        Err(fault) => failed(errors, fault),
+    }
+}
+
+/// How the program ends when a server of stock clients has ended. Of a fault it writes a line on
+/// standard error.
+pub fn kafka_ending<E: Write>(served: Result<(), KafkaServeFault>, errors: &mut E) -> Ending
     ensures { result ≡ ending_of served }
 {
     match served {

@@ -2,8 +2,9 @@
 ghost use Rattle.std.specs.Prelude.{ℕ, MatchOption, codes};
 ghost use Rattle.clap.specs.Words.{found_of, one_of, rows_of, subcommand_rows_of};
 ghost use Rattle.kx_play.specs.declared.options.PlayOptions.{PlayOptions};
-ghost use Rattle.kx_program.specs.Tasks.{AsksFor, IsDemo, IsPlay, IsServe, Writes};
+ghost use Rattle.kx_program.specs.Tasks.{AsksFor, IsDemo, IsKafka, IsPlay, IsServe, Writes};
 ghost use Rattle.kx_program.specs.declared.task.Demonstration.{Demonstration};
+ghost use Rattle.kx_program.specs.declared.task.StockClients.{StockClients};
 ghost use Rattle.kx_program.specs.declared.task.Task.{Task};
 ghost use Rattle.kx_relay.specs.Line.{IsLosses};
 ghost use Rattle.kx_server.specs.declared.options.ServeOptions.{ServeOptions};
@@ -22,6 +23,21 @@ pub struct Demonstration<'a> {
     pub trace: Option<&'a str>,
 }
 
+/// What `kafka` is asked for.
+#[derive(Clone, Copy)]
+pub struct StockClients<'a> {
+    /// The topics that are there from the start, as `NAME:PARTITIONS`, with commas between them.
+    pub topics: Option<&'a str>,
+    /// The port on 127.0.0.1 on which it listens; 0 takes any that is free.
+    pub port: u16,
+    /// The folder of its files, if any.
+    pub dir: Option<&'a str>,
+    /// Whether no topic is made when a client first asks for it.
+    pub no_auto_topics: bool,
+    /// Whether it tells on standard error which log it opens.
+    pub tells_progress: bool,
+}
+
 /// What the words of a command line ask for.
 #[derive(Clone, Copy)]
 pub enum Task<'a> {
@@ -31,6 +47,8 @@ pub enum Task<'a> {
     Dump(&'a str),
     /// Serve clients.
     Serve(ServeOptions<'a>),
+    /// Serve stock Kafka clients.
+    Kafka(StockClients<'a>),
     /// Play the demonstration and audit it.
     Demo(Demonstration<'a>),
 }
@@ -66,6 +84,21 @@ fn serve_options<'a>(given: &ArgMatches<'a>, is_watched: bool) -> Option<ServeOp
         dir: given.get_str("dir"),
         tells_progress: is_watched,
         expires: given.get_flag("expire"),
+    })
+}
+
+// What `kafka` is asked for.
+fn kafka_in<'a>(given: &ArgMatches<'a>, is_watched: bool) -> Option<StockClients<'a>>
+    ensures { MatchOption result
+        ((asked : StockClients) → IsKafka (rows_of (found_of given.now)) is_watched asked → ⊥)
+        (IsKafka (rows_of (found_of given.now)) is_watched) }
+{
+    Some(StockClients {
+        topics: given.get_str("topics"),
+        port: number_in(given, "port")?,
+        dir: given.get_str("dir"),
+        no_auto_topics: given.get_flag("no-auto-topics"),
+        tells_progress: is_watched,
     })
 }
 
@@ -126,6 +159,10 @@ pub fn task_in<'a>(found: &ArgMatches<'a>, is_watched: bool) -> Option<Task<'a>>
         },
         Some(("serve", given)) => match serve_options(given, is_watched) {
             Some(options) => Some(Task::Serve(options)),
+            None => None,
+        },
+        Some(("kafka", given)) => match kafka_in(given, is_watched) {
+            Some(asked) => Some(Task::Kafka(asked)),
             None => None,
         },
         Some(("demo", given)) => match demo_in(given) {

@@ -3,9 +3,10 @@ ghost use Rattle.std.specs.Prelude.{◌≡◌, IfOk, false};
 ghost use Rattle.clap.specs.Words.{app_of, rule_of};
 ghost use Rattle.clap.specs.declared.builder.command.Command.TheViews.{out-Command};
 ghost use Rattle.kx_program.specs.Usage.{connections_rule, demo_app, dir_rule, dump_app, expire_rule};
-ghost use Rattle.kx_program.specs.Usage.{hold_rule, lose_rule, needed, option_of, partitions_rule};
-ghost use Rattle.kx_program.specs.Usage.{port_rule, program_app, records_rule, seed_rule, serve_app};
-ghost use Rattle.kx_program.specs.Usage.{sim_app, trace_rule, with_default, workers_rule};
+ghost use Rattle.kx_program.specs.Usage.{hold_rule, kafka_app, kafka_port_rule, lose_rule, needed};
+ghost use Rattle.kx_program.specs.Usage.{no_auto_topics_rule, option_of, partitions_rule, port_rule};
+ghost use Rattle.kx_program.specs.Usage.{program_app, records_rule, seed_rule, serve_app, sim_app};
+ghost use Rattle.kx_program.specs.Usage.{topics_rule, trace_rule, with_default, workers_rule};
 
 use clap::builder::ValueParser;
 use clap::{Arg, ArgAction, Command};
@@ -92,6 +93,39 @@ fn expire<'a>(alloc: Global) -> Arg<'a>
         .long("expire")
         .action(ArgAction::SetTrue)
         .help("Aborts transactions whose time is up; else they stay open")
+}
+
+// The topics of a server of stock clients.
+fn topics<'a>(alloc: Global) -> Arg<'a>
+    ensures rule { rule_of result ≡ topics_rule }
+    ensures local { result.global ≡ false }
+{
+    Arg::new(alloc, "topics")
+        .long("topics")
+        .value_name("NAME:PARTITIONS,..")
+        .action(ArgAction::Set)
+        .value_parser(ValueParser::NonEmptyString)
+        .help("Topics that are there from the start, with at most 16 partitions in all")
+}
+
+// The port on which a server of stock clients listens.
+fn kafka_port<'a>(alloc: Global) -> Arg<'a>
+    ensures rule { rule_of result ≡ kafka_port_rule }
+    ensures local { result.global ≡ false }
+{
+    let help = "The port on 127.0.0.1; 0 takes any that is free";
+    number(alloc, "port", "PORT", "9092", help).value_parser(clap::value_parser!(u16))
+}
+
+// Whether topics are made when clients first ask for them.
+fn no_auto_topics<'a>(alloc: Global) -> Arg<'a>
+    ensures rule { rule_of result ≡ no_auto_topics_rule }
+    ensures local { result.global ≡ false }
+{
+    Arg::new(alloc, "no-auto-topics")
+        .long("no-auto-topics")
+        .action(ArgAction::SetTrue)
+        .help("Makes no topic when a client first asks for it")
 }
 
 // How many threads serve a demonstration.
@@ -191,6 +225,19 @@ fn serve_usage<'a>(alloc: Global) -> Result<Command<'a>, AllocError>
         .arg(expire(alloc))
 }
 
+// `kafka`.
+fn kafka_usage<'a>(alloc: Global) -> Result<Command<'a>, AllocError>
+    ensures app { IfOk result (λ command. app_of command ≡ kafka_app) }
+    ensures local { IfOk result (λ command. (out-Command command).has_globals ≡ false) }
+{
+    Command::new(alloc, "kafka")
+        .about("Serves stock Kafka clients, which speak Kafka's own protocol")
+        .arg(topics(alloc))?
+        .arg(kafka_port(alloc))?
+        .arg(dir(alloc))?
+        .arg(no_auto_topics(alloc))
+}
+
 // `demo`.
 fn demo_usage<'a>(alloc: Global) -> Result<Command<'a>, AllocError>
     ensures app { IfOk result (λ command. app_of command ≡ demo_app) }
@@ -206,7 +253,8 @@ fn demo_usage<'a>(alloc: Global) -> Result<Command<'a>, AllocError>
         .arg(trace(alloc))
 }
 
-/// The command line: `kx_main sim`, `kx_main dump FILE`, `kx_main serve` or `kx_main demo`.
+/// The command line: `kx_main sim`, `kx_main dump FILE`, `kx_main serve`, `kx_main kafka` or
+/// `kx_main demo`.
 ///
 /// # Errors
 ///
@@ -220,5 +268,6 @@ pub fn command_line<'a>(alloc: Global) -> Result<Command<'a>, AllocError>
         .subcommand(sim_usage(alloc))?
         .subcommand(dump_usage(alloc)?)?
         .subcommand(serve_usage(alloc)?)?
+        .subcommand(kafka_usage(alloc)?)?
         .subcommand(demo_usage(alloc)?)
 }

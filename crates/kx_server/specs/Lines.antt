@@ -11,3 +11,7 @@ line_of word number = word ++ codes " " ++ decimal number ++ codes "\n"
 abbrev pub Prints : ℕ → Option (List ℕ) → Option (List ℕ) → Type 0
 Prints connections old new = (port : ℕ) × Appends old new
     (line_of (codes "listening") port ++ line_of (codes "served") connections)
+
+-- the port
+abbrev pub Listens : Option (List ℕ) → Option (List ℕ) → Type 0
+Listens old new = (port : ℕ) × Appends old new (line_of (codes "listening") port)

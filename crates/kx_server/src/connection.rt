@@ -4,8 +4,7 @@ use crate::hub::Hub;
 use crate::options::Partitions;
 use crate::peer::Peer;
 use crate::speakers::Speakers;
-use kx_broker::{answer_fetch, page_room};
-use kx_message::{ClientId, Fetch, Message, NodeId};
+use kx_message::{ClientId, Message};
 use kx_published::book::Naming;
 use kx_publishing::Readable;
 use kx_stream::{FrameReader, StreamFault};
@@ -32,20 +31,20 @@ impl From<StreamFault> for Closed {
 
 /// A connection whose requests a thread takes.
 #[derive(Drop)]
-pub(crate) struct Connection<L: Readable, J: Naming, R: Wait + Drop> {
+pub(crate) struct Connection<'a, L: Readable, J: Naming, R: Wait + Drop> {
     alloc: Global,
-    hub: Arc<Hub<L, J, R>>,
-    peer: Arc<Peer>,
+    hub: &'a Hub<L, J, R>,
+    peer: &'a Arc<Peer>,
     partitions: Partitions,
     speakers: Speakers,
 }
 
-impl<L: Readable, J: Naming, R: Wait + Drop> Connection<L, J, R> {
+impl<'a, L: Readable, J: Naming, R: Wait + Drop> Connection<'a, L, J, R> {
     /// A connection of which nothing was read.
     pub(crate) fn new(
         alloc: Global,
-        hub: Arc<Hub<L, J, R>>,
-        peer: Arc<Peer>,
+        hub: &'a Hub<L, J, R>,
+        peer: &'a Arc<Peer>,
         partitions: Partitions,
     ) -> Self {
         Connection {
@@ -57,27 +56,12 @@ impl<L: Readable, J: Naming, R: Wait + Drop> Connection<L, J, R> {
         }
     }
 
-    // The page that is asked for, of the published log. None where it can't be had.
-    fn page(&self, rt: &R, fetch: &Fetch) -> Option<Message> {
-        let readers = self.hub.readers(NodeId::Partition(fetch.partition))?;
-        let mut reader = readers.take(rt)?;
-        let reply = match reader.enter() {
-            Ok(published) => {
-                let page = published.page(fetch.from, page_room(fetch), fetch.committed);
-                answer_fetch(self.alloc, fetch, page).ok()
-            }
-            Err(_) => None,
-        };
-        readers.give_back(rt, reader);
-        reply
-    }
-
     // Notes that the connection speaks for a client.
     fn hear(&mut self, client: ClientId) -> Result<(), Closed> {
         if !self.speakers.hear(client)? {
             return Err(Closed);
         }
-        self.hub.speaks(client, &self.peer)?;
+        self.hub.speaks(client, self.peer)?;
         Ok(())
     }
 
@@ -92,7 +76,7 @@ impl<L: Readable, J: Naming, R: Wait + Drop> Connection<L, J, R> {
             return Ok(());
         }
         if let Message::Fetch(fetch) = &message {
-            if let Some(reply) = self.page(rt, fetch) {
+            if let Some(reply) = self.hub.page(rt, fetch) {
                 self.peer.answer(rt, reply);
                 return Ok(());
             }
@@ -131,7 +115,7 @@ impl<L: Readable, J: Naming, R: Wait + Drop> Connection<L, J, R> {
     pub(crate) fn serve(mut self, rt: &R) {
         let ended = self.take_stream(rt);
         self.peer.finish(rt);
-        self.hub.forget(&self.peer);
+        self.hub.forget(self.peer);
         if ended.is_err() {
             self.peer.linger();
         }

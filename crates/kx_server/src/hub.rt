@@ -3,8 +3,10 @@
 use crate::peer::Peer;
 use crate::readers::Readers;
 use crate::routes::Routes;
+use crate::watches::{Waker, Watches};
+use kx_broker::{answer_fetch, page_room};
 use kx_machine::Input;
-use kx_message::{ClientId, Message, NodeId};
+use kx_message::{ClientId, Fetch, Message, NodeId, PartitionId};
 use kx_nodes::{Gate, Handle, Node, NodeFault, Receipt};
 use kx_published::book::Naming;
 use kx_publishing::{PublishedMachine, PublishedNode, Readable, Tended};
@@ -14,6 +16,15 @@ use std::sync::{Arc, Mutex, Wait};
 
 // While more messages than these wait for workers, no request is taken from a connection.
 const FEW_WAITING: u64 = 4095;
+
+/// Where a partition's log ends.
+#[derive(Clone, Copy, Debug, PartialEq, Eq)]
+pub struct LogEnds {
+    /// The offset after the last record, the high watermark.
+    pub end: i64,
+    /// The last stable offset.
+    pub lso: i64,
+}
 
 /// A node of a server: its log may be published.
 pub type ServedNode<L, J, R> = Node<PublishedMachine<L, J, R>>;
@@ -36,19 +47,30 @@ impl<L: Readable, J: Naming, R: Wait + Drop> Place<L, J, R> {
     }
 }
 
+// Whether a step with this input may append to a partition's log what readers are to see.
+fn may_append(input: &Input) -> bool {
+    matches!(
+        input,
+        Input::Deliver(Message::Produce(_) | Message::WriteMarker(_) | Message::AddReply(_))
+            | Input::Restart(_)
+    )
+}
+
 /// Answers each client over the connection that spoke last for it.
 #[derive(Drop)]
-pub(crate) struct Answers<R: Wait + Drop> {
+pub struct Answers<R: Wait + Drop> {
     rt: R,
     routes: Mutex<Routes>,
+    watches: Watches,
 }
 
 impl<R: Wait + Drop> Answers<R> {
     /// With no connection yet.
-    pub(crate) fn new(rt: R, routes: Routes) -> Answers<R> {
+    pub(crate) fn new(rt: R, routes: Routes, watches: Watches) -> Answers<R> {
         Answers {
             rt,
             routes: Mutex::new(routes),
+            watches,
         }
     }
 
@@ -64,6 +86,11 @@ impl<R: Wait + Drop> Answers<R> {
     /// Sends no reply over this connection any more.
     pub(crate) fn forget(&self, peer: &Peer) {
         self.routes.lock(&self.rt).forget(peer.number());
+    }
+
+    /// No connection speaks for this client any more.
+    pub(crate) fn forget_client(&self, client: ClientId) {
+        self.routes.lock(&self.rt).forget_client(client);
     }
 
     // Answers a client. A client for which no connection speaks gets no answer, and an answer for
@@ -92,6 +119,9 @@ impl<R: Wait + Drop> Gate for Answers<R> {
 
     fn answered(&self, _ticket: u64, answer: &Result<Receipt, NodeFault>) {
         if let Ok(receipt) = answer {
+            if may_append(&receipt.input) {
+                self.watches.wake(&self.rt, receipt.node);
+            }
             self.answer_all(receipt.taken.messages.as_slice());
         }
     }
@@ -99,7 +129,7 @@ impl<R: Wait + Drop> Gate for Answers<R> {
 
 /// What the threads of a server share.
 #[derive(Drop)]
-pub(crate) struct Hub<L: Readable, J: Naming, R: Wait + Drop> {
+pub struct Hub<L: Readable, J: Naming, R: Wait + Drop> {
     alloc: Global,
     places: Vec<Place<L, J, R>>,
     nodes: Handle<PublishedMachine<L, J, R>, Answers<R>>,
@@ -123,17 +153,40 @@ impl<L: Readable, J: Naming, R: Wait + Drop> Hub<L, J, R> {
     }
 
     /// Replies to a client go over this connection from now on.
-    pub(crate) fn speaks(&self, client: ClientId, peer: &Arc<Peer>) -> Result<(), AllocError> {
+    pub fn speaks(&self, client: ClientId, peer: &Arc<Peer>) -> Result<(), AllocError> {
         self.nodes.gate().speaks(client, peer)
     }
 
     /// Sends no reply over this connection any more.
-    pub(crate) fn forget(&self, peer: &Peer) {
+    pub fn forget(&self, peer: &Peer) {
         self.nodes.gate().forget(peer);
     }
 
+    /// No connection speaks for this client any more.
+    pub fn forget_client(&self, client: ClientId) {
+        self.nodes.gate().forget_client(client);
+    }
+
+    /// The next append to a partition that readers see wakes this waker, once.
+    pub fn watch(
+        &self,
+        rt: &R,
+        partition: PartitionId,
+        waker: Arc<Waker>,
+    ) -> Result<(), AllocError> {
+        self.nodes.gate().watches.add(rt, partition, waker)
+    }
+
+    /// No append to a partition wakes the waker of this connection any more.
+    pub fn unwatch(&self, rt: &R, partition: PartitionId, peer: &Peer) {
+        self.nodes
+            .gate()
+            .watches
+            .remove(rt, partition, peer.number());
+    }
+
     /// Waits while many messages wait for workers.
-    pub(crate) fn wait_for_workers(&self, rt: &R) {
+    pub fn wait_for_workers(&self, rt: &R) {
         self.nodes.wait_for_few(rt, FEW_WAITING);
     }
 
@@ -215,12 +268,50 @@ impl<L: Readable, J: Naming, R: Wait + Drop> Hub<L, J, R> {
 
     /// A message arrives at the node that it names. Where there is no memory for the step, it is
     /// lost.
-    pub(crate) fn deliver(&self, rt: &R, message: Message) {
+    pub fn deliver(&self, rt: &R, message: Message) {
         let _ = self.step(rt, message.receiver(), Input::Deliver(message));
     }
 
-    /// The readers of the published log of a node. None where it isn't published.
-    pub(crate) fn readers(&self, name: NodeId) -> Option<&Readers<J>> {
+    // The readers of the published log of a node. None where it isn't published.
+    fn readers(&self, name: NodeId) -> Option<&Readers<J>> {
         self.place(name)?.readers.as_ref()
+    }
+
+    /// Where the published log of a partition ends: no step. None where it isn't published, or
+    /// memory runs out.
+    pub fn ends(&self, rt: &R, partition: PartitionId) -> Option<LogEnds> {
+        let readers = self.readers(NodeId::Partition(partition))?;
+        let mut reader = readers.take(rt)?;
+        let ends = match reader.enter() {
+            Ok(published) => {
+                let end = published.end();
+                match published.page(end, 0, false) {
+                    Ok(page) => Some(LogEnds {
+                        end,
+                        lso: page.last_stable_offset(),
+                    }),
+                    Err(_) => None,
+                }
+            }
+            Err(_) => None,
+        };
+        readers.give_back(rt, reader);
+        ends
+    }
+
+    /// The reply with the page that is asked for, of the published log of its partition: no step.
+    /// None where the log isn't published, or memory runs out.
+    pub fn page(&self, rt: &R, fetch: &Fetch) -> Option<Message> {
+        let readers = self.readers(NodeId::Partition(fetch.partition))?;
+        let mut reader = readers.take(rt)?;
+        let reply = match reader.enter() {
+            Ok(published) => {
+                let page = published.page(fetch.from, page_room(fetch), fetch.committed);
+                answer_fetch(self.alloc, fetch, page).ok()
+            }
+            Err(_) => None,
+        };
+        readers.give_back(rt, reader);
+        reply
     }
 }

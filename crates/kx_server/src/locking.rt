@@ -8,7 +8,7 @@ use std::fs::{File, Files, OpenOptions, TryLockError};
 
 /// Keeps other servers out of a folder, which is made where there is none, for as long as the file
 /// is open. No folder has the empty name.
-pub(crate) fn lock_folder<R: Files<File = File> + AllocGlobal>(
+pub fn lock_folder<R: Files<File = File> + AllocGlobal>(
     rt: &R,
     alloc: Global,
     dir: &str,

@@ -6,6 +6,7 @@ use crate::queue::Queue;
 use kx_message::Message;
 use std::alloc::Global;
 use std::sync::{Condvar, Mutex, Wait};
+use std::time::{Clock, Duration};
 
 // A connection is read on while fewer bytes than these wait for it.
 const FEW_WAITING: usize = 65_536;
@@ -82,6 +83,23 @@ impl Outbox {
         let mut waiting = self.moved.wait_while(rt, self.waiting.lock(rt), |waiting| {
             waiting.is_open && waiting.queue.is_empty()
         });
+        let message = waiting.queue.pop();
+        self.moved.notify_all();
+        message
+    }
+
+    /// Waits for a message, at most this long, and takes the first one out. None where none waits
+    /// by then.
+    pub(crate) fn next_within<R: Wait + Clock>(
+        &self,
+        rt: &R,
+        patience: Duration,
+    ) -> Option<Message> {
+        let (mut waiting, _) = self
+            .moved
+            .wait_timeout_while(rt, self.waiting.lock(rt), patience, |waiting| {
+                waiting.is_open && waiting.queue.is_empty()
+            });
         let message = waiting.queue.pop();
         self.moved.notify_all();
         message

@@ -3,10 +3,11 @@ use crate::outbox::{Outbox, Put};
 use kx_message::Message;
 use kx_stream::{FrameReader, StreamFault, send};
 use std::alloc::Global;
-use std::io::Read;
+use std::io;
+use std::io::{Read, Write};
 use std::net::{Shutdown, TcpStream};
 use std::sync::Wait;
-use std::time::Duration;
+use std::time::{Clock, Duration};
 
 // How long a connection that the server closes is read on without a byte, and in how many pieces.
 const LINGER_MILLIS: u64 = 1000;
@@ -17,7 +18,7 @@ const LINGER_PIECE: usize = 8192;
 
 /// A connection, as the threads see it that answer over it.
 #[derive(Drop)]
-pub(crate) struct Peer {
+pub struct Peer {
     number: usize,
     stream: TcpStream,
     outbox: Outbox,
@@ -36,7 +37,7 @@ impl Peer {
     }
 
     /// The number of the connection.
-    pub(crate) fn number(&self) -> usize {
+    pub fn number(&self) -> usize {
         self.number
     }
 
@@ -47,6 +48,40 @@ impl Peer {
         frames: &mut FrameReader,
     ) -> Result<Option<Vec<Message>>, StreamFault> {
         frames.next(&mut &self.stream)
+    }
+
+    /// Waits for bytes, and puts as many as arrived at the front of a piece. Returns how many, 0
+    /// where the other end has closed.
+    ///
+    /// # Errors
+    ///
+    /// Where the connection can't be read.
+    pub fn read(&self, piece: &mut [u8]) -> io::Result<usize> {
+        (&mut &self.stream).read(piece)
+    }
+
+    /// Writes bytes to the connection, and says whether all were written.
+    pub fn write(&self, bytes: &[u8]) -> bool {
+        (&mut &self.stream).write_all(bytes).is_ok()
+    }
+
+    /// Tells the other end that no more comes.
+    pub fn end_writing(&self) {
+        let _ = self.stream.shutdown(Shutdown::Write);
+    }
+
+    /// Waits for a reply of a node to the clients of this connection, at most this long, and takes
+    /// the first. None where none waits by then.
+    pub fn take_reply<R: Wait + Clock>(&self, rt: &R, patience: Duration) -> Option<Message> {
+        self.outbox.next_within(rt, patience)
+    }
+
+    /// The port of the server, 0 where the system can't tell.
+    pub fn port(&self) -> u16 {
+        match self.stream.local_addr() {
+            Ok(address) => address.port(),
+            Err(_) => 0,
+        }
     }
 
     /// Waits until few bytes wait to be written, and says whether the connection is open.
@@ -80,14 +115,14 @@ impl Peer {
     /// no more comes.
     pub(crate) fn write_answers<R: Wait>(&self, rt: &R, alloc: Global) {
         if self.write_all(rt, alloc) {
-            let _ = self.stream.shutdown(Shutdown::Write);
+            self.end_writing();
         } else {
             self.hang_up(rt);
         }
     }
 
     /// Takes no more answers; what was answered is still written.
-    pub(crate) fn finish<R: Wait>(&self, rt: &R) {
+    pub fn finish<R: Wait>(&self, rt: &R) {
         self.outbox.close(rt);
     }
 
@@ -95,7 +130,7 @@ impl Peer {
     /// to be read is reset, and the other end may lose answers that are on their way.
     // Closing a socket with bytes unread resets it, and answers on their way are lost at the other
     // end; so what arrives is read for a while and dropped.
-    pub(crate) fn linger(&self) {
+    pub fn linger(&self) {
         let patience = Duration::from_millis(LINGER_MILLIS);
         if self.stream.set_read_timeout(Some(patience)).is_err() {
             return;
@@ -110,7 +145,7 @@ impl Peer {
     }
 
     /// Closes the connection: nothing more is read or written.
-    pub(crate) fn hang_up<R: Wait>(&self, rt: &R) {
+    pub fn hang_up<R: Wait>(&self, rt: &R) {
         self.outbox.close(rt);
         let _ = self.stream.shutdown(Shutdown::Both);
     }

@@ -40,6 +40,11 @@ impl Routes {
         Arc::try_clone(self.peers.get(&client.get())?).ok()
     }
 
+    /// From now on no connection speaks for the client.
+    pub(crate) fn forget_client(&mut self, client: ClientId) {
+        let _ = self.peers.swap_remove(&client.get());
+    }
+
     /// Forgets a connection.
     pub(crate) fn forget(&mut self, number: usize) {
         self.peers.retain(|_, peer| peer.number() != number);

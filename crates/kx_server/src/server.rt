@@ -2,10 +2,9 @@
 ghost use Rattle.std.specs.Prelude.{◌≡◌, ◌≤◌, All, IfOk, OnOk, length};
 ghost use Rattle.std.specs.Io.KnownBytes.{Appends};
 ghost use Rattle.kx_message.specs.Ranges.{data_partitions, offsets_partition};
-ghost use Rattle.kx_server.specs.Lines.{Prints, line_of};
+ghost use Rattle.kx_server.specs.Lines.{Listens, Prints, line_of};
 ghost use Rattle.kx_server.specs.Opening.{HasBook, InOrder};
 
-use crate::connection::Connection;
 use crate::fault::{NetFault, ServeFault};
 use crate::hub::{Answers, Hub, Place};
 use crate::locking::lock_folder;
@@ -13,9 +12,12 @@ use crate::opening::{Folder, InFiles, InMemory, Making};
 use crate::operator::Operator;
 use crate::options::{Partitions, ServeOptions};
 use crate::peer::Peer;
+use crate::protocol::{OwnFrames, Protocol};
 use crate::routes::Routes;
+use crate::seats::Seats;
 use crate::ticking::{Going, keep_time, moment};
 use crate::waiting::wait_until;
+use crate::watches::Watches;
 use kx_message::PartitionId;
 use kx_nodes::{JoinSet, Receipt, Workers};
 use kx_published::book::{Naming, Opened};
@@ -60,67 +62,6 @@ impl<
         threads.push(handle);
         Ok(())
     }
-
-    // Starts what writes to a connection.
-    fn add_writer(
-        &self,
-        threads: &mut JoinSet<R>,
-        rt: R,
-        alloc: Global,
-        peer: &Arc<Peer>,
-    ) -> Result<(), AllocError> {
-        threads.make_room()?;
-        let peer = Arc::try_clone(peer)?;
-        let Ok(handle) = thread::spawn(&rt, move || peer.write_answers(&rt, alloc)) else {
-            return Err(AllocError);
-        };
-        threads.push(handle);
-        Ok(())
-    }
-
-    // Starts what reads from a connection.
-    fn add_reader(
-        &self,
-        threads: &mut JoinSet<R>,
-        rt: R,
-        alloc: Global,
-        peer: &Arc<Peer>,
-        partitions: Partitions,
-    ) -> Result<(), AllocError> {
-        threads.make_room()?;
-        let hub = Arc::try_clone(&self.hub)?;
-        let peer = Arc::try_clone(peer)?;
-        let connection = Connection::new(alloc, hub, peer, partitions);
-        let Ok(handle) = thread::spawn(&rt, move || connection.serve(&rt)) else {
-            return Err(AllocError);
-        };
-        threads.push(handle);
-        Ok(())
-    }
-
-    // Starts the threads of a connection, each as soon as it can be started.
-    fn add_connection(
-        &self,
-        threads: &mut JoinSet<R>,
-        rt: R,
-        alloc: Global,
-        peer: &Arc<Peer>,
-        partitions: Partitions,
-    ) {
-        let pause = Duration::from_millis(PAUSE_MILLIS);
-        wait_until(
-            &rt,
-            pause,
-            || self.add_writer(threads, rt, alloc, peer).ok(),
-            || warn(&rt, "no thread can be started now; the server waits"),
-        );
-        wait_until(
-            &rt,
-            pause,
-            || self.add_reader(threads, rt, alloc, peer, partitions).ok(),
-            || warn(&rt, "no thread can be started now; the server waits"),
-        );
-    }
 }
 
 // Tells whoever runs the server. Nobody may watch.
@@ -157,27 +98,64 @@ fn net_fault(listener: &TcpListener, fault: NetFault) -> ServeFault {
     ServeFault::Net { port, fault }
 }
 
+/// When a server ends.
+#[derive(Clone, Copy, Debug, PartialEq, Eq)]
+pub enum Until {
+    /// When it has served as many connections as its options say.
+    Served,
+    /// When its process is killed. As many connections as its options say are served at a time, and
+    /// one more is closed at once.
+    Killed,
+}
+
+impl Until {
+    // How many connections are taken at most.
+    fn taken(self, options: &ServeOptions<'_>) -> usize {
+        match self {
+            Until::Served => options.connections.get(),
+            Until::Killed => usize::MAX,
+        }
+    }
+}
+
+// A connection of this number, once it can be served. None where it is closed.
+fn opened<P: Protocol, R: Wait>(
+    rt: &R,
+    alloc: Global,
+    protocol: &P,
+    number: usize,
+    stream: TcpStream,
+) -> Option<P::Link> {
+    let peer = Arc::new(alloc, Peer::new(alloc, number, stream)).ok()?;
+    protocol.open(rt, alloc, peer).ok()
+}
+
 // Takes the connections, one after the other, and serves each from then on.
 fn take_connections<
     L: Readable + Send + Sync + 'static,
     J: Naming + Send + Sync + 'static,
     R: Eprint + Threads + Wait + Clock + Copy + Send + Sync + Drop + 'static,
+    P: Protocol,
 >(
     rt: R,
     alloc: Global,
-    shared: &Shared<L, J, R>,
-    threads: &mut JoinSet<R>,
+    seats: &mut Seats<L, J, R, P::Link>,
     listener: &TcpListener,
     options: &ServeOptions<'_>,
+    spoken: (&P, Until),
 ) -> Result<(), ServeFault> {
-    for number in 0..options.connections.get() {
+    let (protocol, until) = spoken;
+    for number in 0..until.taken(options) {
         let stream = match accept(&rt, listener) {
             Ok(stream) => stream,
             Err(fault) => return Err(net_fault(listener, fault)),
         };
-        // Without memory for it the connection is closed.
-        if let Ok(peer) = Arc::new(alloc, Peer::new(alloc, number, stream)) {
-            shared.add_connection(threads, rt, alloc, &peer, options.partitions);
+        if seats.count() >= options.connections.get() {
+            continue;
+        }
+        if let Some(link) = opened(&rt, alloc, protocol, number, stream) {
+            // Without memory for it the connection is closed.
+            let _ = seats.serve(link);
         }
     }
     Ok(())
@@ -203,13 +181,8 @@ fn start_workers<
     for place in places {
         nodes.push(Arc::try_clone(&place.node)?)?;
     }
-    Workers::start(
-        rt,
-        alloc,
-        nodes,
-        count,
-        Answers::new(rt, Routes::new(alloc)),
-    )
+    let answers = Answers::new(rt, Routes::new(alloc), Watches::new(alloc)?);
+    Workers::start(rt, alloc, nodes, count, answers)
 }
 
 // What the threads of a server with these nodes share.
@@ -281,43 +254,65 @@ impl<
     }
 
     // Serves the connections that come to a listener, beside the clock.
-    fn serve_shared(
+    fn serve_shared<P: Protocol>(
         &self,
         listener: &TcpListener,
         options: &ServeOptions<'_>,
+        protocol: &P,
+        until: Until,
     ) -> Result<(), ServeFault> {
         let (rt, alloc) = (self.rt, self.alloc);
+        let hub = Arc::try_clone(&self.shared.hub)?;
         let mut clock = JoinSet::new(rt, alloc);
-        let mut connections = JoinSet::new(rt, alloc);
+        let mut seats = Seats::new(rt, alloc, hub);
         let served = match self.shared.add_clock(&mut clock, rt, options.expires) {
             Ok(()) => {
-                take_connections(rt, alloc, &self.shared, &mut connections, listener, options)
+                take_connections(rt, alloc, &mut seats, listener, options, (protocol, until))
             }
             Err(_) => Err(ServeFault::Memory),
         };
-        connections.join();
+        seats.join();
         self.shared.going.end(&rt);
         clock.join();
         served
     }
 
-    /// Serves as many connections of a listener as the options say, at once, and ends when the last
-    /// of them has ended. Then no thread of the server runs. Returns the receipts of all steps of
-    /// traced nodes, in any order.
+    /// Serves the connections of a listener, at once, whose clients speak this protocol. When it
+    /// ends, no thread of the server runs. Returns the receipts of all steps of traced nodes, in any
+    /// order.
     ///
     /// # Errors
     ///
     /// `Net` where no connection can be taken any more, `Memory` where memory or threads run out or
     /// a receipt was lost. Connections that were taken are served to their ends also then.
+    pub fn serve_speaking<P: Protocol>(
+        self,
+        listener: &TcpListener,
+        options: &ServeOptions<'_>,
+        protocol: &P,
+        until: Until,
+    ) -> Result<Vec<Receipt>, ServeFault> {
+        let served = self.serve_shared(listener, options, protocol, until);
+        let receipts = self.end();
+        served?;
+        Ok(receipts?)
+    }
+
+    /// Serves as many connections of a listener as the options say, at once, and ends when the last
+    /// of them has ended. Their clients speak the project's own protocol.
+    ///
+    /// # Errors
+    ///
+    /// As [`serve_speaking`](Server::serve_speaking).
     pub fn serve(
         self,
         listener: &TcpListener,
         options: &ServeOptions<'_>,
     ) -> Result<Vec<Receipt>, ServeFault> {
-        let served = self.serve_shared(listener, options);
-        let receipts = self.end();
-        served?;
-        Ok(receipts?)
+        let protocol = OwnFrames {
+            partitions: options.partitions,
+        };
+        self.serve_speaking(listener, options, &protocol, Until::Served)
     }
 
     /// Ends the server. Returns the receipts of all steps of traced nodes, in any order.
@@ -386,6 +381,7 @@ fn serve_named<
         + Sync
         + Drop
         + 'static,
+    P: Protocol,
     W: Write,
 >(
     rt: R,
@@ -394,13 +390,13 @@ fn serve_named<
     options: &ServeOptions<'_>,
     books: Vec<Opened>,
     offsets: Opened,
+    spoken: (&P, Until),
     out: &mut W,
 ) -> Result<(), ServeFault>
     requires books { All (HasBook J.book) books.items }
     requires offsets { (offsets.partition ≡ offsets_partition)
         × (offsets.seen.book ≡ J.book offsets_partition) }
-    ensures { OnOk result (Prints options.now.connections (W.contents out.old)
-        (W.contents out.new)) }
+    ensures { OnOk result (Listens (W.contents out.old) (W.contents out.new)) }
 {
     let making = Making {
         rt,
@@ -417,9 +413,10 @@ fn serve_named<
     };
     tell(out, "listening", usize::from(address.port()))?;
     let server = Server::start(rt, alloc, nodes, WORKERS)?;
+    let (protocol, until) = spoken;
     // Nodes without traces leave no receipts.
-    server.serve(&listener, options)?;
-    tell(out, "served", options.connections.get())
+    server.serve_speaking(&listener, options, protocol, until)?;
+    Ok(())
 }
 
 // Writes a line, at once.
@@ -446,20 +443,93 @@ fn serve_over<
         + Sync
         + Drop
         + 'static,
+    P: Protocol,
     W: Write,
 >(
     rt: R,
     alloc: Global,
     folder: &F,
     options: &ServeOptions<'_>,
+    spoken: (&P, Until),
     out: &mut W,
 ) -> Result<(), ServeFault>
-    ensures { OnOk result (Prints options.now.connections (W.contents out.old)
-        (W.contents out.new)) }
+    ensures { OnOk result (Listens (W.contents out.old) (W.contents out.new)) }
 {
     let books = open_books(alloc, options.partitions)?;
     let offsets = Opened::new(PartitionId::OFFSETS);
-    serve_named::<Brand, F, R, W>(rt, alloc, folder, options, books, offsets, out)
+    serve_named::<Brand, F, R, P, W>(rt, alloc, folder, options, books, offsets, spoken, out)
+}
+
+/// Serves the core on 127.0.0.1 to clients that speak a protocol: prints `listening` and the port,
+/// and serves connections at once. Another server must be kept out of the folder by the caller, as
+/// [`lock_folder`](crate::lock_folder) does.
+///
+/// # Errors
+///
+/// As [`ServeFault`] has them. Connections that were taken are served to their ends also then.
+pub fn serve_speaking<
+    R: Net<Listener = TcpListener, Stream = TcpStream>
+        + Files<File = File>
+        + AllocGlobal
+        + Eprint
+        + Threads
+        + Wait
+        + Clock
+        + Copy
+        + Send
+        + Sync
+        + Drop
+        + 'static,
+    P: Protocol,
+    W: Write,
+>(
+    rt: R,
+    options: &ServeOptions<'_>,
+    protocol: &P,
+    until: Until,
+    out: &mut W,
+) -> Result<(), ServeFault>
+    ensures { OnOk result (Listens (W.contents out.old) (W.contents out.new)) }
+{
+    let alloc = rt.alloc();
+    let spoken = (protocol, until);
+    match options.dir {
+        None => serve_over(rt, alloc, &InMemory, options, spoken, out),
+        Some(dir) => {
+            let folder = InFiles {
+                rt,
+                dir,
+                tells_progress: options.tells_progress,
+            };
+            serve_over(rt, alloc, &folder, options, spoken, out)
+        }
+    }
+}
+
+// Serves the project's own protocol, and prints what was served.
+fn serve_own<
+    R: Net<Listener = TcpListener, Stream = TcpStream>
+        + Files<File = File>
+        + AllocGlobal
+        + Eprint
+        + Threads
+        + Wait
+        + Clock
+        + Copy
+        + Send
+        + Sync
+        + Drop
+        + 'static,
+    W: Write,
+>(rt: R, options: &ServeOptions<'_>, out: &mut W) -> Result<(), ServeFault>
+    ensures { OnOk result (Prints options.now.connections (W.contents out.old)
+        (W.contents out.new)) }
+{
+    let protocol = OwnFrames {
+        partitions: options.partitions,
+    };
+    serve_speaking(rt, options, &protocol, Until::Served, out)?;
+    tell(out, "served", options.connections.get())
 }
 
 /// Serves the core on 127.0.0.1: prints `listening` and the port, serves as many connections as
@@ -487,19 +557,11 @@ pub fn serve<
     ensures { OnOk result (Prints options.now.connections (W.contents out.old)
         (W.contents out.new)) }
 {
-    let alloc = rt.alloc();
-    match options.dir {
-        None => serve_over(rt, alloc, &InMemory, options, out),
-        Some(dir) => {
-            let lock = lock_folder(&rt, alloc, dir)?;
-            let folder = InFiles {
-                rt,
-                dir,
-                tells_progress: options.tells_progress,
-            };
-            let served = serve_over(rt, alloc, &folder, options, out);
-            drop(lock);
-            served
-        }
-    }
+    let Some(dir) = options.dir else {
+        return serve_own(rt, options, out);
+    };
+    let lock = lock_folder(&rt, rt.alloc(), dir)?;
+    let served = serve_own(rt, options, out);
+    drop(lock);
+    served
 }

@@ -38,6 +38,11 @@ impl Going {
         self.moved.notify_all();
     }
 
+    /// Whether it has ended.
+    pub(crate) fn has_ended<R: Wait>(&self, rt: &R) -> bool {
+        *self.has_ended.lock(rt)
+    }
+
     // Waits for the next tick, and says whether the server has ended meanwhile.
     fn waits<R: Wait + Clock>(&self, rt: &R) -> bool {
         let tick = Duration::from_secs(TICK_SECONDS);

@@ -1,7 +1,8 @@
 use Rattle.std.proofs.Common.{codes, rules}
 use Rattle.std.proofs.lemmas.Result.{IfOk-weaker}
 use Rattle.clap.specs.Words.{new_app}
-use Rattle.kx_program.specs.Usage.{demo_app, dump_app, serve_app, sim_app, with_needed_subcommand}
+use Rattle.kx_program.specs.Usage.{demo_app, dump_app, kafka_app, serve_app, sim_app}
+use Rattle.kx_program.specs.Usage.{with_needed_subcommand}
 use Rattle.kx_program.proofs.Commands.{Makes, with_command}
 use Rattle.kx_program.proofs.usage.command_line.Goals as goal
 
@@ -23,9 +24,14 @@ returns c =
       local = c.in_ok-serve_usage.ensures.local;
     } in
     let made_3 = with_command _ _ _ _ _ c.in_ok-subcommand-3.ensures made_2 serve in
+    let kafka : Makes c.in_ok-kafka_usage.field-0 kafka_app = record {
+      is = c.in_ok-kafka_usage.ensures.app;
+      local = c.in_ok-kafka_usage.ensures.local;
+    } in
+    let made_4 = with_command _ _ _ _ _ c.in_ok-subcommand-4.ensures made_3 kafka in
     let demo : Makes c.in_ok-demo_usage.field-0 demo_app = record {
       is = c.in_ok-demo_usage.ensures.app;
       local = c.in_ok-demo_usage.ensures.local;
     } in
-    IfOk-weaker c.subcommand-4.result _ _
-    (λ command adds. (with_command _ _ _ _ _ adds made_3 demo).is) c.subcommand-4.ensures
+    IfOk-weaker c.subcommand-5.result _ _
+    (λ command adds. (with_command _ _ _ _ _ adds made_4 demo).is) c.subcommand-5.ensures

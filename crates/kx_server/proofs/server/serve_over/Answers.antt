@@ -4,7 +4,6 @@ use Rattle.kx_server.proofs.Books.{all_have_books, book_in, other_book}
 use Rattle.kx_server.specs.Opening.{InOrder}
 use Rattle.kx_server.proofs.server.serve_over.Goals as goal
 
--- src/server.rt:312:5
 pub serve_named-requires-clause-books : goal.serve_named-requires-clause-books
 serve_named-requires-clause-books g c κs within =
     let books = c.in_ok-books.books.items in
@@ -14,7 +13,6 @@ serve_named-requires-clause-books g c κs within =
     all_have_books (book_in books other) other 0 books opened.0 within_data
     (λ number later below. refl)
 
--- src/server.rt:312:5
 pub serve_named-requires-clause-offsets : goal.serve_named-requires-clause-offsets
 serve_named-requires-clause-offsets g c κs within =
     let books = c.in_ok-books.books.items in

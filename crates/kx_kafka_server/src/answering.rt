@@ -1,0 +1,415 @@
+//! Requests are taken and answered, one after the other.
+use crate::closed::Closed;
+use crate::link::StockLink;
+use crate::replies::{fetch_reply, init_reply, produce_reply};
+use crate::table::{Kept, MakeFault};
+use crate::transacting::TxnInit;
+use kx_gateway::{
+    Broker, GatewayCode, InitAsk, NamedTopic, ProduceAsk, TopicAnswer, TopicFault, Topics,
+    api_versions_frame, ask_init, ask_produce, asks_all, find_coordinator_frame, init_frame,
+    is_offered, is_topic_name, list_offsets_frame, listed, metadata_frame, produce_frame, produced,
+    refused_init_frame, refused_offset, refused_produce,
+};
+use kx_kafka::{
+    ApiKey, FieldReader, InitProducerIdRequest, IsolationLevel, KafkaFault, ListOffsetsPartition,
+    ListOffsetsPartitionResponse, ListOffsetsRequest, MetadataRequest, PartitionProduceData,
+    PartitionProduceResponse, ProduceRequest, Request, RequestFront, RequestHeader, Struct,
+    Version, read_request,
+};
+use kx_message::{Caller, ErrorCode, Fetch, Message, PartitionId};
+use kx_published::book::Naming;
+use kx_publishing::Readable;
+use kx_server::{Hub, LogEnds};
+use std::alloc::Global;
+use std::sync::Wait;
+use std::time::{Clock, Duration};
+
+// The address of the one broker.
+const HOST: &[u8] = b"127.0.0.1";
+
+// The fields in front of a request have the same layout in each version.
+const ANY_VERSION: Version = Version {
+    number: 0,
+    flexible: false,
+};
+
+/// How a request is answered.
+#[derive(Drop)]
+pub(crate) enum Answer {
+    /// By this response.
+    Frame(Vec<u8>),
+    /// By nothing: a batch that no replica has to have.
+    Nothing,
+}
+
+// The text of a request, with what it is answered by.
+#[derive(Drop)]
+pub(crate) struct Asked<'a> {
+    pub(crate) header: RequestHeader<'a>,
+    pub(crate) text: &'a [u8],
+}
+
+// The number of the error by which a topic that can't be made is answered.
+fn code_of(fault: MakeFault) -> i16 {
+    match fault {
+        MakeFault::Refused(TopicFault::Name) => GatewayCode::InvalidTopic.number(),
+        MakeFault::Refused(_) => ErrorCode::UnknownTopicOrPartition.number(),
+        MakeFault::Device => ErrorCode::KafkaStorageError.number(),
+    }
+}
+
+// The response to a request for the versions in a version that isn't spoken; any other request that
+// can't be read closes the connection.
+fn answer_unread(alloc: Global, text: &[u8], fault: KafkaFault) -> Result<Answer, Closed> {
+    if fault != KafkaFault::Version {
+        return Err(Closed);
+    }
+    let mut reader = FieldReader { rest: text };
+    let front = RequestFront::read(&mut reader, ANY_VERSION)?;
+    if front.api_key != ApiKey::ApiVersions.number() {
+        return Err(Closed);
+    }
+    let code = GatewayCode::UnsupportedVersion.number();
+    Ok(Answer::Frame(api_versions_frame(alloc, front.correlation_id, code)?))
+}
+
+/// A connection whose requests a thread answers.
+#[derive(Drop)]
+pub(crate) struct Session<'a, L: Readable, J: Naming, R: Wait + Clock + Drop> {
+    pub(crate) rt: &'a R,
+    pub(crate) alloc: Global,
+    pub(crate) hub: &'a Hub<L, J, R>,
+    pub(crate) link: &'a StockLink,
+}
+
+impl<'a, L: Readable, J: Naming, R: Wait + Clock + Drop> Session<'a, L, J, R> {
+    /// Who asks the core: each message of a connection has the number of its client, and is answered
+    /// before the next is sent.
+    pub(crate) fn caller(&self) -> Caller {
+        Caller {
+            client: self.link.client,
+            correlation: 0,
+        }
+    }
+
+    /// Sends a message to its node, and waits for the reply, at most this long.
+    ///
+    /// # Errors
+    ///
+    /// Where no reply is there by then, as where memory ran out for it.
+    pub(crate) fn ask_within(
+        &self,
+        message: Message,
+        patience: Duration,
+    ) -> Result<Message, Closed> {
+        self.hub.deliver(self.rt, message);
+        match self.link.peer.take_reply(self.rt, patience) {
+            Some(reply) => Ok(reply),
+            None => Err(Closed),
+        }
+    }
+
+    /// Sends a message to its node, whose step sends the reply.
+    ///
+    /// # Errors
+    ///
+    /// Where memory ran out for the step or for its reply.
+    pub(crate) fn ask(&self, message: Message) -> Result<Message, Closed> {
+        self.ask_within(message, Duration::ZERO)
+    }
+
+    /// The partition of a topic, if it is there.
+    pub(crate) fn partition(&self, topic: &[u8], index: i32) -> Option<PartitionId> {
+        let kept = self.link.shared.table.lock(self.rt);
+        kept.topics.partition(topic, index)
+    }
+
+    // A topic that a client asks for: it is there, or is made where that is allowed.
+    fn topic_for(&self, kept: &mut Kept, name: &[u8], may_make: bool) -> TopicAnswer {
+        if let Some(count) = kept.topics.count_of(name) {
+            return TopicAnswer::Partitions(count);
+        }
+        if !is_topic_name(name) {
+            return TopicAnswer::Refused(GatewayCode::InvalidTopic.number());
+        }
+        if !may_make || !self.link.shared.makes_topics {
+            return TopicAnswer::Refused(ErrorCode::UnknownTopicOrPartition.number());
+        }
+        match kept.make(self.alloc, name, 1) {
+            Ok(()) => TopicAnswer::Partitions(1),
+            Err(fault) => TopicAnswer::Refused(code_of(fault)),
+        }
+    }
+
+    // All topics that there are.
+    fn all_topics<'t>(&self, topics: &'t Topics) -> Result<Vec<NamedTopic<'t>>, Closed> {
+        let mut named = Vec::new(self.alloc);
+        for topic in topics.topics() {
+            named.push(NamedTopic {
+                name: topic.name(),
+                answer: TopicAnswer::Partitions(topic.count()),
+            })?;
+        }
+        Ok(named)
+    }
+
+    // The topics that a client asks for.
+    fn asked_topics<'t>(
+        &self,
+        kept: &mut Kept,
+        request: MetadataRequest<'t>,
+    ) -> Result<Vec<NamedTopic<'t>>, Closed> {
+        let may_make = request.allow_auto_topic_creation;
+        let mut named = Vec::new(self.alloc);
+        if let Some(topics) = request.topics {
+            for topic in topics {
+                let answer = self.topic_for(kept, topic.name, may_make);
+                named.push(NamedTopic {
+                    name: topic.name,
+                    answer,
+                })?;
+            }
+        }
+        Ok(named)
+    }
+
+    // The response to Metadata with these topics.
+    fn metadata_of(&self, asked: &Asked<'_>, named: &[NamedTopic<'_>]) -> Result<Answer, Closed> {
+        let broker = Broker {
+            host: HOST,
+            port: self.link.peer.port(),
+        };
+        let frame = metadata_frame(self.alloc, &asked.header, broker, named)?;
+        Ok(Answer::Frame(frame))
+    }
+
+    // The response to Metadata.
+    fn metadata(&self, asked: &Asked<'_>, request: MetadataRequest<'_>) -> Result<Answer, Closed> {
+        let mut kept = self.link.shared.table.lock(self.rt);
+        if asks_all(&asked.header, &request) {
+            let named = self.all_topics(&kept.topics)?;
+            return self.metadata_of(asked, named.as_slice());
+        }
+        let named = self.asked_topics(&mut kept, request)?;
+        self.metadata_of(asked, named.as_slice())
+    }
+
+    // What is answered for the batch of a partition.
+    fn append(&self, index: i32, step: ProduceAsk<'_>) -> Result<PartitionProduceResponse, Closed> {
+        match step {
+            ProduceAsk::Refused(code) => Ok(refused_produce(index, code)),
+            ProduceAsk::Append(produce) => {
+                let reply = produce_reply(&self.ask(Message::Produce(produce))?)?;
+                Ok(produced(index, &reply))
+            }
+            ProduceAsk::InTransaction(batch) => self.append_in_transaction(index, &batch),
+        }
+    }
+
+    // What becomes of the batch of a partition.
+    fn step<'t>(
+        &self,
+        acks: i16,
+        id: Option<&[u8]>,
+        topic: &[u8],
+        data: &PartitionProduceData<'t>,
+    ) -> Result<ProduceAsk<'t>, Closed> {
+        let kept = self.link.shared.table.lock(self.rt);
+        let step = ask_produce(
+            self.alloc,
+            &kept.topics,
+            self.caller(),
+            acks,
+            id,
+            topic,
+            data,
+        )?;
+        Ok(step)
+    }
+
+    // The answers to the batches of a Produce, in the request's order.
+    fn append_all(
+        &self,
+        request: ProduceRequest<'_>,
+    ) -> Result<Vec<PartitionProduceResponse>, Closed> {
+        let mut answers = Vec::new(self.alloc);
+        let (acks, id) = (request.acks, request.transactional_id);
+        for topic in request.topic_data {
+            for data in topic.partition_data {
+                let step = self.step(acks, id, topic.name, &data)?;
+                answers.push(self.append(data.index, step)?)?;
+            }
+        }
+        Ok(answers)
+    }
+
+    // The response to Produce. With acks 0 there is none, and a batch that was refused closes the
+    // connection, by which the client learns of it.
+    fn produce(&self, asked: &Asked<'_>, request: ProduceRequest<'_>) -> Result<Answer, Closed> {
+        let is_answered = request.acks != 0;
+        let answers = self.append_all(request)?;
+        if !is_answered {
+            if answers.iter().any(|answer| answer.error_code != 0) {
+                return Err(Closed);
+            }
+            return Ok(Answer::Nothing);
+        }
+        // The request is read once more, for the names in its response; that takes no memory.
+        let Ok((_, Request::Produce(request))) = read_request(asked.text) else {
+            return Err(Closed);
+        };
+        let frame = produce_frame(self.alloc, &asked.header, request, answers.as_slice())?;
+        Ok(Answer::Frame(frame))
+    }
+
+    /// Where a partition's log ends.
+    pub(crate) fn ends(&self, partition: PartitionId) -> Result<LogEnds, Closed> {
+        if let Some(ends) = self.hub.ends(self.rt, partition) {
+            return Ok(ends);
+        }
+        let fetch = Fetch {
+            caller: self.caller(),
+            partition,
+            from: 0,
+            max: 0,
+            committed: false,
+        };
+        let reply = fetch_reply(self.ask(Message::Fetch(fetch))?)?;
+        Ok(LogEnds {
+            end: reply.end,
+            lso: reply.lso,
+        })
+    }
+
+    // The offset of a partition that is asked for.
+    fn offset(
+        &self,
+        committed: bool,
+        topic: &[u8],
+        asked: &ListOffsetsPartition<'_>,
+    ) -> Result<ListOffsetsPartitionResponse, Closed> {
+        let index = asked.partition_index;
+        let Some(partition) = self.partition(topic, index) else {
+            let code = ErrorCode::UnknownTopicOrPartition.number();
+            return Ok(refused_offset(index, code));
+        };
+        let LogEnds { end, lso } = self.ends(partition)?;
+        Ok(listed(index, asked.timestamp, committed, end, lso))
+    }
+
+    // The response to ListOffsets.
+    fn list_offsets(
+        &self,
+        asked: &Asked<'_>,
+        request: ListOffsetsRequest<'_>,
+    ) -> Result<Answer, Closed> {
+        let Some(level) = IsolationLevel::from_number(request.isolation_level) else {
+            return Err(Closed);
+        };
+        let committed = level == IsolationLevel::ReadCommitted;
+        let mut answers = Vec::new(self.alloc);
+        for topic in request.topics {
+            for partition in topic.partitions {
+                answers.push(self.offset(committed, topic.name, &partition)?)?;
+            }
+        }
+        let Ok((_, Request::ListOffsets(request))) = read_request(asked.text) else {
+            return Err(Closed);
+        };
+        let frame = list_offsets_frame(self.alloc, &asked.header, request, answers.as_slice())?;
+        Ok(Answer::Frame(frame))
+    }
+
+    /// The response to a request for an id that is refused with this code.
+    pub(crate) fn refuse_init(&self, asked: &Asked<'_>, code: i16) -> Result<Answer, Closed> {
+        Ok(Answer::Frame(refused_init_frame(self.alloc, &asked.header, code)?))
+    }
+
+    // The response to InitProducerId.
+    fn init_producer_id(
+        &self,
+        asked: &Asked<'_>,
+        request: &InitProducerIdRequest<'_>,
+    ) -> Result<Answer, Closed> {
+        match ask_init(self.caller(), request) {
+            InitAsk::Refused(code) => self.refuse_init(asked, code),
+            InitAsk::Ask(init) => {
+                let reply = init_reply(&self.ask(Message::InitProducerId(init))?)?;
+                Ok(Answer::Frame(init_frame(self.alloc, &asked.header, &reply)?))
+            }
+            InitAsk::Transactional { txn, timeout, held } => {
+                let init = TxnInit { txn, timeout, held };
+                self.init_transactional(asked, &init)
+            }
+        }
+    }
+
+    // What a request is answered by.
+    fn answer(&self, text: &[u8]) -> Result<Answer, Closed> {
+        let (header, request) = match read_request(text) {
+            Ok(read) => read,
+            Err(fault) => return answer_unread(self.alloc, text, fault),
+        };
+        if !is_offered(header.api) {
+            return Err(Closed);
+        }
+        let asked = Asked { header, text };
+        match request {
+            Request::Produce(it) => self.produce(&asked, it),
+            Request::Fetch(_) => self.fetch(&asked),
+            Request::ListOffsets(it) => self.list_offsets(&asked, it),
+            Request::Metadata(it) => self.metadata(&asked, it),
+            Request::InitProducerId(it) => { self.init_producer_id(&asked, &it) }
+            Request::AddPartitionsToTxn(it) => self.add_partitions(&asked, it),
+            Request::AddOffsetsToTxn(it) => self.add_offsets(&asked, &it),
+            Request::EndTxn(it) => self.end_txn(&asked, &it),
+            Request::FindCoordinator(_) => {
+                let broker = Broker {
+                    host: HOST,
+                    port: self.link.peer.port(),
+                };
+                let frame = find_coordinator_frame(self.alloc, &asked.header, broker)?;
+                Ok(Answer::Frame(frame))
+            }
+            Request::ApiVersions(_) => {
+                let frame = api_versions_frame(self.alloc, asked.header.correlation_id, 0)?;
+                Ok(Answer::Frame(frame))
+            }
+            _ => Err(Closed),
+        }
+    }
+
+    // Answers requests until none comes any more, or one can't be answered.
+    fn answer_each(&self) -> Result<(), Closed> {
+        self.hub.speaks(self.link.client, &self.link.peer)?;
+        for _ in self.rt.forever() {
+            let Some(text) = self.link.inbox.next(self.rt) else {
+                return Ok(());
+            };
+            self.hub.wait_for_workers(self.rt);
+            match self.answer(text.as_slice())? {
+                Answer::Frame(frame) => {
+                    if !self.link.peer.write(frame.as_slice()) {
+                        return Err(Closed);
+                    }
+                }
+                Answer::Nothing => {}
+            }
+        }
+        Ok(())
+    }
+
+    /// Answers the requests of a connection, each when the one before was answered, until either end
+    /// closes it. One that can't be read, or isn't offered, closes it.
+    pub(crate) fn answer_all(&self) {
+        let ended = self.answer_each();
+        self.hub.forget(&self.link.peer);
+        self.link.inbox.close(self.rt);
+        if ended.is_err() {
+            self.link.peer.hang_up(self.rt);
+        } else {
+            self.link.peer.finish(self.rt);
+            self.link.peer.end_writing();
+        }
+    }
+}

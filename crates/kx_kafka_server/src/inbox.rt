@@ -1,0 +1,75 @@
+//! The requests that wait to be taken, of one connection.
+use std::alloc::Global;
+use std::collections::VecDeque;
+use std::sync::{Condvar, Mutex, Wait};
+
+// While as many bytes as these wait, nothing is read from the connection.
+const MUCH_WAITS: usize = 65_536;
+
+#[derive(Drop)]
+struct Waiting {
+    requests: VecDeque<Vec<u8>>,
+    bytes: usize,
+    is_open: bool,
+}
+
+/// The texts of the requests of a connection that wait to be taken.
+#[derive(Drop)]
+pub(crate) struct Inbox {
+    waiting: Mutex<Waiting>,
+    moved: Condvar,
+}
+
+impl Inbox {
+    /// Nothing waits.
+    pub(crate) fn new(alloc: Global) -> Inbox {
+        Inbox {
+            waiting: Mutex::new(Waiting {
+                requests: VecDeque::new(alloc),
+                bytes: 0,
+                is_open: true,
+            }),
+            moved: Condvar::new(),
+        }
+    }
+
+    /// Waits until few bytes wait, and puts a request after them. Says whether it did: not where the
+    /// inbox is closed, or memory runs out.
+    pub(crate) fn put<R: Wait>(&self, rt: &R, request: Vec<u8>) -> bool {
+        let mut waiting = self.moved.wait_while(rt, self.waiting.lock(rt), |waiting| {
+            waiting.is_open && waiting.bytes >= MUCH_WAITS
+        });
+        if !waiting.is_open {
+            return false;
+        }
+        let bytes = waiting.bytes.saturating_add(request.len());
+        if waiting.requests.push_back(request).is_err() {
+            return false;
+        }
+        waiting.bytes = bytes;
+        self.moved.notify_all();
+        true
+    }
+
+    /// Waits for a request, and takes the first. None where none waits and the inbox is closed.
+    pub(crate) fn next<R: Wait>(&self, rt: &R) -> Option<Vec<u8>> {
+        let mut waiting = self.moved.wait_while(rt, self.waiting.lock(rt), |waiting| {
+            waiting.is_open && waiting.requests.is_empty()
+        });
+        let request = waiting.requests.pop_front()?;
+        waiting.bytes = waiting.bytes.saturating_sub(request.len());
+        self.moved.notify_all();
+        Some(request)
+    }
+
+    /// Whether more requests may come.
+    pub(crate) fn is_open<R: Wait>(&self, rt: &R) -> bool {
+        self.waiting.lock(rt).is_open
+    }
+
+    /// Takes no more requests. Those that wait stay.
+    pub(crate) fn close<R: Wait>(&self, rt: &R) {
+        self.waiting.lock(rt).is_open = false;
+        self.moved.notify_all();
+    }
+}

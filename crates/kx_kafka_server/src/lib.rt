@@ -1,0 +1,25 @@
+//! Kafka's own protocol over a server's connections: what stock clients ask of topics, partitions
+//! and producer ids. What a request asks of the core and how it is answered is kx_gateway's; here
+//! stand its threads, its files and its waiting.
+#![tactic(auto)]
+
+mod answering;
+mod asked;
+mod closed;
+mod fault;
+mod fetching;
+mod inbox;
+mod kept;
+mod link;
+mod numbers;
+mod producers;
+mod protocol;
+mod replies;
+mod serving;
+mod table;
+mod transacting;
+
+pub use asked::{AskFault, topics_asked};
+pub use fault::{GatewayFile, KafkaServeFault};
+pub use kx_gateway::{TopicFault, Topics};
+pub use serving::{KafkaOptions, serve_kafka};

@@ -1,0 +1,35 @@
+//! The replies of the core's nodes.
+use crate::closed::Closed;
+use kx_message::{EndReply, FetchReply, InitReply, Message, ProduceReply};
+
+/// The reply to an InitProducerId.
+pub(crate) fn init_reply(message: &Message) -> Result<InitReply, Closed> {
+    match message {
+        Message::InitReply(reply) => Ok(*reply),
+        _ => Err(Closed),
+    }
+}
+
+/// The reply to an EndTxn.
+pub(crate) fn end_reply(message: &Message) -> Result<EndReply, Closed> {
+    match message {
+        Message::EndReply(reply) => Ok(*reply),
+        _ => Err(Closed),
+    }
+}
+
+/// The reply to a Produce.
+pub(crate) fn produce_reply(message: &Message) -> Result<ProduceReply, Closed> {
+    match message {
+        Message::ProduceReply(reply) => Ok(*reply),
+        _ => Err(Closed),
+    }
+}
+
+/// The reply to a Fetch.
+pub(crate) fn fetch_reply(message: Message) -> Result<FetchReply, Closed> {
+    match message {
+        Message::FetchReply(reply) => Ok(reply),
+        _ => Err(Closed),
+    }
+}

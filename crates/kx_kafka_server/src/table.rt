@@ -1,0 +1,105 @@
+//! The table of topics, which threads share and which outlives the server.
+ghost use Rattle.std.specs.Prelude.{◌≡◌, ◌++◌, ◌∷◌, [], OnErr, OnOk};
+
+use crate::fault::{GatewayFile, KafkaServeFault};
+use crate::kept::Lines;
+use kx_gateway::{Topic, TopicFault, Topics, TopicsFault, read_topics, topic_line};
+use std::alloc::{AllocError, Global};
+use std::sync::{Mutex, MutexGuard, Wait};
+
+/// The topics, and the lines that keep them.
+#[derive(Drop)]
+pub(crate) struct Kept {
+    pub(crate) topics: Topics,
+    lines: Lines,
+}
+
+/// Why a topic isn't made.
+#[derive(Clone, Copy, Debug, PartialEq, Eq)]
+pub(crate) enum MakeFault {
+    /// The table refuses it.
+    Refused(TopicFault),
+    /// It can't be kept.
+    Device,
+}
+
+impl Kept {
+    /// Makes a topic. It is on the device when this returns.
+    ///
+    /// # Errors
+    ///
+    /// Why the table refuses it, or that it can't be kept; the table is then as before.
+    pub(crate) fn make(&mut self, alloc: Global, name: &[u8], count: u16) -> Result<(), MakeFault>
+        ensures made { OnOk result (self.new.topics
+            ≡ self.old.topics ++ record { name = name.now; count = count } ∷ []) }
+        ensures kept { OnErr result (self.new.topics ≡ self.old.topics) }
+    {
+        let Ok(line) = topic_line(alloc, name, count) else {
+            return Err(MakeFault::Refused(TopicFault::Memory));
+        };
+        match self.topics.add(name, count) {
+            Ok(()) => {}
+            Err(fault) => return Err(MakeFault::Refused(fault)),
+        }
+        if self.lines.add(line.as_slice()).is_err() {
+            self.topics.remove_last();
+            return Err(MakeFault::Device);
+        }
+        Ok(())
+    }
+
+    // A topic that is asked for at the start: it is there, or is made.
+    fn begin_with(&mut self, alloc: Global, topic: &Topic) -> Result<(), KafkaServeFault> {
+        match self.topics.count_of(topic.name()) {
+            Some(count) if count == topic.count() => return Ok(()),
+            Some(_) => return Err(KafkaServeFault::Differs),
+            None => {}
+        }
+        match self.make(alloc, topic.name(), topic.count()) {
+            Ok(()) => Ok(()),
+            Err(MakeFault::Refused(TopicFault::Memory)) => Err(AllocError.into()),
+            Err(MakeFault::Refused(_)) => Err(KafkaServeFault::Full),
+            Err(MakeFault::Device) => Err(KafkaServeFault::Device {
+                file: GatewayFile::Topics,
+            }),
+        }
+    }
+}
+
+/// The table of topics.
+#[derive(Drop)]
+pub(crate) struct Table {
+    kept: Mutex<Kept>,
+}
+
+impl Table {
+    /// The table that these lines keep, with the topics that are asked for.
+    pub(crate) fn open(
+        alloc: Global,
+        mut lines: Lines,
+        asked: &Topics,
+    ) -> Result<Table, KafkaServeFault> {
+        let text = lines.load(alloc)?;
+        let (topics, len) = match read_topics(alloc, text.as_slice()) {
+            Ok(read) => read,
+            Err(TopicsFault::Memory) => return Err(AllocError.into()),
+            Err(TopicsFault::Damaged { line }) => {
+                let file = GatewayFile::Topics;
+                return Err(KafkaServeFault::Damaged { file, line });
+            }
+        };
+        lines.cut(len)?;
+        let mut kept = Kept { topics, lines };
+        for topic in asked.topics() {
+            kept.begin_with(alloc, topic)?;
+        }
+        Ok(Table {
+            kept: Mutex::new(kept),
+        })
+    }
+
+    /// The table, for this thread alone.
+    pub(crate) fn lock<R: Wait>(&self, rt: &R) -> MutexGuard<'_, Kept> {
+        self.kept.lock(rt)
+    }
+}

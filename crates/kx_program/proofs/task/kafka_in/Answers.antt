@@ -1,0 +1,18 @@
+use Rattle.std.proofs.Common.{◌∙◌, Option, codes, refl, rules, subst}
+use Rattle.clap.specs.Words.{Text, found_of, one_text}
+use Rattle.clap.proofs.WalkLemmas.{first_value-rows, one_text-rows}
+use Rattle.kx_program.specs.Tasks.{Flags}
+use Rattle.kx_program.proofs.Finding.{flags}
+use Rattle.kx_program.proofs.task.kafka_in.Goals as goal
+
+pub returns : goal.returns
+returns c = record {
+  topics = c.get_str.ensures ∙ first_value-rows (found_of c.args.given.now) (codes "topics");
+  port = search rules;
+  dir = c.get_str-2.ensures ∙ first_value-rows (found_of c.args.given.now) (codes "dir");
+  makes = subst (λ (text : Option Text). Flags text c.get_flag.result)
+      (one_text-rows (found_of c.args.given.now) (codes "no-auto-topics"))
+      (flags (one_text (found_of c.args.given.now) (codes "no-auto-topics")) c.get_flag.result
+      c.get_flag.ensures.none c.get_flag.ensures.value c.get_flag.ensures.other);
+  tells = refl;
+}

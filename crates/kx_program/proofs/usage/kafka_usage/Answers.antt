@@ -1,0 +1,23 @@
+use Rattle.std.proofs.Common.{codes, rules}
+use Rattle.std.proofs.lemmas.Result.{IfOk-weaker}
+use Rattle.clap.specs.Words.{new_app}
+use Rattle.kx_program.proofs.Commands.{Makes, with_argument}
+use Rattle.kx_program.proofs.usage.kafka_usage.Goals as goal
+
+pub returns : goal.returns
+returns c =
+    let made_0 : Makes c.about.result (new_app (codes "kafka")) =
+    record { is = search rules; local = search rules } in
+    let made_1 = with_argument _ _ _ _ _ c.in_ok-arg.ensures made_0
+    c.topics.ensures.rule c.topics.ensures.local in
+    let made_2 = with_argument _ _ _ _ _ c.in_ok-arg-2.ensures made_1
+    c.kafka_port.ensures.rule c.kafka_port.ensures.local in
+    let made_3 = with_argument _ _ _ _ _ c.in_ok-arg-3.ensures made_2
+    c.dir.ensures.rule c.dir.ensures.local in
+    record {
+      app = IfOk-weaker c.arg-4.result _ _ (λ command adds. (with_argument _ _ _ _ _ adds
+          made_3 c.no_auto_topics.ensures.rule c.no_auto_topics.ensures.local).is) c.arg-4.ensures;
+      local = IfOk-weaker c.arg-4.result _ _ (λ command adds. (with_argument _ _ _ _ _ adds
+          made_3 c.no_auto_topics.ensures.rule c.no_auto_topics.ensures.local).local)
+          c.arg-4.ensures;
+    }

@@ -1,0 +1,2 @@
+pub mod Regrant
+pub mod Internal

@@ -1,0 +1,97 @@
+//! The protocol that clients speak with a server.
+use crate::connection::Connection;
+use crate::hub::Hub;
+use crate::options::Partitions;
+use crate::peer::Peer;
+use kx_published::book::Naming;
+use kx_publishing::Readable;
+use std::alloc::{AllocError, Global};
+use std::sync::{Arc, Wait};
+use std::time::Clock;
+
+/// A connection whose clients speak a protocol. Two threads serve it: one reads what arrives, and
+/// the other writes what is answered.
+pub trait Link: Drop {
+    /// Reads until either end closes the connection.
+    fn read<L: Readable, J: Naming, R: Wait + Clock + Drop>(
+        &self,
+        rt: &R,
+        alloc: Global,
+        hub: &Hub<L, J, R>,
+    );
+
+    /// Writes until either end closes the connection.
+    fn write<L: Readable, J: Naming, R: Wait + Clock + Drop>(
+        &self,
+        rt: &R,
+        alloc: Global,
+        hub: &Hub<L, J, R>,
+    );
+}
+
+/// A protocol that clients speak over a server's connections.
+pub trait Protocol: Drop {
+    /// One connection.
+    type Link: Link + Send + Sync + 'static;
+
+    /// A connection of which nothing was read.
+    ///
+    /// # Errors
+    ///
+    /// Where it can't be served, as where memory runs out. It is closed then.
+    fn open<R: Wait>(
+        &self,
+        rt: &R,
+        alloc: Global,
+        peer: Arc<Peer>,
+    ) -> Result<Self::Link, AllocError>;
+}
+
+/// The project's own protocol: frames of messages.
+#[derive(Drop)]
+pub(crate) struct OwnFrames {
+    pub(crate) partitions: Partitions,
+}
+
+/// A connection whose clients send frames of messages.
+#[derive(Drop)]
+pub(crate) struct OwnLink {
+    peer: Arc<Peer>,
+    partitions: Partitions,
+}
+
+impl Protocol for OwnFrames {
+    type Link = OwnLink;
+
+    fn open<R: Wait>(
+        &self,
+        _rt: &R,
+        _alloc: Global,
+        peer: Arc<Peer>,
+    ) -> Result<OwnLink, AllocError> {
+        Ok(OwnLink {
+            peer,
+            partitions: self.partitions,
+        })
+    }
+}
+
+impl Link for OwnLink {
+    fn read<L: Readable, J: Naming, R: Wait + Clock + Drop>(
+        &self,
+        rt: &R,
+        alloc: Global,
+        hub: &Hub<L, J, R>,
+    ) {
+        Connection::new(alloc, hub, &self.peer, self.partitions).serve(rt);
+    }
+
+    fn write<L: Readable, J: Naming, R: Wait + Clock + Drop>(
+        &self,
+        rt: &R,
+        alloc: Global,
+        _hub: &Hub<L, J, R>,
+    ) {
+        self.peer.write_answers(rt, alloc);
+    }
+}
