@@ -3,8 +3,10 @@
  *     rdkafka PRODUCERS TRANSACTIONS RECORDS
  *     rdkafka PRODUCERS RECORDS idempotent [LINGER]
  *
- * Each producer is an instance of its own and a thread that calls it; all go to one mock cluster in
- * this process, over sockets. A transaction has so many records of 100 bytes to one partition, and
+ * With BROKERS in the environment, as HOST:PORT, the producers go there: to `kx_main kafka`, say,
+ * with a topic `load` of four partitions. Else
+ * all go to one mock cluster in this process, over sockets. Each producer is an instance of its own
+ * and a thread that calls it. A transaction has so many records of 100 bytes to one partition, and
  * is committed when the one before was; times are those of rd_kafka_commit_transaction, which sends
  * what waits first. Idempotent records go in the batches that librdkafka makes, at its own settings
  * or at another linger.ms; times are those from the call to the report that the record stands. What
@@ -214,8 +216,12 @@ int main(int argc, char **argv)
     linger = argc == 5 ? argv[4] : NULL;
     if (producers < 1 || producers > 1024 || asked < producers || records < 1)
         fail("1 to 1024 producers, a transaction for each, 1 record or more");
-    rd_kafka_t *cluster = start_cluster();
+    rd_kafka_t *cluster = NULL;
+    brokers = getenv("BROKERS");
+    if (!brokers)
+        cluster = start_cluster();
     run_load(producers, asked / producers);
-    rd_kafka_destroy(cluster);
+    if (cluster)
+        rd_kafka_destroy(cluster);
     return 0;
 }

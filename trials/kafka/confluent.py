@@ -49,7 +49,7 @@ def consume(address, topic, partition, count, level="read_committed"):
 
 
 with Server(program(), "--topics", "orders:2") as server:
-    records = [(b"k%d" % n, b"v" * (n % 300), [("n", b"%d" % n), ("none", None)], 1700000000000 + n)
+    records = [(b"k%d" % n, b"v" * (n % 300), [("n", b"%d" % n), ("none", b"")], 1700000000000 + n)
         for n in range(2000)]
     for options in ({"acks": 1}, {"acks": -1, "linger.ms": 50}, {"enable.idempotence": True}):
         before = len(consume(server.address, "orders", 0, 100000, "read_uncommitted"))
@@ -81,9 +81,13 @@ with folder() as kept:
             "message.timeout.ms": 60000})
         faults, sent, begun = [], 0, time.time()
         while time.time() - begun < seconds:
-            producer.produce("orders", value=b"%d" % sent, partition=sent % 2,
-                on_delivery=lambda fault, it: faults.append(str(fault)) if fault else None)
-            sent += 1
+            try:
+                producer.produce("orders", value=b"%d" % sent, partition=sent % 2,
+                    on_delivery=lambda fault, it: faults.append(str(fault)) if fault else None)
+                sent += 1
+            except BufferError:
+                # The queue is full while the server is down.
+                producer.poll(0.1)
             producer.poll(0.0005)
         producer.flush(60)
         ended.set()

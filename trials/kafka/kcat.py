@@ -20,7 +20,7 @@ def kcat(address, *words, given=""):
 with Server(program(), "--topics", "orders:2,one:1") as server:
     listed = kcat(server.address, "-L")
     trial.look("topics are listed with their partitions", [line.strip() for line in
-        listed.splitlines() if "topic" in line],
+        listed.splitlines() if "partitions:" in line or "topics:" in line and "Metadata" not in line],
         ["2 topics:", 'topic "orders" with 2 partitions:', 'topic "one" with 1 partitions:'])
     trial.look("records with keys are produced", kcat(server.address, "-P", "-t", "orders", "-p", "1",
         "-K:", given="a:1\nb:2\nc:3\n"), "")

@@ -20,7 +20,7 @@ except ImportError:
     print("skipped: confluent_kafka isn't installed (Debian's python3-confluent-kafka)")
     raise SystemExit(0)
 
-INIT, END, PRODUCE = 1, 2, 3
+INIT, END, PRODUCE = 1, 3, 5
 trial = Trial()
 
 
@@ -69,8 +69,10 @@ with folder() as kept:
         trial.look("uncommitted records too", read(server.address, "read_uncommitted"), stand)
         trial.look("committed records below the open transaction", read(server.address, "read_committed"),
             [stand[0], stand[2]])
-        consumer = Consumer({"bootstrap.servers": server.address, "group.id": "none"})
-        trial.look("the high watermark", consumer.get_watermark_offsets(TopicPartition("kept", 0),
-            timeout=10)[1] > offsets[-1], True)
-        consumer.close()
+        for level, end in (("read_uncommitted", offsets[-1] + 1), ("read_committed", offsets[3])):
+            consumer = Consumer({"bootstrap.servers": server.address, "group.id": "none",
+                "isolation.level": level})
+            _, found = consumer.get_watermark_offsets(TopicPartition("kept", 0), timeout=10)
+            trial.look(f"the last offset of a {level} reader", found, end)
+            consumer.close()
 trial.end()

@@ -57,7 +57,7 @@ class Trial:
             print(f"ok {what}")
         else:
             self.failed += 1
-            print(f"FAILED {what}: found {found!r}, wanted {wanted!r}")
+            print(f"FAILED {what}: found {found!r:.300}, wanted {wanted!r:.300}")
 
     def end(self):
         print(f"{self.passed} passed, {self.failed} failed")

@@ -28,11 +28,22 @@ IDEMPOTENT_BATCH = ("0000000000000000000000430000000002de9f1e3700000000000100000
     "0100000000000000000002100000000104693000100000020104693100")
 PRODUCE_IDEMPOTENT = ("0000000400000005000772646b61666b61ffffffff000075300000000100017400000001000000000000004f"
     + IDEMPOTENT_BATCH)
+ADD_PARTITIONS = "0018000000000005000772646b61666b610002707500000000000000000000000000010001740000000100000000"
+PRODUCE_TXN_1 = ("0000000400000007000772646b61666b6100027075ffff0000753000000001000174000000010000000000000045000000"
+    "00000000000000003900000000028393b0e1001000000000000001a21b2631b5000001a21b2631b5000000000000000000"
+    "0000000000000000010e00000001023100")
+END_COMMIT = "001a000100000006000772646b61666b61000270750000000000000000000001"
+ADD_PARTITIONS_2 = "0018000000000007000772646b61666b610002707500000000000000000000000000010001740000000100000000"
+PRODUCE_TXN_2 = ("0000000400000008000772646b61666b6100027075ffff0000753000000001000174000000010000000000000045000000"
+    "000000000000000039000000000282f46565001000000000000001a21b263596000001a21b263596000000000000000000"
+    "0000000001000000010e00000001023200")
+END_ABORT = "001a000100000008000772646b61666b61000270750000000000000000000000"
 LIST_END = "0002000200000006000772646b61666b61ffffffff01000000010001740000000100000000ffffffffffffffff"
 FETCH = ("0001000400000005000772646b61666b61ffffffff{wait:08x}000000010320000001000000010001740000000100000000"
     "{offset:016x}00100000")
 
-OFFERED = [(0, 3, 4), (1, 4, 4), (2, 1, 2), (3, 0, 5), (10, 0, 1), (18, 0, 0), (22, 0, 4)]
+OFFERED = [(0, 3, 4), (1, 4, 4), (2, 1, 2), (3, 0, 5), (10, 0, 1), (18, 0, 0), (22, 0, 4), (24, 0, 0), (25, 0, 0),
+    (26, 0, 1)]
 NO_PORT = 0
 
 
@@ -146,10 +157,11 @@ def stock():
         it.ask("a", asked, metadata(asked, [(code, name, 0)]), portless=True)
     it.ask("a", FIND_COORDINATOR, find_coordinator(FIND_COORDINATOR), portless=True)
     it.ask("a", PRODUCE_PLAIN, produce(PRODUCE_PLAIN, 0, 0))
-    it.do("# Producer ids are given in turn; a transactional id is refused.")
+    it.do("# Producer ids are given in turn; a transactional id with a space in it is refused.")
     it.ask("a", INIT_PLAIN, init(INIT_PLAIN, 0, 0, 0))
     it.ask("a", INIT_PLAIN, init(INIT_PLAIN, 0, 1, 0))
-    it.ask("a", INIT_TRANSACTIONAL, init(INIT_TRANSACTIONAL, 53, -1, -1))
+    asked = INIT_TRANSACTIONAL.replace("00027075", "00022075")
+    it.ask("a", asked, init(asked, 53, -1, -1))
     it.do("# The batch of producer 1, and the same again.")
     for _ in range(2):
         it.ask("a", PRODUCE_IDEMPOTENT, produce(PRODUCE_IDEMPOTENT, 0, 1))
@@ -255,6 +267,74 @@ def faults():
     return it
 
 
+def added(to, code):
+    """AddPartitionsToTxn 0: throttle, topics with partitions (error)."""
+    return frame(correlation(to) + struct.pack(">ii", 0, 1) + string(b"t") + struct.pack(">iih", 1, 0, code))
+
+
+def ended(to, code):
+    """EndTxn 1: throttle, error."""
+    return frame(correlation(to) + struct.pack(">ih", 0, code))
+
+
+def with_producer(request_text, epoch, sequence):
+    """The batch of a Produce with this epoch and base sequence, and its checksum."""
+    text = bytearray.fromhex(request_text)[-69:]
+    text[51:57] = struct.pack(">hi", epoch, sequence)
+    text[17:21] = struct.pack(">I", crc32c(bytes(text[21:])))
+    return text.hex()
+
+
+def marker(offset, producer, epoch, kind):
+    """A transaction marker of the first coordinator epoch (Kafka's message format, "Control Records"):
+    type 0 aborts, and 1 commits."""
+    record = bytes.fromhex("20000000080000") + struct.pack(">H", kind) + bytes.fromhex("0c00000000000100")
+    body = struct.pack(">hiqqqhii", 0x30, 0, 0, 0, producer, epoch, -1, 1) + record
+    return struct.pack(">qiibI", offset, len(body) + 9, 0, 2, crc32c(body)) + body
+
+
+def fetch_all(to, end, stable, aborted, records):
+    """As `fetch`, with aborted transactions (producer, first offset)."""
+    text = correlation(to) + struct.pack(">ii", 0, 1) + string(b"t") + struct.pack(">iihqqi", 1, 0, 0, end, stable,
+        len(aborted))
+    text += b"".join(struct.pack(">qq", *it) for it in aborted)
+    return frame(text + struct.pack(">i", len(records)) + records)
+
+
+def transactions():
+    it = Session(["A commit and an abort of librdkafka's, over the connections that it had: one to the coordinator",
+        "and one for batches. It keeps epoch 0, and its sequences go on; the core has epochs 0 and 1, and",
+        "sequence 0 in each."])
+    it.do("kafka 3 with t:1", "open a", "open b")
+    it.told.append("listening")
+    it.ask("a", INIT_TRANSACTIONAL, init(INIT_TRANSACTIONAL, 0, 0, 0))
+    it.ask("a", ADD_PARTITIONS, added(ADD_PARTITIONS, 0))
+    it.ask("b", PRODUCE_TXN_1, produce(PRODUCE_TXN_1, 0, 0))
+    it.ask("a", END_COMMIT, ended(END_COMMIT, 0))
+    it.ask("a", ADD_PARTITIONS_2, added(ADD_PARTITIONS_2, 0))
+    it.do("# Its answer is lost: the client sends the batch again.")
+    for _ in range(2):
+        it.ask("b", PRODUCE_TXN_2, produce(PRODUCE_TXN_2, 0, 2))
+    it.do("# Committed records end before the open transaction.")
+    it.ask("b", LIST_END, list_offsets(LIST_END, 2))
+    it.do("# So is an end asked again; a commit isn't what was decided.")
+    for _ in range(2):
+        it.ask("a", END_ABORT, ended(END_ABORT, 0))
+    it.ask("a", END_COMMIT, ended(END_COMMIT, 48))
+    it.do("# A late batch.")
+    it.ask("b", PRODUCE_TXN_2, produce(PRODUCE_TXN_2, 48, -1))
+    whole = (stored(with_producer(PRODUCE_TXN_1, 0, 0), 0) + marker(1, 0, 1, 1)
+        + stored(with_producer(PRODUCE_TXN_2, 1, 0), 2) + marker(3, 0, 2, 0))
+    asked = FETCH.format(wait=20000, offset=0).replace("00004e2000000001", f"00004e20{len(whole):08x}")
+    it.ask("b", asked, fetch_all(asked, 4, 4, [(0, 2)], whole))
+    it.do("# A second producer takes the transactional id over, and the first is fenced.", "open c")
+    it.ask("c", INIT_TRANSACTIONAL, init(INIT_TRANSACTIONAL, 0, 0, 3))
+    it.ask("a", ADD_PARTITIONS, added(ADD_PARTITIONS, 47))
+    it.ask("a", END_COMMIT, ended(END_COMMIT, 47))
+    it.do("drop a", "drop b", "drop c", "end")
+    return it
+
+
 def restarted():
     it = Session(["Topics and records stand after a restart; a torn line is cut off, and a damaged one refused."])
     it.do("clear stock", "kafka 1 in stock", "open a")
@@ -273,6 +353,34 @@ def restarted():
     return it
 
 
+def transactions_restarted():
+    it = Session(["A producer notices nothing of a restart but in an open transaction, of which no more is taken: it",
+        "can still be ended. What was decided is answered as decided."])
+    it.do("clear stock", "kafka 2 with t:1 in stock", "open a", "open b")
+    it.told.append("listening")
+    it.ask("a", INIT_TRANSACTIONAL, init(INIT_TRANSACTIONAL, 0, 0, 0))
+    it.ask("a", ADD_PARTITIONS, added(ADD_PARTITIONS, 0))
+    it.ask("b", PRODUCE_TXN_1, produce(PRODUCE_TXN_1, 0, 0))
+    it.ask("a", END_COMMIT, ended(END_COMMIT, 0))
+    it.ask("a", ADD_PARTITIONS_2, added(ADD_PARTITIONS_2, 0))
+    it.ask("b", PRODUCE_TXN_2, produce(PRODUCE_TXN_2, 0, 2))
+    it.do("drop a", "drop b", "end", "kafka 2 in stock", "open a", "open b")
+    it.told.append("listening")
+    it.ask("b", PRODUCE_TXN_2, produce(PRODUCE_TXN_2, 49, -1))
+    for _ in range(2):
+        it.ask("a", END_ABORT, ended(END_ABORT, 0))
+    it.do("# The next transaction begins at whatever sequence the client has reached.")
+    it.ask("a", ADD_PARTITIONS_2, added(ADD_PARTITIONS_2, 0))
+    it.ask("b", PRODUCE_TXN_2, produce(PRODUCE_TXN_2, 0, 4))
+    it.ask("a", END_COMMIT, ended(END_COMMIT, 0))
+    it.do("drop a", "drop b", "end", "kafka 1 in stock", "open a")
+    it.told.append("listening")
+    it.ask("a", END_COMMIT, ended(END_COMMIT, 0))
+    it.ask("a", END_ABORT, ended(END_ABORT, 49))
+    it.do("drop a", "end", "clear stock")
+    return it
+
+
 def raise_epoch(batch, by):
     """The batch at a higher epoch, with its checksum."""
     text = bytearray.fromhex(batch)
@@ -285,5 +393,6 @@ sys.path.insert(0, os.path.join(os.path.dirname(os.path.abspath(__file__)), ".."
 from frames import crc32c  # noqa: E402
 
 for name, made in (("stock", stock()), ("stock_in_flight", in_flight()), ("stock_faults", faults()),
-        ("stock_restarted", restarted())):
+        ("stock_restarted", restarted()), ("stock_transactions", transactions()),
+        ("stock_transactions_restarted", transactions_restarted())):
     made.write(os.path.join(sys.argv[1], name))
