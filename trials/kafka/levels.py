@@ -69,7 +69,7 @@ with folder() as kept:
         trial.look("uncommitted records too", read(server.address, "read_uncommitted"), stand)
         trial.look("committed records below the open transaction", read(server.address, "read_committed"),
             [stand[0], stand[2]])
-        for level, end in (("read_uncommitted", offsets[-1] + 1), ("read_committed", offsets[3])):
+        for level, end in (("read_uncommitted", offsets[-1] + 2), ("read_committed", offsets[3])):
             consumer = Consumer({"bootstrap.servers": server.address, "group.id": "none",
                 "isolation.level": level})
             _, found = consumer.get_watermark_offsets(TopicPartition("kept", 0), timeout=10)
