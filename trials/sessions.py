@@ -5,7 +5,7 @@ NAME.out, all of them or those that are named.
     sessions.py PROGRAM [NAME..]
 
 There the server is a function that the program of cases calls; here it is PROGRAM serve, with its
-arguments, standard output and status. The language of sessions is told in
+arguments, standard output and status, or PROGRAM kafka, which is killed at the end. The language of sessions is told in
 crates/kx_cases_server/src/session.rt. A program tells its fault in words alone, so the number of
 a fault isn't compared, and it takes a folder of the empty name for wrong arguments (status 2).
 Lines that call a function (`patience`) are passed over, with what they tell.
@@ -30,6 +30,7 @@ class Session:
     def __init__(self, program, folder):
         self.program, self.folder = program, folder
         self.names, self.clients, self.told, self.server = {}, [], [], None
+        self.is_killed = False
 
     def part(self, text):
         word, *changes = text.split(",")
@@ -55,6 +56,20 @@ class Session:
         if words:
             self.told.append(words[0])
             self.port = int(words[1])
+
+    def stock(self, options):
+        """A server of stock clients, which is killed at the end."""
+        words = [self.program, "kafka", "--port", "0"]
+        if "with" in options:
+            words += ["--topics", options["with"], "--no-auto-topics"]
+        if "in" in options:
+            words += ["--dir", os.path.join(self.folder, options["in"])]
+        self.server = subprocess.Popen(words, stdout=subprocess.PIPE, stderr=subprocess.PIPE, text=True)
+        words = self.server.stdout.readline().split()
+        if words:
+            self.told.append(words[0])
+            self.port = int(words[1])
+            self.is_killed = True
 
     def client(self, name):
         return next(it for held, it in self.clients if held == name)
@@ -138,6 +153,11 @@ class Session:
             pass
 
     def end(self, server):
+        if self.is_killed:
+            self.is_killed = False
+            server.kill()
+            server.communicate()
+            return
         lines, words = server.communicate()
         if server.returncode == 2:
             self.told.append("fault the folder cannot be used")
@@ -157,6 +177,8 @@ class Session:
                 self.serve(partitions, connections, None, "--dir", "")
             case ["serve", partitions, connections, "expiring"]:
                 self.serve(partitions, connections, None, "--expire")
+            case ["kafka", _, *options]:
+                self.stock(dict(zip(options[::2], options[1::2])))
             case ["open", name]:
                 self.open(name)
             case ["crowd", name, count, request]:
@@ -167,6 +189,10 @@ class Session:
                 self.send(name, (bytes([byte]) for byte in self.bytes(text)))
             case ["receive", name]:
                 self.receive(name)
+            case ["portless", name]:
+                self.receive(name)
+                named = b"127.0.0.1" + self.port.to_bytes(4, "big")
+                self.told[-1] = self.told[-1].replace(named.hex(), (b"127.0.0.1" + bytes(4)).hex())
             case ["closed", name]:
                 self.closed(name)
             case ["until", name, request, reply]:
