@@ -4,7 +4,7 @@ use crate::lines::{script_of, tell_on_one_line};
 use crate::parts::ended_in_front;
 use crate::sweeps::sweep;
 use kx_cases::{Giving, Runs, StepFault, Subject, Taking, Texts, told_name, value};
-use kx_script::{ScriptWorld, run_script};
+use kx_script::run_script;
 use std::alloc::{AllocError, Global};
 use std::io::BufRead;
 
@@ -151,7 +151,7 @@ fn many(alloc: Global, runs: &mut Runs, name: &str, text: &str) -> Result<(), St
         "each_byte" => each_byte(alloc, runs, text),
         "sweep" => {
             let (most, script) = numbered(text)?;
-            sweep::<ScriptWorld>(alloc, runs, most, script)
+            sweep(alloc, runs, most, script)
         }
         "full" => {
             let (most, script) = numbered(text)?;

@@ -1,76 +1,47 @@
 //! Scripts in which an append fails and leaves a part of its bytes.
 use crate::lines::tell_on_one_line;
 use kx_cases::{Runs, StepFault, known, value};
-use kx_core::{Event, PartitionCount};
+use kx_core::Event;
 use kx_machine::StoreMode;
 use kx_message::NodeId;
-use kx_script::{
-    Marks, Order, Running, Runs as World, fetch, happen, order_in, rows, write_dash, write_message,
-};
-use kx_text::ScriptFault;
+use kx_script::{Running, ScriptWorld, answer_in, world_in, write_dash, write_message};
 use std::alloc::Global;
 use std::str::Split;
 
 // The world that a line makes.
-fn world_in<N: World>(alloc: Global, line: &str) -> Result<Running<N>, StepFault> {
-    let Some(count) = line.strip_prefix("world ") else {
+fn world_of(alloc: Global, line: &str) -> Result<Running, StepFault> {
+    let Some(partitions) = world_in(line.as_bytes()) else {
         return Err(StepFault::Unknown);
     };
-    let Some(partitions) = PartitionCount::new(value(count)?) else {
-        return Err(StepFault::Unknown);
-    };
-    Ok(Running {
-        world: N::start(alloc, partitions)?,
-        marks: Marks::none(),
-    })
-}
-
-// Carries an order out, and writes its answer; false where it isn't one of a sweep.
-fn perform<N: World>(
-    alloc: Global,
-    running: &mut Running<N>,
-    order: Order<'_>,
-    writer: &mut Vec<u8>,
-) -> Result<bool, ScriptFault> {
-    match order {
-        Order::World(_) | Order::Fail(_, _) | Order::Offset(_, _, _) => Ok(false),
-        Order::Happen(what) => happen(alloc, running, what, writer),
-        Order::Fetch(partition, from, mode, max) => {
-            fetch(alloc, running, partition, from, mode, max, writer)
-        }
-        Order::Rows => rows(running, writer),
-    }
+    Ok(Running::new(alloc, partitions)?)
 }
 
 // Carries a line out, and writes its answer.
-fn carry_out<N: World>(
+fn carry_out(
     alloc: Global,
-    running: &mut Running<N>,
+    running: &mut Running,
     line: &str,
     writer: &mut Vec<u8>,
 ) -> Result<(), StepFault> {
-    let Some(order) = order_in(line.as_bytes()) else {
-        return Err(StepFault::Unknown);
-    };
-    match perform(alloc, running, order, writer) {
+    match answer_in(alloc, running, line.as_bytes(), writer) {
         Ok(true) => Ok(()),
         _ => Err(StepFault::Unknown),
     }
 }
 
 // Writes the messages from a number on, a line each.
-fn write_from<N: World>(
-    world: &N,
+fn write_from(
+    world: &ScriptWorld,
     first: usize,
     from: &NodeId,
     writer: &mut Vec<u8>,
 ) -> Result<(), StepFault> {
-    let sent = world.sent();
+    let sent = world.sent().len();
     if sent <= first {
         return known(write_dash(writer));
     }
     for number in first..sent {
-        if let Some(message) = world.message(number) {
+        if let Some(message) = world.sent().get(number) {
             known(write_message(writer, number, from, message))?;
         }
     }
@@ -79,7 +50,7 @@ fn write_from<N: World>(
 
 // A message comes to its node, where an append that fails leaves this many bytes. Whether one
 // failed.
-fn fails<N: World>(world: &mut N, number: usize, to: NodeId, keep: u64) -> Result<bool, StepFault> {
+fn fails(world: &mut ScriptWorld, number: usize, to: NodeId, keep: u64) -> Result<bool, StepFault> {
     let store = StoreMode::Fails { keep };
     let event = Event::Deliver { number, to, store };
     let happened = world.happen(&event);
@@ -89,17 +60,17 @@ fn fails<N: World>(world: &mut N, number: usize, to: NodeId, keep: u64) -> Resul
 
 // A message comes to its node, which has to append something: that fails, and leaves this many
 // bytes. Writes what is sent.
-fn tear<N: World>(
-    world: &mut N,
+fn tear(
+    world: &mut ScriptWorld,
     number: usize,
     keep: u64,
     writer: &mut Vec<u8>,
 ) -> Result<(), StepFault> {
-    let Some(message) = world.message(number) else {
+    let Some(message) = world.sent().get(number) else {
         return Err(StepFault::Unknown);
     };
     let to = message.receiver();
-    let first = world.sent();
+    let first = world.sent().len();
     if !fails(world, number, to, keep)? {
         return Err(StepFault::Unknown);
     }
@@ -108,9 +79,9 @@ fn tear<N: World>(
 
 // Carries lines out, the line `tear K` so that it leaves this many bytes; what was written before
 // that one is dropped.
-fn tear_in<'a, N: World>(
+fn tear_in<'a>(
     alloc: Global,
-    running: &mut Running<N>,
+    running: &mut Running,
     lines: Split<'a, char>,
     keep: u64,
     writer: &mut Vec<u8>,
@@ -128,45 +99,30 @@ fn tear_in<'a, N: World>(
 }
 
 // Writes what a script writes from its line `tear K` on, where that leaves this many bytes.
-fn torn<N: World>(
-    alloc: Global,
-    script: &str,
-    keep: u64,
-    writer: &mut Vec<u8>,
-) -> Result<(), StepFault> {
+fn torn(alloc: Global, script: &str, keep: u64, writer: &mut Vec<u8>) -> Result<(), StepFault> {
     let mut lines = script.split('\n');
-    let mut running = world_in::<N>(alloc, lines.next().unwrap_or(""))?;
+    let mut running = world_of(alloc, lines.next().unwrap_or(""))?;
     tear_in(alloc, &mut running, lines, keep, writer)
 }
 
 // Tells the same on one line.
-fn tell_torn<N: World>(
-    alloc: Global,
-    told: &mut String,
-    script: &str,
-    keep: u64,
-) -> Result<(), StepFault> {
+fn tell_torn(alloc: Global, told: &mut String, script: &str, keep: u64) -> Result<(), StepFault> {
     let mut written = Vec::new(alloc);
-    torn::<N>(alloc, script, keep, &mut written)?;
+    torn(alloc, script, keep, &mut written)?;
     tell_on_one_line(told, written.as_slice()).map_err(StepFault::Memory)
 }
 
-fn told_torn<N: World>(alloc: Global, script: &str, keep: u64) -> Result<String, StepFault> {
+fn told_torn(alloc: Global, script: &str, keep: u64) -> Result<String, StepFault> {
     let mut told = String::new(alloc);
-    tell_torn::<N>(alloc, &mut told, script, keep)?;
+    tell_torn(alloc, &mut told, script, keep)?;
     Ok(told)
 }
 
 /// What a script writes from its line `tear K` on, which lets message K come to its node, while the
 /// append there fails and leaves none of its bytes, one, and so on up to this many.
-pub fn sweep<N: World>(
-    alloc: Global,
-    runs: &mut Runs,
-    most: usize,
-    script: &str,
-) -> Result<(), StepFault> {
+pub fn sweep(alloc: Global, runs: &mut Runs, most: usize, script: &str) -> Result<(), StepFault> {
     for keep in 0..=most {
-        runs.push(keep, told_torn::<N>(alloc, script, keep as u64)?)?;
+        runs.push(keep, told_torn(alloc, script, keep as u64)?)?;
     }
     Ok(())
 }

@@ -1,64 +1,67 @@
 -- What is printed of what happened, and what it leaves.
-use Rattle.std.proofs.Common.{◌≡◌, ℕ, List, length, drop, Option, Some, Ok, Err, true, refl, ap}
+use Rattle.std.proofs.Common.{◌≡◌, ℕ, List, length, drop, Option, Some, Ok, true, refl, ap}
 use Rattle.std.proofs.Common.{◌∙◌, subst, inl, inr}
 use Rattle.std.specs.Io.KnownBytes.{Appends}
-use Rattle.std.specs.declared.alloc.AllocError.{AllocError}
+use Rattle.kx_core.specs.Local.{IsLocal}
+use Rattle.kx_core.specs.World.{Steps, open_store_fails, place_of, store_fails}
+use Rattle.kx_core.specs.declared.event.Happened.{Happened}
 use Rattle.kx_machine.specs.Meaning.{note_of}
 use Rattle.kx_machine.specs.declared.taken.Note.{Note}
 use Rattle.kx_message.specs.declared.message.NodeId.{NodeId}
+use Rattle.kx_pipeline.specs.OpenSystems.{Inside, OpenSystemEvent, open_system_step}
+use Rattle.kx_processor.specs.Prefixed.{images_of}
 use Rattle.kx_script.specs.Printing.{messages_text, step_text}
-use Rattle.kx_script.specs.Running.{Carried, CarriesOut, StandsIn}
-use Rattle.kx_script.specs.Script.{Performed, event_text, happens}
-use Rattle.kx_core.specs.World.{place_of}
+use Rattle.kx_script.specs.Running.{Means, StandsFor, StandsIn}
+use Rattle.kx_script.specs.Script.{Answered, State, event_text, happens}
 use Rattle.kx_script.specs.Session.{Session, marks_after, session_after}
+use Rattle.kx_script.specs.declared.event.EventAt.{EventAt}
 use Rattle.kx_script.specs.declared.marks.Marks.{Marks}
-use Rattle.kx_script.specs.declared.order.Happening.{Happening}
-use Rattle.kx_script.specs.declared.order.Order.TheVariants as order
-use Rattle.kx_core.specs.declared.event.Happened.{Happened}
-use Rattle.kx_system.specs.System.{System, system_step}
+use Rattle.kx_script.specs.declared.world.Running.{Running}
+use Rattle.kx_system.specs.System.{System, SystemEvent, system_step}
 use Rattle.kx_text.specs.Pages.{lost_text}
 
 -- a node took its step, which was printed, and its mark was taken back where its append failed
-pub happens_so : {N : Type 0} (Stands : System → N → Type 0) (s : Session) (what : Happening)
-    (world : N) (marks before : Marks) (carried : Option (NodeId × Happened)) (place : NodeId)
-    (h : Happened) (first : ℕ) (old new : Option (List ℕ)) → carried ≡ Some (place, h)
-    → Carried s what (λ t. Stands t world) (Ok carried) → before ≡ s.marks
-    → marks ≡ marks_after before place h.failed → first ≡ length s.system.world.sent
-    → ((t : System) → Stands t world → Appends old new
-    (step_text h.note (messages_text first place (drop first t.world.sent))))
-    → Performed (StandsIn Stands (Some (record { world = world; marks = marks }))) (Some s)
-    (order.Happen what) old new (Ok true)
-happens_so Stands s what world marks before carried place h first old new d k b m f a =
-    let c : CarriesOut s what (λ t. Stands t world) place h =
-    subst (λ (o : Option (NodeId × Happened)). Carried s what (λ t. Stands t world) (Ok o)) d k in
-    let after : System = (system_step s.system c.event).0 in
-    let sent = after.world.sent in
-    let note : Note = note_of (system_step s.system c.event).1 in (
-      event_text s.system c.event,
-      Some (session_after s c.event),
-      inl (ap (happens s) c.is),
+pub happens_so : (s : Session) (event : SystemEvent) (read : EventAt) (after : Running)
+    (before : Marks) (h : Happened) (first : ℕ) (old new : Option (List ℕ))
+    → Means s.system read event
+    → Steps images_of s.system read.event (IsLocal images_of after.world) h
+    → before ≡ s.marks → after.marks ≡ marks_after before read.place h.failed
+    → first ≡ length s.system.world.sent
+    → ((t : System) → IsLocal images_of after.world t → Appends old new
+    (step_text h.note (messages_text first read.place (drop first t.world.sent))))
+    → Answered (StandsIn (Some after)) (Some (happens s event)) (Some (Some s)) old new (Ok true)
+happens_so s event read after before h first old new m k b marks f a =
+    let is : k.happened ≡ Inside event = m.only k.happened k.is in
+    let next : System = (system_step s.system event).0 in
+    let sent = next.world.sent in
+    let note : Note = note_of (system_step s.system event).1 in
+    let stands : IsLocal images_of after.world next =
+    subst (λ (e : OpenSystemEvent). IsLocal images_of after.world
+    (open_system_step s.system e).0) is k.stands in
+    let note_is : h.note ≡ note =
+    k.note_is ∙ ap (λ (e : OpenSystemEvent). note_of (open_system_step s.system e).1) is in
+    let failed_is : h.failed ≡ store_fails s.system event =
+    k.failed_is ∙ ap (open_store_fails s.system) is in (
+      event_text s.system event,
+      Some (session_after s event),
+      inl refl,
       (
-        c.occurs.stands,
-        m ∙ ap (λ (x : Marks). marks_after x place h.failed) b
-            ∙ ap (λ (p : NodeId). marks_after s.marks p h.failed) c.place_is
-            ∙ ap (marks_after s.marks (place_of c.event)) c.occurs.failed_is,
+        stands,
+        marks ∙ ap (λ (x : Marks). marks_after x read.place h.failed) b
+            ∙ ap (λ (p : NodeId). marks_after s.marks p h.failed) m.place_is
+            ∙ ap (marks_after s.marks (place_of event)) failed_is,
       ),
       subst (Appends old new)
-          (ap (λ (n : Note). step_text n (messages_text first place (drop first sent)))
-          c.occurs.note_is
+          (ap (λ (n : Note). step_text n (messages_text first read.place (drop first sent)))
+          note_is
           ∙ ap (λ (p : NodeId). step_text note (messages_text first p (drop first sent)))
-          c.place_is
-          ∙ ap (λ (k : ℕ). step_text note
-          (messages_text k (place_of c.event) (drop k sent))) f)
-          (a after c.occurs.stands),
+          m.place_is
+          ∙ ap (λ (k : ℕ). step_text note (messages_text k (place_of event) (drop k sent))) f)
+          (a next stands),
     )
 
 -- memory was refused, and nothing happened
-pub lost_so : {N : Type 0} (Stands : System → N → Type 0) (s : Session) (what : Happening)
-    (world : N) (before : Marks) (refused : AllocError) (old new : Option (List ℕ))
-    → Carried s what (λ t. Stands t world) (Err refused) → before ≡ s.marks
-    → Appends old new lost_text
-    → Performed (StandsIn Stands (Some (record { world = world; marks = before }))) (Some s)
-    (order.Happen what) old new (Ok true)
-lost_so Stands s what world before refused old new k b a =
-    (lost_text, Some s, inr (k.0, refl, refl), (k.1, b), a)
+pub lost_so : (s : Session) (wanted : Option (List ℕ × State)) (after : Running)
+    (old new : Option (List ℕ)) → StandsFor after s → Appends old new lost_text
+    → Answered (StandsIn (Some after)) wanted (Some (Some s)) old new (Ok true)
+lost_so s wanted after old new st a = (lost_text, Some s, inr (refl, refl), st, a)

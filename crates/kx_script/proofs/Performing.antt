@@ -12,15 +12,14 @@ use Rattle.kx_model.specs.Page.{Fetched, Page, as_fetched, fetched_of}
 use Rattle.kx_model.specs.World.{entries_at}
 use Rattle.kx_script.specs.Printing.{dash_text}
 use Rattle.kx_script.specs.Running.{StandsFor, StandsIn}
-use Rattle.kx_script.specs.Script.{Performed, State, fetches, offset_text, performed}
+use Rattle.kx_script.specs.Script.{Answered, State, begun, fetches, offset_text, performed}
 use Rattle.kx_script.specs.Session.{Session, has_node, has_partition, opening, with_mark}
 use Rattle.kx_script.specs.declared.order.Left.{Left}
 use Rattle.kx_script.specs.declared.order.Order.TheVariants as order
-use Rattle.kx_script.specs.declared.session.Running.{Running}
+use Rattle.kx_script.specs.declared.world.Running.{Running}
 use Rattle.kx_text.specs.Lines.{fetched_text}
 use Rattle.kx_text.specs.Pages.{page_text, refused_text}
 use Rattle.kx_text.specs.declared.mode.Mode.{Mode}
-use Rattle.kx_system.specs.System.{System}
 
 pub where_it_holds : {A : Type 0} (b : Bool) (x : A) → b ≡ true → where_true b x ≡ Some x
 where_it_holds true x e = refl
@@ -46,19 +45,18 @@ refusal_shown from mode (Err other) code old new is written =
 ------ orders
 
 -- the world is made, where there was none
-pub begins : {N : Type 0} (Stands : System → N → Type 0) (before : Option (Running N))
-    (after : Running N) (count : ℕ) (old new : Option (List ℕ)) → is_some before ≡ false
-    → StandsFor Stands after (opening count) → Appends old new dash_text → (state : State)
-    → StandsIn Stands before state
-    → Performed (StandsIn Stands (Some after)) state (order.World count) old new (Ok true)
-begins Stands None after count old new e s w None t =
+pub begins : (before : Option Running) (after : Running) (count : ℕ) (old new : Option (List ℕ))
+    → is_some before ≡ false → StandsFor after (opening count) → Appends old new dash_text
+    → (state : State) → StandsIn before state
+    → Answered (StandsIn (Some after)) (begun state count) None old new (Ok true)
+begins None after count old new e s w None t =
     (dash_text, Some (opening count), inl refl, s, w)
-begins Stands None after count old new e s w (Some session) t = absurd t
-begins Stands (Some running) after count old new e s w state t = absurd cc
+begins None after count old new e s w (Some session) t = absurd t
+begins (Some running) after count old new e s w state t = absurd cc
 
 pub shows_page : (s : Session) (partition : ℕ) (from : ℤ) (mode : Mode) (max : ℕ)
     → has_partition s.system.world partition ≡ true
-    → performed (Some s) (order.Fetch partition from mode max)
+    → performed s (order.Fetch partition from mode max)
     ≡ Some (fetches s partition from mode max, Some s)
 shows_page s partition from mode max e =
     where_it_holds (has_partition s.system.world partition)
@@ -67,7 +65,7 @@ shows_page s partition from mode max e =
 pub shows_offset : (s : Session) (group : List ℕ) (partition : ℕ) (stable : Bool)
     (answer : OffsetAnswer) → has_partition s.system.world partition ≡ true
     → answer ≡ offset_fetch (entries_at s.system.world offsets_partition) group partition stable
-    → performed (Some s) (order.Offset group partition stable)
+    → performed s (order.Offset group partition stable)
     ≡ Some (offset_text answer, Some s)
 shows_offset s group partition stable answer e a =
     let entries = entries_at s.system.world offsets_partition in
@@ -77,7 +75,7 @@ shows_offset s group partition stable answer e a =
 
 pub lets_fail : (s : Session) (place : NodeId) (left : Left)
     → has_node s.system.world place ≡ true
-    → performed (Some s) (order.Fail place left)
+    → performed s (order.Fail place left)
     ≡ Some (dash_text, Some (record s { marks = with_mark s.marks place (Some left) }))
 lets_fail s place left e =
     where_it_holds (has_node s.system.world place)

@@ -9,7 +9,7 @@ use Rattle.kx_text.specs.Lines.{ReadsLine, bad_text}
 use Rattle.kx_text.specs.declared.fault.ScriptFault.{ScriptFault}
 use Rattle.kx_text.specs.declared.fault.ScriptFault.TheVariants.{Read, Write, BadLine, Memory}
 use Rattle.kx_text.proofs.Writes.{appends_both, appends_kept, appends_nothing}
-use Rattle.kx_script.specs.Script.{Answered, Answers, Ends, Runs, State}
+use Rattle.kx_script.specs.Script.{Answered, Answers, Ends, Runs, State, answer, kept_in}
 
 -- a run, and then one more line
 pub Runs-push : (state : State) (lines : List (List ℕ)) (text : List ℕ) (mid : State)
@@ -152,12 +152,12 @@ pub goes_on : (Stands After : State → Type 0) (told left after : Option (List 
     (old now new : Option (List ℕ)) (line text : List ℕ)
     → Underway Stands told left number old now
     → IfSome left (λ bytes. ReadsLine bytes after line (Ok true)) → text ≡ before 10 line
-    → ((state : State) → Stands state → Answered After state text now new (Ok true))
+    → ((state : State) → Stands state → Answered After (answer state text) (kept_in state text) now new (Ok true))
     → Underway After told after (number + 1) old new
 goes_on Stands After None left after number old now new line text u r e a = tt
 goes_on Stands After (Some input) left after number old now new line text u r e a =
     let n = next_of Stands input left after number old now line text u r e in
-    let d : Answered After n.state text now new (Ok true) = a n.state n.stands in (
+    let d : Answered After (answer n.state text) (kept_in n.state text) now new (Ok true) = a n.state n.stands in (
       n.rest,
       n.left_is,
       record {
@@ -176,7 +176,7 @@ goes_on Stands After (Some input) left after number old now new line text u r e 
 pub answer_fails : (Stands After : State → Type 0) (told left : Option (List ℕ)) (number : ℕ)
     (old now new : Option (List ℕ)) (text : List ℕ) (fault : ScriptFault)
     → Underway Stands told left number old now
-    → ((state : State) → Stands state → Answered After state text now new (Err fault))
+    → ((state : State) → Stands state → Answered After (answer state text) (kept_in state text) now new (Err fault))
     → IfSome told (λ input. Ends input old new (Err fault))
 answer_fails Stands After None left number old now new text fault u a = tt
 answer_fails Stands After (Some input) left number old now new text Memory u a = (
@@ -201,13 +201,13 @@ pub is_bad : (Stands After : State → Type 0) (told left after : Option (List �
     (old now kept new : Option (List ℕ)) (line text : List ℕ)
     → Underway Stands told left number old now
     → IfSome left (λ bytes. ReadsLine bytes after line (Ok true)) → text ≡ before 10 line
-    → ((state : State) → Stands state → Answered After state text now kept (Ok false))
+    → ((state : State) → Stands state → Answered After (answer state text) (kept_in state text) now kept (Ok false))
     → Appends kept new (bad_text number)
     → IfSome told (λ input. Ends input old new (Err (BadLine number)))
 is_bad Stands After None left after number old now kept new line text u r e a w = tt
 is_bad Stands After (Some input) left after number old now kept new line text u r e a w =
     let n = next_of Stands input left after number old now line text u r e in
-    let d : Answered After n.state text now kept (Ok false) = a n.state n.stands in
+    let d : Answered After (answer n.state text) (kept_in n.state text) now kept (Ok false) = a n.state n.stands in
     record {
       before = n.lines;
       line = text;

@@ -1,6 +1,7 @@
--- Which order each line of a script spells, by its words.
+-- Which event each line of a script lets happen, or which order it is, by its words.
 use Rattle.std.specs.Prelude.{ℕ, pos, ◌+◌, ◌^◌, List, [], ◌∷◌, Bool, true, false, Option, None}
-use Rattle.std.specs.Prelude.{Some, codes, bytes_eq, nat_lt, ◌==◌, option_map, if◌then◌else◌}
+use Rattle.std.specs.Prelude.{Some, codes, bytes_eq, is_some, nat_lt, ◌==◌, option_map, slice_get}
+use Rattle.std.specs.Prelude.{if◌then◌else◌}
 use Rattle.std.specs.Option.{option_or}
 use Rattle.kx_varint.specs.Text.{◌>>=◌}
 use Rattle.kx_message.specs.Ranges.{data_partitions, offsets_partition}
@@ -8,19 +9,21 @@ use Rattle.kx_message.specs.Values.{name_with, where_true}
 use Rattle.kx_message.specs.declared.message.NodeId.{NodeId}
 use Rattle.kx_message.specs.declared.message.NodeId.TheVariants as node
 use Rattle.kx_message.specs.declared.outcome.Outcome.TheVariants.{Abort, Commit}
+use Rattle.kx_model.specs.Client as model
+use Rattle.kx_model.specs.Step.{Expires, Reminds, Drops, Puts}
+use Rattle.kx_model.specs.World.{World, Make, client_at, is_new}
+use Rattle.kx_processor.specs.Prefixed.{image_of}
 use Rattle.kx_text.specs.Mode.{default_max, mode_of}
 use Rattle.kx_text.specs.Words.{below, number_below, number_of, words_of}
-use Rattle.kx_script.specs.declared.command.Name.{Name}
-use Rattle.kx_script.specs.declared.command.Name.TheVariants as name
-use Rattle.kx_script.specs.declared.order.Happening.{Happening}
-use Rattle.kx_script.specs.declared.order.Happening.TheVariants as happening
+use Rattle.kx_script.specs.Session.{Session, delivers, hands, has_node, has_partition, restarts}
+use Rattle.kx_script.specs.Session.{tells, timeout}
+use Rattle.kx_script.specs.declared.event.Name.{Name}
+use Rattle.kx_script.specs.declared.event.Name.TheVariants as name
 use Rattle.kx_script.specs.declared.order.Left.{Left}
 use Rattle.kx_script.specs.declared.order.Left.TheVariants.{Nothing, Whole}
 use Rattle.kx_script.specs.declared.order.Order.{Order}
 use Rattle.kx_script.specs.declared.order.Order.TheVariants as order
-use Rattle.kx_script.specs.declared.order.Task.{Task}
-use Rattle.kx_script.specs.declared.order.Task.TheVariants as task
-use Rattle.kx_system.specs.System.{most_inputs}
+use Rattle.kx_system.specs.System.{SystemEvent, Happens, MakeProcessor, most_inputs}
 
 ------ words
 
@@ -106,81 +109,162 @@ stable_of word =
     else if bytes_eq word (codes "any") then Some false
     else None
 
+------ what a word names in a world
+
+-- a client that is there
+abbrev pub client_in : World → List ℕ → Option ℕ
+client_in w word = client_of word >>= λ c. where_true (is_some (client_at w c)) c
+
+-- a client that may be made: its number is above those of all others
+abbrev pub new_in : World → List ℕ → Option ℕ
+new_in w word = client_of word >>= λ c. where_true (is_new c w.clients) c
+
+-- a data partition that is there
+abbrev pub partition_in : World → List ℕ → Option ℕ
+partition_in w word = partition_of word >>= λ p. where_true (has_partition w p) p
+
+-- a node that is there and has a log
+abbrev pub node_in : World → List ℕ → Option NodeId
+node_in w word = node_of word >>= λ n. where_true (has_node w n) n
+
 ------ commands of a client
 
-abbrev pub lets : Happening → Option Order
-lets what = Some (order.Happen what)
-
 -- a command that has nothing behind the client's number
-abbrev pub plain_task : Task → List (List ℕ) → Option Order
-plain_task what words =
-    only words >>= λ client. client_of client >>= λ c. lets (happening.Tell c what)
+abbrev pub plain_event : model.Command → World → List (List ℕ) → Option SystemEvent
+plain_event command w words =
+    only words >>= λ client. client_in w client >>= λ c. Some (tells c command)
 
 -- `send N P W..`
-abbrev pub send_task : List (List ℕ) → Option Order
-send_task words =
+abbrev pub send_event : World → List (List ℕ) → Option SystemEvent
+send_event w words =
     front words >>= λ client. front client.1 >>= λ partition. front partition.1 >>= λ values.
-    client_of client.0 >>= λ c. partition_of partition.0 >>= λ p.
-    lets (happening.Tell c (task.Send p values))
+    client_in w client.0 >>= λ c. partition_in w partition.0 >>= λ p.
+    Some (tells c (model.Send p values.0 values.1))
 
 -- `join N G`
-abbrev pub join_task : List (List ℕ) → Option Order
-join_task words =
-    pair words >>= λ two. client_of two.0 >>= λ c. name_of two.1 >>= λ g.
-    lets (happening.Tell c (task.Join g))
+abbrev pub join_event : World → List (List ℕ) → Option SystemEvent
+join_event w words =
+    pair words >>= λ two. client_in w two.0 >>= λ c. name_of two.1 >>= λ g.
+    Some (tells c (model.JoinGroup g))
 
 -- `offsets N Q O`
-abbrev pub offsets_task : List (List ℕ) → Option Order
-offsets_task words =
-    triple words >>= λ three. client_of three.0 >>= λ c. partition_of three.1 >>= λ p.
+abbrev pub offsets_event : World → List (List ℕ) → Option SystemEvent
+offsets_event w words =
+    triple words >>= λ three. client_in w three.0 >>= λ c. partition_in w three.1 >>= λ p.
     offset_of three.2 >>= λ o.
-    lets (happening.Tell c (task.Offset (record { partition = p; offset = pos o })))
+    Some (tells c (model.SendOffsets (record { partition = p; offset = pos o }) []))
 
------- other orders
-
--- `world P`
-abbrev pub world_order : List (List ℕ) → Option Order
-world_order words = only words >>= λ count. count_of count >>= λ n. Some (order.World n)
+------ other events
 
 -- `client N TXN`
-abbrev pub client_order : List (List ℕ) → Option Order
-client_order words =
-    pair words >>= λ two. client_of two.0 >>= λ c. txn_of two.1 >>= λ txn.
-    lets (happening.Client c txn)
+abbrev pub client_event : World → List (List ℕ) → Option SystemEvent
+client_event w words =
+    pair words >>= λ two. new_in w two.0 >>= λ c. txn_of two.1 >>= λ txn.
+    Some (Happens (Make c txn timeout))
 
 -- `processor N TXN G K`
-abbrev pub processor_order : List (List ℕ) → Option Order
-processor_order words =
-    front words >>= λ client. triple client.1 >>= λ three. client_of client.0 >>= λ c.
+abbrev pub processor_event : World → List (List ℕ) → Option SystemEvent
+processor_event w words =
+    front words >>= λ client. triple client.1 >>= λ three. new_in w client.0 >>= λ c.
     txn_of three.0 >>= λ txn. name_of three.1 >>= λ g. inputs_of three.2 >>= λ k.
-    lets (happening.Processor c txn g k)
+    Some (MakeProcessor c txn timeout g k image_of)
 
 -- `put P W..`
-abbrev pub put_order : List (List ℕ) → Option Order
-put_order words =
+abbrev pub put_event : Session → List (List ℕ) → Option SystemEvent
+put_event s words =
     front words >>= λ partition. front partition.1 >>= λ values.
-    partition_of partition.0 >>= λ p. lets (happening.Put p values)
+    partition_in s.system.world partition.0 >>= λ p.
+    Some (hands s (node.Partition p) (Puts values.0 values.1))
 
 -- `deliver K`
-abbrev pub deliver_order : List (List ℕ) → Option Order
-deliver_order words =
-    only words >>= λ number. offset_of number >>= λ k. lets (happening.Deliver k)
+abbrev pub deliver_event : Session → List (List ℕ) → Option SystemEvent
+deliver_event s words =
+    only words >>= λ number. offset_of number >>= λ k.
+    option_map (delivers s k) (slice_get s.system.world.sent k)
 
 -- `expire T`
-abbrev pub expire_order : List (List ℕ) → Option Order
-expire_order words =
+abbrev pub expire_event : Session → List (List ℕ) → Option SystemEvent
+expire_event s words =
     only words >>= λ moment. below (2 ^ 64) (number_of moment) >>= λ t.
-    lets (happening.Expire t)
+    Some (hands s node.Coordinator (Expires t))
+
+-- `remind`
+abbrev pub remind_event : Session → List (List ℕ) → Option SystemEvent
+remind_event s words = nothing_more words (hands s node.Coordinator Reminds)
 
 -- `drop G M`
-abbrev pub drop_order : List (List ℕ) → Option Order
-drop_order words =
+abbrev pub drop_event : Session → List (List ℕ) → Option SystemEvent
+drop_event s words =
     pair words >>= λ two. name_of two.0 >>= λ g. client_of two.1 >>= λ m.
-    lets (happening.Drop g m)
+    Some (hands s (node.Partition offsets_partition) (Drops g m))
 
 -- `restart NODE`
-abbrev pub restart_order : List (List ℕ) → Option Order
-restart_order words = only words >>= λ place. node_of place >>= λ n. lets (happening.Restart n)
+abbrev pub restart_event : World → List (List ℕ) → Option SystemEvent
+restart_event w words = only words >>= λ place. node_in w place >>= λ n. Some (restarts w n)
+
+------ names
+
+-- the names of commands of clients
+abbrev pub command_name : List ℕ → Option Name
+command_name word =
+    if bytes_eq word (codes "init") then Some name.Init
+    else if bytes_eq word (codes "begin") then Some name.Begin
+    else if bytes_eq word (codes "send") then Some name.Send
+    else if bytes_eq word (codes "commit") then Some name.Commit
+    else if bytes_eq word (codes "abort") then Some name.Abort
+    else if bytes_eq word (codes "resend") then Some name.Resend
+    else if bytes_eq word (codes "poll") then Some name.Poll
+    else if bytes_eq word (codes "join") then Some name.Join
+    else if bytes_eq word (codes "leave") then Some name.Leave
+    else if bytes_eq word (codes "offsets") then Some name.Offsets
+    else None
+
+-- the names of all other events
+abbrev pub event_name : List ℕ → Option Name
+event_name word =
+    if bytes_eq word (codes "client") then Some name.Client
+    else if bytes_eq word (codes "processor") then Some name.Processor
+    else if bytes_eq word (codes "put") then Some name.Put
+    else if bytes_eq word (codes "deliver") then Some name.Deliver
+    else if bytes_eq word (codes "expire") then Some name.Expire
+    else if bytes_eq word (codes "remind") then Some name.Remind
+    else if bytes_eq word (codes "drop") then Some name.Drop
+    else if bytes_eq word (codes "restart") then Some name.Restart
+    else None
+
+abbrev pub name_in : List ℕ → Option Name
+name_in word = option_or (command_name word) (event_name word)
+
+-- the event that a line of this name is
+abbrev pub event_as : Session → Name → List (List ℕ) → Option SystemEvent
+event_as s name.Init words = plain_event model.Init s.system.world words
+event_as s name.Begin words = plain_event model.Begin s.system.world words
+event_as s name.Send words = send_event s.system.world words
+event_as s name.Commit words = plain_event (model.End Commit) s.system.world words
+event_as s name.Abort words = plain_event (model.End Abort) s.system.world words
+event_as s name.Resend words = plain_event model.Resend s.system.world words
+event_as s name.Poll words = plain_event model.Poll s.system.world words
+event_as s name.Join words = join_event s.system.world words
+event_as s name.Leave words = plain_event model.LeaveGroup s.system.world words
+event_as s name.Offsets words = offsets_event s.system.world words
+event_as s name.Client words = client_event s.system.world words
+event_as s name.Processor words = processor_event s.system.world words
+event_as s name.Put words = put_event s words
+event_as s name.Deliver words = deliver_event s words
+event_as s name.Expire words = expire_event s words
+event_as s name.Remind words = remind_event s words
+event_as s name.Drop words = drop_event s words
+event_as s name.Restart words = restart_event s.system.world words
+
+-- the event that the words of a line are
+abbrev pub event_of : Session → List (List ℕ) → Option SystemEvent
+event_of s words = front words >>= λ line. name_in line.0 >>= λ name. event_as s name line.1
+
+-- the event that a line lets happen, none where what it names isn't there
+abbrev pub event_in : Session → List ℕ → Option SystemEvent
+event_in s line = words_of line >>= event_of s
+
+------ lines that are no events
 
 -- `fail NODE MODE`
 abbrev pub fail_order : List (List ℕ) → Option Order
@@ -206,74 +290,25 @@ offset_order words =
     triple words >>= λ three. name_of three.0 >>= λ g. partition_of three.1 >>= λ q.
     stable_of three.2 >>= λ stable. Some (order.Offset g q stable)
 
------- lines
+-- `rows`
+abbrev pub rows_order : List (List ℕ) → Option Order
+rows_order words = nothing_more words order.Rows
 
--- the names of commands of clients
-abbrev pub task_name : List ℕ → Option Name
-task_name word =
-    if bytes_eq word (codes "init") then Some name.Init
-    else if bytes_eq word (codes "begin") then Some name.Begin
-    else if bytes_eq word (codes "send") then Some name.Send
-    else if bytes_eq word (codes "commit") then Some name.Commit
-    else if bytes_eq word (codes "abort") then Some name.Abort
-    else if bytes_eq word (codes "resend") then Some name.Resend
-    else if bytes_eq word (codes "poll") then Some name.Poll
-    else if bytes_eq word (codes "join") then Some name.Join
-    else if bytes_eq word (codes "leave") then Some name.Leave
-    else if bytes_eq word (codes "offsets") then Some name.Offsets
+-- the order that a line of this first word is
+abbrev pub order_of : List ℕ → List (List ℕ) → Option Order
+order_of name words =
+    if bytes_eq name (codes "fail") then fail_order words
+    else if bytes_eq name (codes "fetch") then fetch_order words
+    else if bytes_eq name (codes "offset") then offset_order words
+    else if bytes_eq name (codes "rows") then rows_order words
     else None
-
--- the names of all other lines
-abbrev pub other_name : List ℕ → Option Name
-other_name word =
-    if bytes_eq word (codes "world") then Some name.World
-    else if bytes_eq word (codes "client") then Some name.Client
-    else if bytes_eq word (codes "processor") then Some name.Processor
-    else if bytes_eq word (codes "put") then Some name.Put
-    else if bytes_eq word (codes "deliver") then Some name.Deliver
-    else if bytes_eq word (codes "expire") then Some name.Expire
-    else if bytes_eq word (codes "remind") then Some name.Remind
-    else if bytes_eq word (codes "drop") then Some name.Drop
-    else if bytes_eq word (codes "restart") then Some name.Restart
-    else if bytes_eq word (codes "fail") then Some name.Fail
-    else if bytes_eq word (codes "fetch") then Some name.Fetch
-    else if bytes_eq word (codes "offset") then Some name.Offset
-    else if bytes_eq word (codes "rows") then Some name.Rows
-    else None
-
-abbrev pub name_in : List ℕ → Option Name
-name_in word = option_or (task_name word) (other_name word)
-
--- the order that a line of this name is
-abbrev pub order_as : Name → List (List ℕ) → Option Order
-order_as name.World words = world_order words
-order_as name.Client words = client_order words
-order_as name.Processor words = processor_order words
-order_as name.Put words = put_order words
-order_as name.Init words = plain_task task.Init words
-order_as name.Begin words = plain_task task.Begin words
-order_as name.Send words = send_task words
-order_as name.Commit words = plain_task (task.End Commit) words
-order_as name.Abort words = plain_task (task.End Abort) words
-order_as name.Resend words = plain_task task.Resend words
-order_as name.Poll words = plain_task task.Poll words
-order_as name.Join words = join_task words
-order_as name.Leave words = plain_task task.Leave words
-order_as name.Offsets words = offsets_task words
-order_as name.Deliver words = deliver_order words
-order_as name.Expire words = expire_order words
-order_as name.Remind words = nothing_more words (order.Happen happening.Remind)
-order_as name.Drop words = drop_order words
-order_as name.Restart words = restart_order words
-order_as name.Fail words = fail_order words
-order_as name.Fetch words = fetch_order words
-order_as name.Offset words = offset_order words
-order_as name.Rows words = nothing_more words order.Rows
-
--- the order that the words of a line are
-abbrev pub order_of : List (List ℕ) → Option Order
-order_of words = front words >>= λ line. name_in line.0 >>= λ name. order_as name line.1
 
 -- the order that a line spells
 abbrev pub order_in : List ℕ → Option Order
-order_in line = words_of line >>= order_of
+order_in line = words_of line >>= front >>= λ name. order_of name.0 name.1
+
+-- `world P`: how many data partitions it gives a world
+abbrev pub world_in : List ℕ → Option ℕ
+world_in line =
+    words_of line >>= pair >>= λ two.
+    if bytes_eq two.0 (codes "world") then count_of two.1 else None

@@ -1,6 +1,5 @@
-pub mod Order
-pub mod Command
 pub mod Session
+pub mod Command
 pub mod Printing
 pub mod Script
 pub mod Running

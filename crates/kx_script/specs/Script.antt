@@ -1,6 +1,6 @@
 -- The answers to a script over a whole world: line by line, and over a whole run.
 use Rattle.std.specs.Prelude.{◌≡◌, ℕ, ◌+◌, Bool, true, false, List, [], ◌∷◌, ◌++◌, ◌⊎◌, length}
-use Rattle.std.specs.Prelude.{ℤ, Option, None, Some, IsSome, Result, Ok, Err}
+use Rattle.std.specs.Prelude.{ℤ, Option, None, Some, Result, Ok, Err, option_map}
 use Rattle.std.specs.Io.KnownBytes.{Appends, Keeps}
 use Rattle.kx_varint.specs.Text.{◌>>=◌}
 use Rattle.kx_machine.specs.Meaning.{note_of}
@@ -10,11 +10,11 @@ use Rattle.kx_model.specs.Coordinator.{rows}
 use Rattle.kx_model.specs.Groups.{OffsetAnswer, offset_fetch}
 use Rattle.kx_model.specs.Page.{fetched}
 use Rattle.kx_model.specs.World.{entries_at, log_at, notes}
-use Rattle.kx_script.specs.Command.{order_in}
+use Rattle.kx_script.specs.Command.{event_in, order_in, world_in}
 use Rattle.kx_script.specs.Printing.{dash_text, group_text, messages_text, rows_text, step_text}
-use Rattle.kx_script.specs.Session.{Session, event_of, handed_out, has_node, has_partition}
 use Rattle.kx_core.specs.World.{place_of}
-use Rattle.kx_script.specs.Session.{opening, session_after, with_mark}
+use Rattle.kx_script.specs.Session.{Session, handed_out, has_node, has_partition, opening}
+use Rattle.kx_script.specs.Session.{session_after, with_mark}
 use Rattle.kx_script.specs.declared.order.Order.{Order}
 use Rattle.kx_script.specs.declared.order.Order.TheVariants as order
 use Rattle.kx_system.specs.System.{System, SystemEvent, system_step}
@@ -39,54 +39,66 @@ event_text s event = step_text (note_of (system_step s event).1)
 abbrev pub offset_text : OffsetAnswer → List ℕ
 offset_text answer = group_text answer.code answer.offset
 
-abbrev pub happens : Session → Option SystemEvent → Option (List ℕ × State)
-happens s None = None
-happens s (Some event) = Some (event_text s.system event, Some (session_after s event))
+abbrev pub happens : Session → SystemEvent → List ℕ × State
+happens s event = (event_text s.system event, Some (session_after s event))
 
 -- what is printed of a log, where there is the partition
 abbrev pub fetches : Session → ℕ → ℤ → Mode → ℕ → List ℕ
 fetches s partition from mode max =
     fetched_text from mode (fetched (log_at s.system.world partition) from max (is_committed mode))
 
--- what an order prints, and the state after it; none where it may not stand
-abbrev pub performed : State → Order → Option (List ℕ × State)
-performed None (order.World count) = Some (dash_text, Some (opening count))
-performed None other = None
-performed (Some s) (order.World count) = None
-performed (Some s) (order.Happen what) = happens s (event_of s what)
-performed (Some s) (order.Fail place left) = where_true (has_node s.system.world place)
+-- what an order prints, and the state after it; none where what it names isn't there
+abbrev pub performed : Session → Order → Option (List ℕ × State)
+performed s (order.Fail place left) = where_true (has_node s.system.world place)
     (dash_text, Some (record s { marks = with_mark s.marks place (Some left) }))
-performed (Some s) (order.Fetch partition from mode max) =
+performed s (order.Fetch partition from mode max) =
     where_true (has_partition s.system.world partition)
     (fetches s partition from mode max, Some s)
-performed (Some s) (order.Offset group partition stable) =
+performed s (order.Offset group partition stable) =
     where_true (has_partition s.system.world partition) (
       offset_text
           (offset_fetch (entries_at s.system.world offsets_partition) group partition stable),
       Some s,
     )
-performed (Some s) order.Rows = Some (rows_text (rows (notes s.system.world)), Some s)
+performed s order.Rows = Some (rows_text (rows (notes s.system.world)), Some s)
 
--- what a line prints, and the state after it; none for a bad line
+-- the same of a line that is no event
+abbrev pub ordered : Session → List ℕ → Option (List ℕ × State)
+ordered s line = order_in line >>= performed s
+
+-- a line is the event, if there is one
+abbrev pub answer_by : Session → List ℕ → Option SystemEvent → Option (List ℕ × State)
+answer_by s line (Some event) = Some (happens s event)
+answer_by s line None = ordered s line
+
+-- a world is made, where there is none
+abbrev pub begun : State → ℕ → Option (List ℕ × State)
+begun None count = Some (dash_text, Some (opening count))
+begun (Some s) count = None
+
+-- what a line of words prints, and the state after it; none for a bad line
+abbrev pub answer_line : State → List ℕ → Option (List ℕ × State)
+answer_line None line = world_in line >>= begun None
+answer_line (Some s) line = answer_by s line (event_in s line)
+
+-- the same of any line
 abbrev pub answer : State → List ℕ → Option (List ℕ × State)
 answer state [] = Some ([], state)
-answer state (byte ∷ line) = order_in (byte ∷ line) >>= performed state
+answer state (byte ∷ line) = answer_line state (byte ∷ line)
+
+-- the state that stays where memory is refused for the line's event
+abbrev pub kept_in : State → List ℕ → Option State
+kept_in None line = None
+kept_in (Some s) line = option_map (λ event. Some s) (event_in s line)
 
 -- where memory is refused, an event may print `lost` and change nothing
-abbrev pub MayBeLost : State → Order → Type 0
-MayBeLost (Some s) (order.Happen what) = IsSome (event_of s what)
-MayBeLost state other = ⊥
-
-abbrev pub Performs : State → Order → List ℕ → State → Type 0
-Performs state order text new =
-    (performed state order ≡ Some (text, new))
-    ⊎ (MayBeLost state order × (text ≡ lost_text) × (new ≡ state))
+abbrev pub MayGive : Option (List ℕ × State) → Option State → List ℕ → State → Type 0
+MayGive wanted kept text new =
+    (wanted ≡ Some (text, new)) ⊎ ((kept ≡ Some new) × (text ≡ lost_text))
 
 -- the line may be answered by this text, with this state after it
 abbrev pub Answers : State → List ℕ → List ℕ → State → Type 0
-Answers state [] text new = (text ≡ []) × (new ≡ state)
-Answers state (byte ∷ line) text new =
-    (order : Order) × (order_in (byte ∷ line) ≡ Some order) × Performs state order text new
+Answers state line text new = MayGive (answer state line) (kept_in state line) text new
 
 ------ a run
 
@@ -150,19 +162,10 @@ Ends input old new (Err Write) = Unit {0}
 
 ------ what the interpreter's parts say
 
--- a good order's answer is written, and the state after it is one that stands
-abbrev pub Performed : (State → Type 0) → State → Order → Option (List ℕ) → Option (List ℕ)
-    → Result Bool ScriptFault → Type 0
-Performed Stands state order old new (Ok true) = (text : List ℕ) × (next : State)
-    × Performs state order text next × Stands next × Appends old new text
-Performed Stands state order old new (Ok false) =
-    (performed state order ≡ None) × Keeps old new
-Performed Stands state order old new (Err fault) = LeavesWriter old new fault
-
--- the same of a line
-abbrev pub Answered : (State → Type 0) → State → List ℕ → Option (List ℕ) → Option (List ℕ)
-    → Result Bool ScriptFault → Type 0
-Answered Stands state line old new (Ok true) = (text : List ℕ) × (next : State)
-    × Answers state line text next × Stands next × Appends old new text
-Answered Stands state line old new (Ok false) = (answer state line ≡ None) × Keeps old new
-Answered Stands state line old new (Err fault) = LeavesWriter old new fault
+-- an answer is written, and the state after it is one that stands
+abbrev pub Answered : (State → Type 0) → Option (List ℕ × State) → Option State
+    → Option (List ℕ) → Option (List ℕ) → Result Bool ScriptFault → Type 0
+Answered Stands wanted kept old new (Ok true) = (text : List ℕ) × (next : State)
+    × MayGive wanted kept text next × Stands next × Appends old new text
+Answered Stands wanted kept old new (Ok false) = (wanted ≡ None) × Keeps old new
+Answered Stands wanted kept old new (Err fault) = LeavesWriter old new fault

@@ -1,30 +1,29 @@
--- A system of nodes under a script: which of their appends are to fail, which event a line is, and
--- what it leaves.
-use Rattle.std.specs.Prelude.{ℕ, List, length, drop, Bool, true, false, ◌&&◌, ◌||◌}
-use Rattle.std.specs.Prelude.{Option, Some, None, is_some, option_map, replicate, slice_get}
+-- A system of nodes under a script: which of their appends are to fail, and what an event leaves.
+use Rattle.std.specs.Prelude.{ℕ, List, length, drop, Bool, true, false, ◌||◌}
+use Rattle.std.specs.Prelude.{Option, Some, None, replicate}
 use Rattle.std.specs.Prelude.{slice_index_or, slice_set, ◌==◌, nat_lt, if◌then◌else◌}
 use Rattle.kx_core.specs.World.{place_of, store_fails}
 use Rattle.kx_message.specs.Ranges.{data_partitions, offsets_partition}
 use Rattle.kx_message.specs.Receiver.{receiver_of}
-use Rattle.kx_message.specs.Values.{where_true}
 use Rattle.kx_message.specs.declared.message.Message.{Message}
 use Rattle.kx_message.specs.declared.message.NodeId.{NodeId}
 use Rattle.kx_message.specs.declared.message.NodeId.TheVariants as node
-use Rattle.kx_model.specs.Disk.{Store, Works}
-use Rattle.kx_model.specs.Step.{Input, Commands, Expires, Reminds, Drops, Puts, Restarts}
-use Rattle.kx_model.specs.World.{World, Make, Deliver, Hand, client_at, is_new}
-use Rattle.kx_script.specs.Order.{command_of, store_of}
-use Rattle.kx_processor.specs.Prefixed.{image_of}
+use Rattle.kx_model.specs.Client.{Command}
+use Rattle.kx_model.specs.Disk.{Store, Works, Fails}
+use Rattle.kx_model.specs.Step.{Input, Commands, Restarts}
+use Rattle.kx_model.specs.World.{World, Deliver, Hand}
 use Rattle.kx_script.specs.declared.marks.Marks.{Marks}
 use Rattle.kx_script.specs.declared.order.Left.{Left}
-use Rattle.kx_script.specs.declared.order.Happening.{Happening}
-use Rattle.kx_script.specs.declared.order.Happening.TheVariants as happening
-use Rattle.kx_script.specs.declared.order.Task.{Task}
-use Rattle.kx_script.specs.declared.order.Task.TheVariants as task
-use Rattle.kx_system.specs.System.{System, SystemEvent, Happens, MakeProcessor, start_system}
-use Rattle.kx_system.specs.System.{system_step}
+use Rattle.kx_script.specs.declared.order.Left.TheVariants.{Nothing, Whole}
+use Rattle.kx_system.specs.System.{System, SystemEvent, Happens, start_system, system_step}
 
 ------ appends that are to fail
+
+-- what a node's store does, where its next append is to fail or not
+abbrev pub store_of : Option Left → Store
+store_of None = Works
+store_of (Some Nothing) = Fails false
+store_of (Some Whole) = Fails true
 
 abbrev pub no_marks : Marks
 no_marks =
@@ -47,7 +46,7 @@ with_mark marks (node.Partition number) mark = record marks {
 }
 with_mark marks (node.Client number) mark = marks
 
------- what an order names
+------ what a line names
 
 abbrev pub has_partition : World → ℕ → Bool
 has_partition w number = nat_lt number (length w.partitions)
@@ -57,11 +56,6 @@ abbrev pub has_node : World → NodeId → Bool
 has_node w node.Coordinator = true
 has_node w (node.Partition number) = number == offsets_partition || has_partition w number
 has_node w (node.Client number) = false
-
-abbrev pub has_named : World → Task → Bool
-has_named w (task.Send partition values) = has_partition w partition
-has_named w (task.Offset offset) = has_partition w offset.partition
-has_named w what = true
 
 ------ a session
 
@@ -88,28 +82,13 @@ hands s to input = Happens (Hand to input (store_at s to))
 abbrev pub delivers : Session → ℕ → Message → SystemEvent
 delivers s number m = Happens (Deliver number (receiver_of m) (store_at s (receiver_of m)))
 
--- the event that is to happen, none where what it names isn't there; the appends of restarts never
--- fail
-abbrev pub event_of : Session → Happening → Option SystemEvent
-event_of s (happening.Client number txn) =
-    where_true (is_new number s.system.world.clients) (Happens (Make number txn timeout))
-event_of s (happening.Processor number txn group inputs) =
-    where_true (is_new number s.system.world.clients)
-    (MakeProcessor number txn timeout group inputs image_of)
-event_of s (happening.Tell number what) =
-    where_true (is_some (client_at s.system.world number) && has_named s.system.world what)
-    (Happens (Hand (node.Client number) (Commands (command_of what)) Works))
-event_of s (happening.Put partition values) =
-    where_true (has_partition s.system.world partition)
-    (hands s (node.Partition partition) (Puts values.0 values.1))
-event_of s (happening.Deliver number) =
-    option_map (delivers s number) (slice_get s.system.world.sent number)
-event_of s (happening.Expire now) = Some (hands s node.Coordinator (Expires now))
-event_of s happening.Remind = Some (hands s node.Coordinator Reminds)
-event_of s (happening.Drop group member) =
-    Some (hands s (node.Partition offsets_partition) (Drops group member))
-event_of s (happening.Restart place) = where_true (has_node s.system.world place)
-    (Happens (Hand place (Restarts s.system.world.clock) Works))
+-- a client is told to do something, whose node has no store
+abbrev pub tells : ℕ → Command → SystemEvent
+tells client command = Happens (Hand (node.Client client) (Commands command) Works)
+
+-- a node is opened again, and no append of it fails then
+abbrev pub restarts : World → NodeId → SystemEvent
+restarts w place = Happens (Hand place (Restarts w.clock) Works)
 
 -- an append that was to fail has failed
 abbrev pub marks_after : Marks → NodeId → Bool → Marks

@@ -5,8 +5,7 @@
 ghost use Rattle.std.specs.Prelude.{◌≡◌, ℕ, Option};
 ghost use Rattle.kx_machine.specs.Stores.{IsMode};
 ghost use Rattle.kx_model.specs.Disk.{Store};
-ghost use Rattle.kx_script.specs.Order.{store_of};
-ghost use Rattle.kx_script.specs.Session.{mark_at, no_marks, with_mark};
+ghost use Rattle.kx_script.specs.Session.{mark_at, no_marks, store_of, with_mark};
 
 use crate::order::Left;
 use kx_machine::StoreMode;
@@ -61,8 +60,8 @@ impl Marks {
     }
 }
 
-/// What a node's store does in a step, where its next append is to fail or not.
-pub fn mode_of(mark: Option<Left>) -> StoreMode
+// What a node's store does in a step, where its next append is to fail or not.
+pub(crate) fn mode_of(mark: Option<Left>) -> StoreMode
     ensures { (size : Option ℕ) (store : Store) → IsMode result size store
         → store ≡ store_of mark }
 {

@@ -50,8 +50,8 @@ fn fault_name(fault: ClientFault) -> &'static str
     }
 }
 
-/// Writes why a client refuses a command.
-pub fn write_declined<W: Write>(writer: &mut W, fault: ClientFault) -> io::Result<()>
+// Writes why a client refuses a command.
+pub(crate) fn write_declined<W: Write>(writer: &mut W, fault: ClientFault) -> io::Result<()>
     ensures { OnOk result (Appends (W.contents writer.old) (W.contents writer.new)
         (declined_text fault)) }
 {
@@ -59,16 +59,16 @@ pub fn write_declined<W: Write>(writer: &mut W, fault: ClientFault) -> io::Resul
     writeln!(writer, "refused {name}")
 }
 
-/// Writes what the drop of a member is answered.
-pub fn write_code<W: Write>(writer: &mut W, code: ErrorCode) -> io::Result<()>
+// Writes what the drop of a member is answered.
+pub(crate) fn write_code<W: Write>(writer: &mut W, code: ErrorCode) -> io::Result<()>
     ensures { OnOk result (Appends (W.contents writer.old) (W.contents writer.new)
         (code_text code)) }
 {
     writeln!(writer, "code {code}")
 }
 
-/// Writes a group's committed offset, and the code with it.
-pub fn write_group<W: Write>(writer: &mut W, code: ErrorCode, offset: i64) -> io::Result<()>
+// Writes a group's committed offset, and the code with it.
+pub(crate) fn write_group<W: Write>(writer: &mut W, code: ErrorCode, offset: i64) -> io::Result<()>
     ensures { OnOk result (Appends (W.contents writer.old) (W.contents writer.new)
         (group_text code offset)) }
 {

@@ -5,17 +5,19 @@ ghost use Rattle.std.specs.Io.Buffered.{writer_buffer, writer_contents};
 ghost use Rattle.kx_script.specs.Script.{Ends};
 ghost use Rattle.kx_text.specs.declared.fault.ScriptFault.TheVariants as fault;
 
-use crate::script::run_script_over;
-use crate::world::ScriptWorld;
-use kx_text::ScriptFault;
+use crate::script::run_lines;
+use kx_text::{CountedReads, ScriptFault};
 use std::alloc::Global;
 use std::io::{BufRead, BufWriter, Write};
 
-/// Runs a script over a world in memory, as [`run_script_over`] does.
+/// Runs a script over a world of its own, in memory: reads its lines one by one, carries each out
+/// and writes its answer, up to the end or the first bad line, of which it writes `bad line N`. It
+/// writes the answers as they come and doesn't flush the writer. It makes at most 2^32 reads, and
+/// ends with `Read` where it would need more; taking lines of what a read gave is no read.
 ///
 /// # Errors
 ///
-/// Those of [`run_script_over`].
+/// Those of [`ScriptFault`], which says what was written by then.
 pub fn run_script<R: BufRead, W: Write>(
     alloc: Global,
     reader: &mut R,
@@ -24,7 +26,11 @@ pub fn run_script<R: BufRead, W: Write>(
     ensures { IfSome (R.remaining reader.old)
         (λ input. Ends input (W.contents writer.old) (W.contents writer.new) result) }
 {
-    run_script_over::<ScriptWorld, R, W>(alloc, reader, writer)
+    let mut counted = CountedReads::new(reader);
+    let mut running = None;
+    let ran = run_lines::<CountedReads<&mut R>, W>(alloc, &mut running, &mut counted, writer);
+    drop(running);
+    ran
 }
 
 /// Runs a script as [`run_script`] does, and flushes what it wrote, also before a fault.

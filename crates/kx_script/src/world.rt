@@ -1,68 +1,109 @@
-//! A world of running nodes under a script.
-use crate::runs::Runs;
-use kx_core::{Config, Event, Happened, LocalWorld, PartitionCount};
-use kx_message::{ClientId, ErrorCode, GroupId, Message, PartitionId};
+//! A world of running nodes under a script, and which appends of its nodes are to fail.
+ghost use Rattle.std.specs.Prelude.{◌≡◌, Ok, IfOk, MatchResult, is_some, length, option_copied};
+ghost use Rattle.std.specs.Prelude.{slice_get, true};
+ghost use Rattle.kx_core.specs.Local.{IsLocal};
+ghost use Rattle.kx_model.specs.Page.{answer_to};
+ghost use Rattle.kx_model.specs.World.{client_at, log_at};
+ghost use Rattle.kx_partition.specs.Fetch.{FetchRefuses};
+ghost use Rattle.kx_processor.specs.Prefixed.{images_of};
+ghost use Rattle.kx_script.specs.Session.{has_node, has_partition, opening};
+ghost use Rattle.kx_system.specs.System.{System};
+
+use crate::marks::Marks;
+use kx_core::{Config, LocalWorld, PartitionCount};
+use kx_message::{ClientId, Message, NodeId, PartitionId};
 use kx_partition::{FetchFault, FetchPage};
 use kx_processor::Prefixed;
-use kx_txnlog::Row;
 use std::alloc::{AllocError, Global};
 
 /// A world in memory, whose processors are those of scripts.
 pub type ScriptWorld = LocalWorld<Prefixed>;
 
-impl Runs for ScriptWorld {
-    ghost use Rattle.kx_core.specs.Local.{IsLocal};
-    ghost use Rattle.kx_processor.specs.Prefixed.{images_of};
+/// A world, and which appends of its nodes are to fail.
+#[derive(Drop)]
+pub struct Running {
+    /// The world.
+    pub world: ScriptWorld,
+    /// The appends that are to fail.
+    pub marks: Marks,
+}
 
-    ghost stands = { λ s world. IsLocal images_of world s };
+impl Running {
+    ghost use Rattle.kx_script.specs.Running.{StandsFor};
 
-    fn start(alloc: Global, partitions: PartitionCount) -> Result<Self, AllocError> {
-        ScriptWorld::new(alloc, Config { partitions })
+    /// A world of this many data partitions and all other nodes, with empty logs, in which no
+    /// append is to fail.
+    ///
+    /// # Errors
+    ///
+    /// Only where memory runs out.
+    pub fn new(alloc: Global, partitions: PartitionCount) -> Result<Running, AllocError>
+        ensures { IfOk result (λ running. StandsFor running (opening partitions)) }
+    {
+        let world = ScriptWorld::new(alloc, Config { partitions })?;
+        Ok(Running {
+            world,
+            marks: Marks::none(),
+        })
     }
+}
 
-    fn happen(&mut self, event: &Event<Prefixed>) -> Result<Happened, AllocError> {
-        ScriptWorld::happen(self, event)
-    }
+// Whether a client is there.
+pub(crate) fn has_client(world: &ScriptWorld, client: ClientId) -> bool
+    ensures { (s : System) → IsLocal images_of world.now s
+        → result ≡ is_some (client_at s.world client) }
+{
+    world.client(client).is_some()
+}
 
-    fn partitions(&self) -> usize {
-        ScriptWorld::partitions(self)
-    }
+// Whether a data partition is there.
+pub(crate) fn has_partition(world: &ScriptWorld, partition: PartitionId) -> bool
+    ensures { (s : System) → IsLocal images_of world.now s
+        → result ≡ has_partition s.world partition }
+{
+    usize::from(partition.get()) < world.partitions()
+}
 
-    fn sent(&self) -> usize {
-        ScriptWorld::sent(self).len()
+// Whether a node is there that has a log.
+pub(crate) fn has_node(world: &ScriptWorld, node: &NodeId) -> bool
+    ensures { (s : System) → IsLocal images_of world.now s → result ≡ has_node s.world node.now }
+{
+    match node {
+        NodeId::Coordinator => true,
+        NodeId::Partition(partition) if !partition.is_data() => true,
+        NodeId::Partition(partition) => has_partition(world, *partition),
+        NodeId::Client(_) => false,
     }
+}
 
-    fn message(&self, number: usize) -> Option<&Message> {
-        ScriptWorld::sent(self).get(number)
-    }
+// How many messages were ever sent.
+pub(crate) fn sent(world: &ScriptWorld) -> usize
+    ensures { (s : System) → IsLocal images_of world.now s → result ≡ length s.world.sent }
+{
+    world.sent().len()
+}
 
-    fn has_client(&self, client: ClientId) -> bool {
-        self.client(client).is_some()
-    }
+// The message of this number.
+pub(crate) fn message(world: &ScriptWorld, number: usize) -> Option<&Message>
+    ensures { (s : System) → IsLocal images_of world.now s
+        → option_copied result ≡ slice_get s.world.sent number }
+{
+    world.sent().get(number)
+}
 
-    fn is_new(&self, client: ClientId) -> bool {
-        ScriptWorld::is_new(self, client)
-    }
-
-    fn clock(&self) -> u64 {
-        ScriptWorld::clock(self)
-    }
-
-    fn fetch(
-        &self,
-        partition: PartitionId,
-        from: i64,
-        max: u32,
-        committed: bool,
-    ) -> Result<FetchPage<'_>, FetchFault> {
-        ScriptWorld::fetch(self, partition, from, max, committed)
-    }
-
-    fn offset(&self, group: GroupId, partition: PartitionId, stable: bool) -> (ErrorCode, i64) {
-        self.committed_offset(group, partition, stable)
-    }
-
-    fn rows(&self) -> &[Row] {
-        ScriptWorld::rows(self)
-    }
+// A page of a data partition that is there.
+pub(crate) fn page_at(
+    world: &ScriptWorld,
+    partition: PartitionId,
+    from: i64,
+    max: u32,
+    committed: bool,
+) -> Result<FetchPage<'_>, FetchFault>
+    requires { (s : System) → IsLocal images_of world.now s
+        → has_partition s.world partition ≡ true }
+    ensures { (s : System) → IsLocal images_of world.now s → MatchResult result
+        (λ page. answer_to (log_at s.world partition) from max committed ≡ Ok page)
+        (FetchRefuses (answer_to (log_at s.world partition) from max committed)) }
+{
+    world.fetch(partition, from, max, committed)
 }

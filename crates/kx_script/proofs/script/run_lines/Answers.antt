@@ -1,4 +1,4 @@
-use Rattle.std.proofs.Common.{None, Result, Ok, Err, Bool, sym, ap, ◌∙◌, subst}
+use Rattle.std.proofs.Common.{Result, Ok, Err, Bool, sym, ap, ◌∙◌, subst}
 use Rattle.std.specs.Prelude.{IfSome}
 use Rattle.std.proofs.lemmas.Result.{err_from_is_err_and}
 use Rattle.kx_text.specs.Words.{before}
@@ -6,14 +6,14 @@ use Rattle.kx_text.specs.Lines.{ReadsLine}
 use Rattle.kx_text.specs.declared.fault.ScriptFault.{ScriptFault}
 use Rattle.kx_text.proofs.Performing.{holds_at_ok}
 use Rattle.kx_script.specs.Running.{StandsIn}
-use Rattle.kx_script.specs.Script.{Answered, Ends}
+use Rattle.kx_script.specs.Script.{Answered, Ends, answer, kept_in}
 use Rattle.kx_script.proofs.Underway.{starts, read_fails, stops, finishes, goes_on, answer_fails}
 use Rattle.kx_script.proofs.Underway.{is_bad}
 use Rattle.kx_script.proofs.script.run_lines.Goals as goal
 
 pub loop-number-init : goal.loop-number-init
 loop-number-init g c =
-    starts (StandsIn g.N.Runs.stands None) tt (g.R.Read.remaining c.args.reader.now)
+    starts (StandsIn c.args.running.now) c.requires (g.R.Read.remaining c.args.reader.now)
     (g.W.Write.contents c.args.writer.now)
 
 pub returns-in_err-next_line : goal.returns-in_err-next_line
@@ -24,7 +24,7 @@ returns-in_err-next_line g c =
     let p = err_from_is_err_and c.from_residual.result c.from_residual.ensures.1 in
     subst (λ (r : Result (Unit {0}) ScriptFault). IfSome told (λ input. Ends input old now r))
     (sym (p.1 ∙ ap Err p.2))
-    (read_fails (StandsIn g.N.Runs.stands c.loop-number.running) told
+    (read_fails (StandsIn c.loop-number.running) told
     (g.R.Read.remaining c.loop-number.reader)
     (g.R.Read.remaining c.next_line.new.reader) c.loop-number.number-counter old now
     c.next_line.new.line.items c.in_err-next_line.field-0.0
@@ -35,7 +35,7 @@ returns-then-not-branch g c =
     let left = g.R.Read.remaining c.loop-number.reader in
     let after = g.R.Read.remaining c.next_line.new.reader in
     let line = c.next_line.new.line.items in
-    finishes (StandsIn g.N.Runs.stands c.loop-number.running)
+    finishes (StandsIn c.loop-number.running)
     (g.R.Read.remaining c.args.reader.now) left after c.loop-number.number-counter
     (g.W.Write.contents c.args.writer.now) (g.W.Write.contents c.loop-number.writer)
     line tt c.loop-number.invariant
@@ -53,8 +53,8 @@ returns-in_err-answer g c =
     c.from_residual-in_err-answer.ensures.1 in
     subst (λ (r : Result (Unit {0}) ScriptFault). IfSome told (λ input. Ends input old new r))
     (sym (p.1 ∙ ap Err p.2))
-    (answer_fails (StandsIn g.N.Runs.stands c.loop-number.running)
-    (StandsIn g.N.Runs.stands c.answer.new.running) told
+    (answer_fails (StandsIn c.loop-number.running)
+    (StandsIn c.answer.new.running) told
     (g.R.Read.remaining c.loop-number.reader) c.loop-number.number-counter old now new text
     c.in_err-answer.field-0.0 c.loop-number.invariant c.in_err-answer.ensures)
 
@@ -69,14 +69,14 @@ returns-then-not-branch-2 g c =
     let now = g.W.Write.contents c.loop-number.writer in
     let kept = g.W.Write.contents c.answer.new.writer in
     let new = g.W.Write.contents c.writeln.new.self in
-    let After = StandsIn g.N.Runs.stands c.answer.new.running in
-    is_bad (StandsIn g.N.Runs.stands c.loop-number.running) After told left after
+    let After = StandsIn c.answer.new.running in
+    is_bad (StandsIn c.loop-number.running) After told left after
     c.loop-number.number-counter old now kept new line text
     c.loop-number.invariant
     (subst (λ (b : Bool). IfSome left (λ bytes. ReadsLine bytes after line (Ok b)))
     c.if-not-branch.false c.in_ok-next_line.ensures)
     (c.without_newline-text.ensures ∙ ap (before 10) c.as_slice.ensures.value)
-    (λ state s. subst (λ (b : Bool). Answered After state text now kept (Ok b))
+    (λ state s. subst (λ (b : Bool). Answered After (answer state text) (kept_in state text) now kept (Ok b))
     c.if-not-branch-2.true (c.in_ok-answer.ensures state s))
     (holds_at_ok c.writeln.result c.in_ok-written.ensures c.writeln.ensures.bytes)
 
@@ -90,13 +90,13 @@ loop-number-preserved g c =
     let old = g.W.Write.contents c.args.writer.now in
     let now = g.W.Write.contents c.loop-number.writer in
     let new = g.W.Write.contents c.answer.new.writer in
-    let After = StandsIn g.N.Runs.stands c.answer.new.running in
-    goes_on (StandsIn g.N.Runs.stands c.loop-number.running) After told left after
+    let After = StandsIn c.answer.new.running in
+    goes_on (StandsIn c.loop-number.running) After told left after
     c.loop-number.number-counter old now new line text c.loop-number.invariant
     (subst (λ (b : Bool). IfSome left (λ bytes. ReadsLine bytes after line (Ok b)))
     c.if-not-branch.false c.in_ok-next_line.ensures)
     (c.without_newline-text.ensures ∙ ap (before 10) c.as_slice.ensures.value)
-    (λ state s. subst (λ (b : Bool). Answered After state text now new (Ok b))
+    (λ state s. subst (λ (b : Bool). Answered After (answer state text) (kept_in state text) now new (Ok b))
     c.if-not-branch-2.false (c.in_ok-answer.ensures state s))
 
 pub returns-in_err-next_line-2 : goal.returns-in_err-next_line-2
@@ -108,7 +108,7 @@ returns-in_err-next_line-2 g c =
     c.from_residual-in_err-next_line-2.ensures.1 in
     subst (λ (r : Result (Unit {0}) ScriptFault). IfSome told (λ input. Ends input old now r))
     (sym (p.1 ∙ ap Err p.2))
-    (read_fails (StandsIn g.N.Runs.stands c.loop-number.running) told
+    (read_fails (StandsIn c.loop-number.running) told
     (g.R.Read.remaining c.loop-number.reader)
     (g.R.Read.remaining c.next_line-2.new.reader) c.loop-number.number-counter old now
     c.next_line-2.new.line.items c.in_err-next_line-2.field-0.0
@@ -116,7 +116,7 @@ returns-in_err-next_line-2 g c =
 
 pub returns-then-branch : goal.returns-then-branch
 returns-then-branch g c =
-    stops (StandsIn g.N.Runs.stands c.loop-number.running)
+    stops (StandsIn c.loop-number.running)
     (g.R.Read.remaining c.args.reader.now) (g.R.Read.remaining c.loop-number.reader)
     c.loop-number.number-counter (g.W.Write.contents c.args.writer.now)
     (g.W.Write.contents c.loop-number.writer) c.loop-number.invariant
@@ -126,7 +126,7 @@ returns g c =
     let left = g.R.Read.remaining c.loop-number.reader in
     let after = g.R.Read.remaining c.next_line-2.new.reader in
     let line = c.next_line-2.new.line.items in
-    finishes (StandsIn g.N.Runs.stands c.loop-number.running)
+    finishes (StandsIn c.loop-number.running)
     (g.R.Read.remaining c.args.reader.now) left after c.loop-number.number-counter
     (g.W.Write.contents c.args.writer.now) (g.W.Write.contents c.loop-number.writer)
     line tt c.loop-number.invariant

@@ -1,7 +1,7 @@
 use Rattle.std.specs.Int.{w64}
 use Rattle.std.proofs.lemmas.Int.{to_z-of_z}
 use Rattle.kx_script.proofs.Worlds.{refusal}
-use Rattle.kx_script.proofs.world.ScriptWorldRuns.fetch.Goals as goal
+use Rattle.kx_script.proofs.world.page_at.Goals as goal
 
 pub returns : goal.returns
 returns c = λ s h.
