@@ -26,17 +26,17 @@ pub takes_of : {Allows : Option ℕ → Store → Type 0} {StandsFor : NodeState
 takes_of before step taken is mark =
     record { store = is.store; answer = is.answer; after_is = refl; mark_is = mark }
 
-takens_push : (way : List Passed) (p : Passed)
+pub takens_push : (way : List Passed) (p : Passed)
     → takens_in (way ++ p ∷ []) ≡ takens_in way ++ p.taken ∷ []
 takens_push [] p = refl
 takens_push (q ∷ way) p = ap (λ (takens : List Taken). q.taken ∷ takens) (takens_push way p)
 
-steps_more : (told : List Told) (x : Told)
+pub steps_more : (told : List Told) (x : Told)
     → told_steps (told ++ x ∷ []) ≡ told_steps told ++ x.step ∷ []
 steps_more [] x = refl
 steps_more (y ∷ told) x = ap (λ (steps : List Step). y.step ∷ steps) (steps_more told x)
 
-takens_more : (told : List Told) (x : Told)
+pub takens_more : (told : List Told) (x : Told)
     → told_takens (told ++ x ∷ []) ≡ told_takens told ++ x.taken ∷ []
 takens_more [] x = refl
 takens_more (y ∷ told) x = ap (λ (takens : List Taken). y.taken ∷ takens) (takens_more told x)
@@ -48,7 +48,7 @@ run_begins stands made machine is =
     record { way = []; goes = tt; steps_are = refl; takens_are = refl; stands = is }
 
 -- it takes the next step, and answers what is told
-pub run_on : {M : Type 0} (stands : NodeState → M → Type 0) (old new : M)
+abbrev pub run_on : {M : Type 0} (stands : NodeState → M → Type 0) (old new : M)
     (Allows : Option ℕ → Store → Type 0) (made : NodeState) (told : List Told) (x : Told)
     → AnswersSo made told (λ node. stands node old)
     → ((state : NodeState) → stands state old

@@ -10,14 +10,16 @@ use Rattle.kx_audit.specs.Merged.{AreDone, IsMerging, Merged, arrived_at, lines_
 use Rattle.kx_audit.specs.Refused.{HaveOrder}
 use Rattle.kx_audit.specs.Replayed.{Progress, left, line_of, machines_of, name_at, steps_of}
 use Rattle.kx_audit.specs.Replayed.{traces_of, trails_of}
+use Rattle.kx_audit.specs.Rerun.{TakesAgain}
 use Rattle.kx_audit.specs.Run.{AreTurns, StandsAt}
-use Rattle.kx_audit.specs.Told.{AllAnswer, AnswersSo, AreMerged, Told, told_at, told_steps}
+use Rattle.kx_audit.specs.Told.{AreMerged, Told, told_at, told_steps}
 use Rattle.kx_audit.specs.Told.{told_takens}
 use Rattle.kx_machine.specs.Meaning.{NodeState}
 use Rattle.kx_audit.proofs.Along.{along_length, turn_of}
 use Rattle.kx_audit.proofs.Lines.{told_by_length, told_by_steps}
 use Rattle.kx_audit.proofs.Places.{to_map}
 use Rattle.kx_audit.proofs.Sources.{at_trail, trail_at}
+use Rattle.kx_audit.proofs.Telling.{AllBy, AnswersBy}
 
 none_left : {B M : Type 0} (nodes : List (Progress B M)) → AreDone nodes → sum_by left nodes ≡ 0
 none_left [] done = refl
@@ -83,26 +85,31 @@ module _ {B M : Type 0} (making : B → NodeMaking) (stands : NodeState → M �
     Ends = StandsAt stands (machines_of m.nodes)
 
     node_answers : (k : ℕ) (p : Progress B M) → slice_get m.nodes k ≡ Some p
-        → AnswersSo (node_of (making p.trace.made)) (told_at (name_at making p) told) (Ends k)
+        → AnswersBy TakesAgain (node_of (making p.trace.made)) (told_at (name_at making p) told)
+        (Ends k)
     node_answers k p at =
         let all = (is.replayed k p at).answers in
         let line = sym (whole_line k p at) in
         record {
-          way = all.way;
-          goes = all.goes;
-          steps_are = all.steps_are ∙ ap told_steps line;
-          takens_are = all.takens_are ∙ ap told_takens line;
-          stands = record {
-            machine = p.machine;
-            there = to_map (λ (q : Progress B M). q.machine) m.nodes k p at;
-            stands_so = all.stands;
+          answers = record {
+            way = all.way;
+            goes = all.goes;
+            steps_are = all.steps_are ∙ ap told_steps line;
+            takens_are = all.takens_are ∙ ap told_takens line;
+            stands = record {
+              machine = p.machine;
+              there = to_map (λ (q : Progress B M). q.machine) m.nodes k p at;
+              stands_so = all.stands;
+            };
           };
+          each = (is.replayed k p at).again;
         }
 
-    pub all_answer : AllAnswer trails told Ends
+    pub all_answer : AllBy TakesAgain trails told Ends
     all_answer k t at =
         let of = at_trail making m.nodes k t at in
-        subst (λ (x : Trail). AnswersSo (node_of x.made) (told_at (named x.made) told) (Ends k))
+        subst (λ (x : Trail).
+        AnswersBy TakesAgain (node_of x.made) (told_at (named x.made) told) (Ends k))
         of.trail_is (node_answers k of.node of.there)
 
     -- so they have an order
@@ -111,7 +118,7 @@ module _ {B M : Type 0} (making : B → NodeMaking) (stands : NodeState → M �
       told = told;
       merged = are_merged;
       answers = λ k t at.
-          let found = all_answer k t at in
+          let found = (all_answer k t at).answers in
           record {
             way = found.way;
             goes = found.goes;

@@ -46,7 +46,7 @@ pub number_of : {A : Type 0} (xs : List A) (x : A) → Contains xs x
 number_of xs x c = (c.0, slice_get-get_or xs c.0 x c.1 ∙ ap Some c.2)
 
 module _ (s : System) (to : NodeId) (store : Store) where
-  by_delivery : (which : ℕ) → system_step s (Happens (Deliver which to store))
+  pub by_delivery : (which : ℕ) → system_step s (Happens (Deliver which to store))
       ≡ after_turn s (delivered s.world to store (slice_get s.world.sent which))
       (turn_delivered s to (slice_get s.world.sent which))
   unfolding system_step step

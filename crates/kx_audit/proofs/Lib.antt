@@ -31,3 +31,5 @@ pub mod Begun
 pub mod Counting
 pub mod Yes
 pub mod Requests
+pub mod Storing
+pub mod Running

@@ -2,19 +2,22 @@
 use Rattle.std.proofs.Common.{◌≡◌, ◌++◌, ◌+◌, ℕ, List, [], ◌∷◌, length, take, drop, Option, Some}
 use Rattle.std.proofs.Common.{refl, sym, ap, ◌∙◌, subst, arith, add-one, suc}
 use Rattle.std.specs.Prelude.{slice_get}
-use Rattle.kx_audit.specs.Replayed.{IsRunTo, told_by}
-use Rattle.kx_audit.specs.Joined.{led_to}
+use Rattle.kx_audit.specs.Joined.{Passed, led_to}
+use Rattle.kx_audit.specs.Making.{NodeMaking, named, node_of}
+use Rattle.kx_audit.specs.Replayed.{IsReplayed, IsRunTo, told_by}
+use Rattle.kx_audit.specs.Rerun.{RunsAgain, TakesAgain}
 use Rattle.kx_audit.specs.Told.{AnswersSo, Told, told_steps, told_takens}
 use Rattle.kx_machine.specs.Meaning.{IsTaken, NodeState, input_of, node_step, taken_of}
 use Rattle.kx_machine.specs.declared.taken.Taken.{Taken}
 use Rattle.kx_message.specs.declared.message.NodeId.{NodeId}
 use Rattle.kx_model.specs.Disk.{Store}
-use Rattle.kx_nodes.specs.Again.{MayMeet, RunsOn, mode_for}
-use Rattle.kx_nodes.specs.Replay.{mark_of}
+use Rattle.kx_nodes.specs.Again.{MayMeet, RunsOn, mode_for, store_for}
+use Rattle.kx_nodes.specs.Replay.{Traced, mark_of}
 use Rattle.kx_nodes.specs.declared.trace.Step.{Step}
 use Rattle.kx_audit.proofs.Auditing.{run_on}
+use Rattle.kx_audit.proofs.Storing.{again_push, told_store}
 use Rattle.std.proofs.Common.{length-append}
-use Rattle.std.proofs.Math.Seq.{take-length, drop-cons}
+use Rattle.std.proofs.Math.Seq.{take-length, drop-cons, drop-length}
 use Rattle.std.proofs.lemmas.List.{length-take-le, take_more}
 use Rattle.std.proofs.lemmas.Option.{get_or_from_slice_get, slice_get_within}
 
@@ -81,6 +84,7 @@ module _ {M : Type 0} (stands : NodeState → M → Type 0) (name : NodeId) (mad
       takens_are = refl;
       stands = (is, runs);
     };
+    again = tt;
     count_is = refl;
   }
 
@@ -92,7 +96,7 @@ module _ {M : Type 0} (stands : NodeState → M → Type 0) (name : NodeId) (mad
       record { machine = machine; before = take count steps; behind = drop count steps }
 
   -- what the machine answers by its contract, and what follows from the marks
-  taken_so : RunAgain made → (count : ℕ) (step : Step) (old new : M) (taken : Taken)
+  abbrev taken_so : RunAgain made → (count : ℕ) (step : Step) (old new : M) (taken : Taken)
       → slice_get steps count ≡ Some step
       → ((state : NodeState) → stands state old
       → IsTaken state (input_of step.input)
@@ -149,28 +153,56 @@ module _ {M : Type 0} (stands : NodeState → M → Type 0) (name : NodeId) (mad
       let lt = slice_get_within steps count step there in
       let same : length takens ≡ length (take count steps) =
       run.count_is ∙ sym (length-take-le count steps (omega (arith, lt))) in
+      let told : told_by name (take count steps) takens ++ x ∷ []
+      ≡ told_by name (take (count + 1) steps) (takens ++ taken ∷ []) =
+      sym (told_by_push name (take count steps) takens step taken same)
+      ∙ ap (λ (l : List Step). told_by name l (takens ++ taken ∷ []))
+      (sym (take_next steps count step there)) in
+      let is = take_it last run.answers.stands.0 in
+      let behind = drop (count + 1) steps in
       record {
-        answers = subst (λ (told : List Told).
-            AnswersSo made told (λ node. CanGo node (at new (count + 1))))
-            (sym (told_by_push name (take count steps) takens step taken same)
-            ∙ ap (λ (l : List Step). told_by name l (takens ++ taken ∷ []))
-            (sym (take_next steps count step there))) more;
+        answers = record {
+          way = more.way;
+          goes = more.goes;
+          steps_are = more.steps_are ∙ ap told_steps told;
+          takens_are = more.takens_are ∙ ap told_takens told;
+          stands = more.stands;
+        };
+        again = again_push behind made run.answers.way
+            (record {
+              node = name;
+              step = step;
+              taken = taken;
+              after = (node_step last is.store (input_of step.input)).state;
+            })
+            (subst (λ (l : List Step). RunsAgain l made run.answers.way)
+            (drop_next steps count step there) run.again)
+            (told_store last behind step taken is.store is.allowed is.answer);
         count_is = (let n = length-append takens (taken ∷ []) in omega (arith, n, run.count_is));
       }
 
 -- all steps are taken
-pub run_ends : {M : Type 0} (stands : NodeState → M → Type 0) (name : NodeId) (made : NodeState)
-    (steps : List Step) (takens : List Taken) (machine : M)
-    → IsRunTo stands name made steps (length steps) takens machine
-    → AnswersSo made (told_by name steps takens) (λ node. stands node machine)
-run_ends stands name made steps takens machine run =
+pub run_ends : {B M : Type 0} (making : B → NodeMaking) (stands : NodeState → M → Type 0)
+    (trace : Traced B) (takens : List Taken) (machine : M)
+    → IsRunTo stands (named (making trace.made)) (node_of (making trace.made)) trace.steps
+    (length trace.steps) takens machine
+    → IsReplayed making stands
+    (record { trace = trace; takens = takens; done = 0; machine = machine })
+run_ends making stands trace takens machine run =
     let all = run.answers in
+    let name = named (making trace.made) in
     record {
-      way = all.way;
-      goes = all.goes;
-      steps_are = all.steps_are ∙ ap (λ (l : List Step). told_steps (told_by name l takens))
-          (take-length steps);
-      takens_are = all.takens_are ∙ ap (λ (l : List Step). told_takens (told_by name l takens))
-          (take-length steps);
-      stands = all.stands.0;
+      answers = record {
+        way = all.way;
+        goes = all.goes;
+        steps_are = all.steps_are ∙ ap (λ (l : List Step). told_steps (told_by name l takens))
+            (take-length trace.steps);
+        takens_are = all.takens_are ∙ ap (λ (l : List Step). told_takens (told_by name l takens))
+            (take-length trace.steps);
+        stands = all.stands.0;
+      };
+      again = subst (λ (l : List Step). RunsAgain l (node_of (making trace.made)) all.way)
+          (drop-length trace.steps) run.again;
+      whole = run.count_is;
+      within = omega arith;
     }

@@ -3,14 +3,15 @@ use Rattle.std.proofs.Common.{◌≡◌, ◌≢◌, ◌⊎◌, ◌<◌, ◌+◌,
 use Rattle.std.proofs.Common.{suc, List, [], ◌∷◌, ◌++◌, length, take}
 use Rattle.std.proofs.Common.{map, Some, refl, sym, ap, ◌∙◌, subst, inl, inr, ⊎_elim, arith}
 use Rattle.std.proofs.Common.{append-nil, length-append}
-use Rattle.std.proofs.lemmas.List.{append_assoc}
+use Rattle.std.proofs.lemmas.List.{append_assoc, length-take-le}
 use Rattle.std.specs.Prelude.{slice_get, slice_set, sum_by, slice_index_or}
 use Rattle.std.proofs.lemmas.List.Sums.{sum_by-set, sum_by-cons}
 use Rattle.std.proofs.lemmas.Option.{get_or_from_slice_get, same_Some, slice_get_within}
 use Rattle.kx_audit.specs.Arrivals.{arrivals}
 use Rattle.kx_audit.specs.Joined.{AreApart, WasHandedOut}
 use Rattle.kx_audit.specs.Making.{NodeMaking}
-use Rattle.kx_audit.specs.Merged.{AreFresh, AreThere, IsMerging, IsThere, Merged, arrived_at}
+use Rattle.kx_audit.specs.Merged.{AreFresh, ArePlaced, AreThere, IsMerging, IsThere, Merged}
+use Rattle.kx_audit.specs.Merged.{arrived_at}
 use Rattle.kx_audit.specs.Merged.{lines_of, told_along, told_so_far, told_there}
 use Rattle.kx_audit.specs.Replayed.{AreReplayed, Progress, left, line_of, name_at, progressed}
 use Rattle.kx_audit.specs.Replayed.{IsReplayed, steps_of, traces_of, trails_of}
@@ -24,7 +25,7 @@ use Rattle.kx_nodes.specs.Replay.{Traced}
 use Rattle.kx_nodes.specs.declared.trace.Step.{Step}
 use Rattle.kx_audit.proofs.Along.{along_push, there_is}
 use Rattle.kx_audit.proofs.Auditing.{messages_push, order_push, told_push_other, told_push_own}
-use Rattle.kx_audit.proofs.Lines.{told_by_at}
+use Rattle.kx_audit.proofs.Lines.{told_by_at, told_by_length}
 use Rattle.kx_audit.proofs.Places.{get_more, to_map}
 use Rattle.kx_audit.proofs.Rerunning.{take_next}
 use Rattle.kx_audit.proofs.Sources.{trail_at}
@@ -80,6 +81,24 @@ module _ {B M : Type 0} where
       ∙ ap (λ n. length p.trace.steps + n) rest
       ∙ sym (sum_by-cons (λ (t : Traced B). length t.steps) p.trace (traces_of nodes))
 
+------ places
+
+placed_push : (before : List Told) (turns : List Turn) (told : List Told) (turn : Turn) (x : Told)
+    → ArePlaced before turns told → turn.step ≡ length (told_at x.node (before ++ told))
+    → ArePlaced before (turns ++ turn ∷ []) (told ++ x ∷ [])
+placed_push before [] [] turn x placed e = (
+  subst (λ (l : List Told). turn.step ≡ length (told_at x.node l)) (append-nil before) e,
+  tt,
+)
+placed_push before [] (y ∷ told) turn x placed e = absurd placed
+placed_push before (t ∷ turns) [] turn x placed e = absurd placed
+placed_push before (t ∷ turns) (y ∷ told) turn x placed e = (
+  placed.0,
+  placed_push (before ++ y ∷ []) turns told turn x placed.1
+      (subst (λ (l : List Told). turn.step ≡ length (told_at x.node l))
+      (sym (append_assoc before (y ∷ []) told)) e),
+)
+
 ------ the order goes on
 
 module _ {B M : Type 0} (making : B → NodeMaking) (stands : NodeState → M → Type 0) where
@@ -95,6 +114,7 @@ module _ {B M : Type 0} (making : B → NodeMaking) (stands : NodeState → M �
     sent_is = arrived ∙ sym (append-nil (arrived_at making clients nodes));
     no_others = λ j x at. absurd cc;
     turns_there = λ j turn at. absurd cc;
+    placed = tt;
     fits = λ k p at. ap (λ n. take n (line_of making p)) (sym (fresh k p at));
     replayed = replayed;
     apart = apart;
@@ -193,11 +213,21 @@ module _ {B M : Type 0} (making : B → NodeMaking) (stands : NodeState → M �
         (let r = is.replayed k p at in
         let lt = slice_get_within p.trace.steps p.done step there in record {
           answers = r.answers;
+          again = r.again;
           whole = r.whole;
           within = omega (arith, lt);
         }))
         (λ (t : (j ≢ k) × (slice_get m.nodes j ≡ Some q)). is.replayed j q t.1)
         (get_set m.nodes k (progressed p) j q qat)
+
+    -- so many of its node were before it
+    place_is : p.done ≡ length (told_at (name_at making p) (told_so_far making m))
+    place_is =
+        let lt = slice_get_within p.trace.steps p.done step there in
+        let all = told_by_length (name_at making p) p.trace.steps p.takens
+        (is.replayed k p at).whole in
+        sym (ap (λ (l : List Told). length l) (is.fits k p at)
+        ∙ length-take-le p.done (line_of making p) (omega (arith, lt, all)))
 
     pub merging_goes : Is then_merged
     merging_goes = record {
@@ -219,6 +249,8 @@ module _ {B M : Type 0} (making : B → NodeMaking) (stands : NodeState → M �
       apart = subst (λ (ts : List (Traced B)). AreApart (trails_of making ts)) (sym traces_are)
           is.apart;
       turns_there = there_then;
+      placed = subst (λ (l : List Told). ArePlaced [] then_merged.turns l) (sym told_is)
+          (placed_push [] m.turns (told_so_far making m) turn x is.placed place_is);
       count = (
           let f = fewer_set m.nodes k p at (slice_get_within p.trace.steps p.done step there) in
           let n = length-append (told_so_far making m) (x ∷ []) in

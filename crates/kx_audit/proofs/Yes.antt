@@ -4,10 +4,11 @@ use Rattle.std.proofs.Common.{◌∙◌, subst}
 use Rattle.std.specs.Prelude.{OnOk}
 use Rattle.kx_audit.specs.Arrivals.{requests_of}
 use Rattle.kx_audit.specs.Making.{NodeMaking, Trail, makings}
-use Rattle.kx_audit.specs.Merged.{AreDone, IsMerging, Merged, arrived_at, told_so_far}
+use Rattle.kx_audit.specs.Merged.{AreDone, ArePlaced, IsMerging, Merged, arrived_at, told_so_far}
 use Rattle.kx_audit.specs.Receipts.{AreDistinct, AreNamed, AreReceipts, IsOfStep}
 use Rattle.kx_audit.specs.Replayed.{machines_of, steps_of, traces_of, trails_of}
-use Rattle.kx_audit.specs.Run.{AreServersYes, IsFound, IsYes, Ran, StandsAt, open_events}
+use Rattle.kx_audit.specs.Rerun.{TakesAgain}
+use Rattle.kx_audit.specs.Run.{AreServersYes, AreTurns, IsFound, IsYes, Ran, StandsAt, open_events}
 use Rattle.kx_audit.specs.Schedule.{AllFit}
 use Rattle.kx_audit.specs.Told.{Told}
 use Rattle.kx_machine.specs.Meaning.{NodeState}
@@ -21,10 +22,11 @@ use Rattle.kx_pipeline.specs.OpenSystems.{IsOpenSystemSchedule, OpenSystemEvent,
 use Rattle.kx_pipeline.specs.Promises.{KeepsAll}
 use Rattle.kx_system.specs.System.{IsSystemSchedule, System, SystemEvent, run_system, start_system}
 use Rattle.kx_audit.proofs.Answering.{is_answered}
-use Rattle.kx_audit.proofs.Audited.{audited}
+use Rattle.kx_audit.proofs.Audited.{audited_by}
 use Rattle.kx_audit.proofs.Done.{all_answer, are_merged, are_turns, count_is}
 use Rattle.kx_audit.proofs.Naming.{of_steps}
 use Rattle.kx_audit.proofs.Requests.{open_fits, opens}
+use Rattle.kx_audit.proofs.Running.{runs_again}
 
 module _ {B M : Type 0} (making : B → NodeMaking) (stands : NodeState → M → Type 0)
     (m : Merged B M) (receipts : List Receipt) (is : IsMerging making stands m)
@@ -59,19 +61,24 @@ module _ {B M : Type 0} (making : B → NodeMaking) (stands : NodeState → M �
       → length receipts ≡ steps_of (traces_of m.nodes) → AreDistinct receipts
       → (s : System) × IsFound arrived making stands ran receipts s
   is_found fit named count distinct =
-      let all = audited arrived trails told (StandsAt stands (machines_of m.nodes)) fit
+      let all = audited_by TakesAgain arrived trails told (StandsAt stands (machines_of m.nodes)) fit
       (are_merged making stands m is done) (all_answer making stands m is done) in
-      let yes = all.1 in
+      let yes = all.audited in
+      let turns = are_turns making stands m is in
       let told_receipts = are_receipts named count distinct in (
-        all.0,
+        all.system,
         record {
           apart = is.apart;
           audited = yes;
-          turns = are_turns making stands m is;
+          turns = turns;
+          again = runs_again making (traces_of m.nodes) arrived yes.merged m.turns yes.events
+              all.system fit is.apart yes.is all.each
+              (subst (λ (xs : List Told). ArePlaced [] m.turns xs) (sym yes.told_is) is.placed)
+              (subst (λ (xs : List Told). AreTurns trails m.turns xs) (sym yes.told_is) turns);
           receipts = told_receipts;
           answered = λ j receipt at.
               let of = told_receipts.of_steps j receipt at in
-              is_answered arrived trails yes.merged yes.events all.0 receipt of.0 yes.is
+              is_answered arrived trails yes.merged yes.events all.system receipt of.0 yes.is
               (subst (λ (xs : List Told). IsOfStep xs receipt of.0) (sym yes.told_is) of.1);
         },
       )
@@ -92,6 +99,7 @@ module _ {B M : Type 0} (making : B → NodeMaking) (stands : NodeState → M �
           (keeps data_partitions (makings (trails_of making run.traces) ++ found.audited.events)
           found.audited.is.is_schedule);
       turns = found.turns;
+      again = found.again;
       receipts = found.receipts;
       answered = found.answered;
     }

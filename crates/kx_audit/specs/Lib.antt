@@ -13,3 +13,4 @@ pub mod Refused
 pub mod Origins
 pub mod Merged
 pub mod Run
+pub mod Rerun

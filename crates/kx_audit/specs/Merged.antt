@@ -35,6 +35,13 @@ IsThere lines turn = (x : Told) × (told_there lines turn ≡ x ∷ [])
 abbrev pub AreThere : List (List Told) → List Turn → Type 0
 AreThere lines turns = (j : ℕ) (turn : Turn) → slice_get turns j ≡ Some turn → IsThere lines turn
 
+-- a turn's place is that of the step among those of its node
+abbrev pub ArePlaced : List Told → List Turn → List Told → Type 0
+ArePlaced before [] [] = Unit {0}
+ArePlaced before (turn ∷ turns) (x ∷ told) =
+    (turn.step ≡ length (told_at x.node before)) × ArePlaced (before ++ x ∷ []) turns told
+ArePlaced before turns told = ⊥
+
 ------ how far it has come
 
 -- whose the clients are, the traces, the steps that are merged, and what had arrived and what these
@@ -98,4 +105,5 @@ module _ {B M : Type 0} (making : B → NodeMaking) where
     pub replayed : AreReplayed making stands m.nodes
     pub apart : AreApart (trails_of making (traces_of m.nodes))
     pub turns_there : AreThere (lines_of m.nodes) m.turns
+    pub placed : ArePlaced [] m.turns (told_so_far m)
     pub count : length (told_so_far m) + sum_by left m.nodes ≡ steps_of (traces_of m.nodes)

@@ -3,6 +3,7 @@ use Rattle.std.specs.Prelude.{◌≡◌, ℕ, ◌+◌, ◌-◌, ◌≤◌, List,
 use Rattle.std.specs.Prelude.{Some, take, drop}
 use Rattle.std.specs.List.{flat_map}
 use Rattle.kx_audit.specs.Making.{NodeMaking, Trail, named, node_of, trail_of}
+use Rattle.kx_audit.specs.Rerun.{RunsAgain}
 use Rattle.kx_audit.specs.Told.{AnswersSo, Told}
 use Rattle.kx_machine.specs.Meaning.{NodeState}
 use Rattle.kx_machine.specs.declared.taken.Taken.{Taken}
@@ -33,6 +34,7 @@ pub record IsRunTo {M : Type 0} (stands : NodeState → M → Type 0) (name : No
     : Type 0 where
   pub answers : AnswersSo made (told_by name (take count steps) takens)
       (λ node. stands node machine × RunsOn made (take count steps) (drop count steps) node)
+  pub again : RunsAgain (drop count steps) made answers.way
   pub count_is : length takens ≡ count
 
 -- all that was handed out with these answers
@@ -79,6 +81,7 @@ module _ {B : Type 0} (making : B → NodeMaking) where
       pub record IsReplayed (p : Progress B M) : Type 0 where
         pub answers : AnswersSo (node_of (making p.trace.made)) (line_of p)
             (λ node. stands node p.machine)
+        pub again : RunsAgain [] (node_of (making p.trace.made)) answers.way
         pub whole : length p.takens ≡ length p.trace.steps
         pub within : p.done ≤ length p.trace.steps
 

@@ -4,6 +4,7 @@ use Rattle.kx_audit.specs.Arrivals.{requests_of}
 use Rattle.kx_audit.specs.Audited.{IsAudited}
 use Rattle.kx_audit.specs.Joined.{AreApart}
 use Rattle.kx_audit.specs.Making.{NodeMaking, Trail, makings, named}
+use Rattle.kx_audit.specs.Rerun.{AllAgain}
 use Rattle.kx_audit.specs.Receipts.{AreReceipts, IsAnswered}
 use Rattle.kx_audit.specs.Replayed.{trails_of}
 use Rattle.kx_audit.specs.Schedule.{made_system}
@@ -58,7 +59,8 @@ pub record StandsAt {M : Type 0} (stands : NodeState → M → Type 0) (machines
 
 -- what an audit finds, where these messages had arrived from outside: no two traces are of one node;
 -- the steps of the traces are a schedule of the whole system, which led to the nodes for which the
--- machines stand; there is a receipt for each step, which is what the schedule answers
+-- machines stand, each step with the store that its trace tells; there is a receipt for each step,
+-- which is what the schedule answers
 pub record IsFound {B M : Type 0} (arrived : List Message) (making : B → NodeMaking)
     (stands : NodeState → M → Type 0) (run : Ran B M) (given : List Receipt) (s : System)
     : Type 0 where
@@ -66,13 +68,16 @@ pub record IsFound {B M : Type 0} (arrived : List Message) (making : B → NodeM
   pub audited : IsAudited arrived (trails_of making run.traces) run.told
       (StandsAt stands run.machines) s
   pub turns : AreTurns (trails_of making run.traces) run.turns run.told
+  pub again : AllAgain run.traces (made_system arrived (trails_of making run.traces)) run.turns
+      audited.merged audited.events
   pub receipts : AreReceipts run.told given
   pub answered : (j : ℕ) (receipt : Receipt) → slice_get given j ≡ Some receipt
       → IsAnswered (made_system arrived (trails_of making run.traces)) audited.events receipt
 
 -- an audit's yes: no two traces are of one node; the steps of the traces are a schedule of the whole
--- system, which led to the nodes for which the machines stand, and so keeps its promises; there is a
--- receipt for each step, which is what the schedule answers
+-- system, which led to the nodes for which the machines stand, and so keeps its promises, each step
+-- with the store that its trace tells; there is a receipt for each step, which is what the schedule
+-- answers
 pub record IsYes {B M : Type 0} (making : B → NodeMaking) (stands : NodeState → M → Type 0)
     (run : Ran B M) (given : List Receipt) (s : System) : Type 0 where
   pub apart : AreApart (trails_of making run.traces)
@@ -80,6 +85,8 @@ pub record IsYes {B M : Type 0} (making : B → NodeMaking) (stands : NodeState 
       (StandsAt stands run.machines) s
   pub promises : KeepsAll s
   pub turns : AreTurns (trails_of making run.traces) run.turns run.told
+  pub again : AllAgain run.traces (made_system [] (trails_of making run.traces)) run.turns
+      audited.merged audited.events
   pub receipts : AreReceipts run.told given
   pub answered : (j : ℕ) (receipt : Receipt) → slice_get given j ≡ Some receipt
       → IsAnswered (made_system [] (trails_of making run.traces)) audited.events receipt

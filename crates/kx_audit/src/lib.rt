@@ -15,7 +15,7 @@
 //! - What an auditor finds: `Telling` (steps in one order are joined where runs of the traces
 //!   answer so), `Auditing` (a run goes on by one step, and so does the order of all), `Audited`.
 //! - How it finds it: `Indexing` (messages by their frames), `Rerunning` (a trace that is run again
-//!   takes one more step), `Begun` (one trace after the other is run again), `Lines` (what a trace
+//!   takes one more step), `Storing` (with the store that its trace tells), `Begun` (one trace after the other is run again), `Lines` (what a trace
 //!   tells), `Places` (in lists), `Sources` (of traces), `Along` (turns, and the steps that they
 //!   are of), `Turning` (one more step of all), `Done` (all of them are merged), `Stuck` (not all
 //!   of them can be).
@@ -24,6 +24,7 @@
 //!   are of no step).
 //! - Receipts: `Keys` (a trace is found by its node's name), `Naming` (the step of a receipt),
 //!   `Counting` (how many steps there are), `Seeing` (no two receipts are of one).
+//! - `Running`: each step is an event whose store its trace tells.
 //! - `Requests` (those that arrive from outside, as an open schedule has them), `Yes`: all that an
 //!   audit's yes says.
 #![tactic(auto)]

@@ -1,6 +1,6 @@
 //! One trace that is run again, and how much of it is merged.
 ghost use Rattle.std.specs.Prelude.{◌≡◌, ◌<◌, ◌≤◌, length, slice_get, Some, IfSome, IfNone, IsTrue};
-ghost use Rattle.std.specs.Prelude.{◌↔◌, ◌+◌, IfOk, drop};
+ghost use Rattle.std.specs.Prelude.{◌↔◌, ◌+◌, IfOk, IsSomeAnd, MatchOption, None, drop};
 ghost use Rattle.kx_audit.specs.Making.{named};
 ghost use Rattle.kx_audit.specs.Merged.{AreBegun};
 ghost use Rattle.kx_audit.specs.Replayed.{IsBegun, IsReplayed, progressed};
@@ -9,7 +9,7 @@ ghost use Rattle.kx_nodes.specs.Again.{MayMeet, mode_for};
 
 use crate::mode::mode_for;
 use crate::remade::Remade;
-use kx_machine::{Machine, Taken};
+use kx_machine::{Machine, StoreMode, Taken};
 use kx_message::NodeId;
 use kx_nodes::{Step, Trace, traces_run_again};
 use std::alloc::{AllocError, Global};
@@ -146,6 +146,18 @@ impl<B: Remade> Replayer<B> {
         ensures none { IfNone result (length self.now.trace.steps ≤ place) }
     {
         self.trace.steps().get(place)
+    }
+
+    /// What the store did in the step at a place, if there is one.
+    pub(crate) fn mode(&self, place: usize) -> Option<StoreMode>
+        ensures { MatchOption result
+            (slice_get self.now.trace.steps place ≡ None)
+            (λ mode. IsSomeAnd (slice_get self.now.trace.steps place)
+            (λ step. mode ≡ mode_for step (drop (place + 1) self.now.trace.steps))) }
+    {
+        let steps = self.trace.steps();
+        let step = steps.get(place)?;
+        Some(mode_for(step, behind(steps, place)))
     }
 
     /// What the step at a place answered.

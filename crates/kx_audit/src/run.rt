@@ -3,13 +3,16 @@ ghost use Rattle.std.specs.Prelude.{◌≡◌, ◌≤◌, ℕ, length, slice_get
 ghost use Rattle.std.specs.Prelude.{IsSomeAnd, None, Some};
 ghost use Rattle.kx_audit.specs.Merged.{AreThere, lines_of, told_along};
 ghost use Rattle.kx_audit.specs.Replayed.{machines_of, traces_of};
+ghost use Rattle.kx_audit.specs.Rerun.{behind_at};
 ghost use Rattle.kx_audit.specs.Run.{step_at};
 ghost use Rattle.kx_audit.specs.Told.{Told};
+ghost use Rattle.kx_nodes.specs.Again.{mode_for};
+ghost use Rattle.kx_nodes.specs.declared.trace.Step.{Step};
 
 use crate::remade::Remade;
 use crate::replayer::Replayer;
 use crate::turn::Turn;
-use kx_machine::Taken;
+use kx_machine::{StoreMode, Taken};
 use kx_nodes::{Step, Trace};
 use std::marker::Model;
 
@@ -92,6 +95,15 @@ impl<B: Remade> Run<B> {
             (λ step. step_at self.now.traces turn ≡ Some step.now) }
     {
         self.nodes.get(turn.trace)?.step(turn.step)
+    }
+
+    /// What the store was told to do in the step at a place of a trace, when the trace was run
+    /// again.
+    pub fn mode(&self, turn: Turn) -> Option<StoreMode>
+        ensures { (step : Step) → step_at self.now.traces turn ≡ Some step
+            → IsSomeAnd result (λ mode. mode ≡ mode_for step (behind_at self.now.traces turn)) }
+    {
+        self.nodes.get(turn.trace)?.mode(turn.step)
     }
 
     /// What the step at a place of a trace answered, as the order tells it.

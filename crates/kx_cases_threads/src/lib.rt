@@ -7,6 +7,7 @@ pub use served::try_served;
 mod audits;
 mod gate;
 mod nodes;
+mod rerun;
 mod served;
 mod serving;
 mod turns;

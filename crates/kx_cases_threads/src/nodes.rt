@@ -1,17 +1,14 @@
 //! The nodes of a served script, and what its lines hand to them.
 use kx_cases::StepFault;
 use kx_cluster::{AnyMaking, LocalNode, local_node};
-use kx_core::PartitionCount;
-use kx_machine::{Input, Machine, Making};
-use kx_message::{NodeId, PartitionId, Timeout};
+use kx_core::{Event, PartitionCount};
+use kx_machine::{Machine, Making};
+use kx_message::{ClientId, NodeId, PartitionId, Timeout};
 use kx_nodes::{Made, Node, ProcessorMaking, Trace, Traced};
 use kx_processor::Prefixed;
-use kx_script::{Happening, Order, command_of, values_of};
+use kx_script::{Running, event_in, world_in};
 use std::alloc::{AllocError, Global};
 use std::sync::Arc;
-
-// How long a client's transactions may stay open, in milliseconds.
-const TIMEOUT: u32 = 60_000;
 
 /// A node of a served script.
 pub(crate) type Served = LocalNode<Prefixed>;
@@ -66,71 +63,139 @@ pub(crate) fn add_twin(
     }
 }
 
-// A client or a processor that a line makes.
+// A client or a processor that an event makes.
 fn add_client(
     alloc: Global,
     nodes: &mut Vec<Arc<Served>>,
-    what: Happening<'_>,
+    event: &Event<Prefixed>,
 ) -> Result<(), StepFault> {
-    let timeout = Timeout::try_from(TIMEOUT).map_err(|_| StepFault::Unknown)?;
-    match what {
-        Happening::Client(number, txn) => Ok(add_plain(
+    match event {
+        Event::Make {
+            client,
+            txn,
+            timeout,
+        } => Ok(add_plain(
             alloc,
             nodes,
             Making::Client {
-                number,
-                txn,
-                timeout,
+                number: *client,
+                txn: *txn,
+                timeout: *timeout,
             },
         )?),
-        Happening::Processor(number, txn, group, inputs) => Ok(add(
+        Event::MakeProcessor {
+            client,
+            txn,
+            timeout,
+            group,
+            inputs,
+            process,
+        } => Ok(add(
             alloc,
             nodes,
             AnyMaking::Processor(ProcessorMaking {
-                number,
-                txn,
-                timeout,
-                group,
-                inputs,
-                process: Prefixed::new(alloc),
+                number: *client,
+                txn: *txn,
+                timeout: *timeout,
+                group: *group,
+                inputs: *inputs,
+                process: *process,
             }),
         )?),
         _ => Err(StepFault::Unknown),
     }
 }
 
-/// The nodes that a line makes.
-pub(crate) fn add_nodes(
+/// The event that a line is.
+pub(crate) fn event_of(
     alloc: Global,
-    nodes: &mut Vec<Arc<Served>>,
-    order: Order<'_>,
-) -> Result<(), StepFault> {
-    match order {
-        Order::World(count) => add_world(alloc, nodes, count),
-        Order::Happen(what) => add_client(alloc, nodes, what),
-        _ => Err(StepFault::Unknown),
+    running: &Running,
+    line: &str,
+) -> Result<Event<Prefixed>, StepFault> {
+    match event_in(alloc, running, line.as_bytes()) {
+        Some(Ok(read)) => Ok(read.event),
+        Some(Err(refused)) => Err(StepFault::Memory(refused)),
+        None => Err(StepFault::Unknown),
     }
 }
 
-/// Which node a line hands what.
-pub(crate) fn input_of(alloc: Global, what: Happening<'_>) -> Result<(NodeId, Input), StepFault> {
-    match what {
-        Happening::Tell(number, task) => {
-            let command = command_of(alloc, task)?;
-            Ok((NodeId::Client(number), Input::Command(command)))
-        }
-        Happening::Put(partition, batch) => {
-            let values = values_of(alloc, batch)?;
-            Ok((NodeId::Partition(partition), Input::Put(values)))
-        }
-        Happening::Expire(now) => Ok((NodeId::Coordinator, Input::Expire(now))),
-        Happening::Remind => Ok((NodeId::Coordinator, Input::Remind)),
-        Happening::Drop(group, member) => Ok((
-            NodeId::Partition(PartitionId::OFFSETS),
-            Input::Drop(group, member),
-        )),
-        _ => Err(StepFault::Unknown),
+// The nodes of the line `world P`, and the world in which the lines after it are read.
+fn begin(
+    alloc: Global,
+    nodes: &mut Vec<Arc<Served>>,
+    running: &mut Option<Running>,
+    line: &str,
+) -> Result<(), StepFault> {
+    let Some(count) = world_in(line.as_bytes()) else {
+        return Err(StepFault::Unknown);
+    };
+    add_world(alloc, nodes, count)?;
+    *running = Some(Running::new(alloc, count)?);
+    Ok(())
+}
+
+// The client that a line makes. Its world has none yet, so that their numbers may come in any order.
+fn add_made(
+    alloc: Global,
+    nodes: &mut Vec<Arc<Served>>,
+    running: &Running,
+    line: &str,
+) -> Result<(), StepFault> {
+    let event = event_of(alloc, running, line)?;
+    add_client(alloc, nodes, &event)
+}
+
+/// The nodes that a line makes: the first makes a world, and each other one a client of it.
+pub(crate) fn add_nodes(
+    alloc: Global,
+    nodes: &mut Vec<Arc<Served>>,
+    running: &mut Option<Running>,
+    line: &str,
+) -> Result<(), StepFault> {
+    match running {
+        Some(running) => add_made(alloc, nodes, running, line),
+        None => begin(alloc, nodes, running, line),
     }
+}
+
+// The numbers of the clients among these nodes, from the least on.
+fn clients_of(alloc: Global, nodes: &[Arc<Served>]) -> Result<Vec<u32>, StepFault> {
+    let mut numbers = Vec::new(alloc);
+    for node in nodes {
+        if let NodeId::Client(number) = node.name() {
+            numbers.push(number.get())?;
+        }
+    }
+    numbers.sort()?;
+    Ok(numbers)
+}
+
+// A client is made in the world, of which lines need the number alone.
+fn make_client(running: &mut Running, number: u32) -> Result<(), StepFault> {
+    let event = Event::Make {
+        client: ClientId::from(number),
+        txn: None,
+        timeout: Timeout::try_from(1).map_err(|_| StepFault::Unknown)?,
+    };
+    let made = running.world.happen(&event);
+    drop(event);
+    let _happened = made?;
+    Ok(())
+}
+
+/// Makes a client in the world for each among these nodes, so that lines may name it.
+pub(crate) fn make_clients(
+    alloc: Global,
+    nodes: &[Arc<Served>],
+    running: &mut Option<Running>,
+) -> Result<(), StepFault> {
+    let Some(running) = running else {
+        return Err(StepFault::Unknown);
+    };
+    for number in clients_of(alloc, nodes)? {
+        make_client(running, number)?;
+    }
+    Ok(())
 }
 
 // The trace of a node that nobody else has any more.

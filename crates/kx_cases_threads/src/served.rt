@@ -14,29 +14,33 @@
 //!   what one finds of servers alone, whose clients are outside; `turns`, which tells the steps in
 //!   the order into which it put them, each as `NODE PLACE INPUT > RECEIVER MESSAGE ..`, a message
 //!   by its text, any other input by the first word of its line, and after them what was answered
-//!   beside messages; and `committed P`, which tells how many committed records a data partition
-//!   then has.
+//!   beside messages; `rerun`, which tells how many events the run is, and of each node the end of
+//!   its log and whether a world in which these happen again has it too; and `committed P`, which
+//!   tells how many committed records a data partition then has.
 ghost use Rattle.std.specs.Prelude.{◌≡◌, ◌≤◌, IfOk};
 
 use crate::audits::{Audited, Found, committed, double, exchange, judge, leave_out, node_named};
-use crate::nodes::{Served, add_nodes, add_twin, traces_of};
+use crate::nodes::{Served, add_nodes, add_twin, make_clients, traces_of};
+use crate::rerun::tell_rerun;
 use crate::serving::{Shift, serve};
 use crate::turns::tell_turns;
 use kx_cases::{Script, StepFault, Tally, judge_script, value};
 use kx_message::PartitionId;
 use kx_nodes::Receipt;
-use kx_script::order_in;
+use kx_script::Running;
 use std::alloc::{AllocError, Global};
 use std::rt::Files;
 use std::sync::{Arc, Wait};
 use std::thread::Threads;
 use std::{io, mem};
 
-// A run: its nodes, the receipts of its steps and those of the run before, and what is told.
+// A run: its nodes, the world in which its lines are read, the receipts of its steps and those of
+// the run before, and what is told.
 #[derive(Drop)]
 struct Session {
     alloc: Global,
     nodes: Vec<Arc<Served>>,
+    running: Option<Running>,
     receipts: Vec<Receipt>,
     earlier: Vec<Receipt>,
     found: Option<Found>,
@@ -66,6 +70,7 @@ impl Session {
         Session {
             alloc,
             nodes: Vec::new(alloc),
+            running: None,
             receipts: Vec::new(alloc),
             earlier: Vec::new(alloc),
             found: None,
@@ -79,10 +84,7 @@ impl Session {
             let name = node_named(name).ok_or(StepFault::Unknown)?;
             return add_twin(self.alloc, &mut self.nodes, name);
         }
-        let Some(order) = order_in(line.as_bytes()) else {
-            return Err(StepFault::Unknown);
-        };
-        add_nodes(self.alloc, &mut self.nodes, order)
+        add_nodes(self.alloc, &mut self.nodes, &mut self.running, line)
     }
 
     // Audits what was done.
@@ -98,6 +100,12 @@ impl Session {
     fn tell_turns(&mut self) -> Result<(), StepFault> {
         let run = self.found.as_ref().ok_or(StepFault::Unknown)?;
         tell_turns(&mut self.told, run)
+    }
+
+    // Tells of the world in which the run's events happen again.
+    fn tell_rerun(&mut self) -> Result<(), StepFault> {
+        let run = self.found.as_ref().ok_or(StepFault::Unknown)?;
+        tell_rerun(self.alloc, &mut self.told, run)
     }
 
     // Tells how many committed records a partition has.
@@ -132,6 +140,7 @@ impl Session {
             ["audit"] => self.audit(Audited::All),
             ["audit_servers"] => self.audit(Audited::Servers),
             ["turns"] => self.tell_turns(),
+            ["rerun"] => self.tell_rerun(),
             ["committed", partition] => self.tell_committed(partition),
             _ => Err(StepFault::Unknown),
         }
@@ -153,7 +162,9 @@ impl Session {
         }
         let words: Vec<&str> = shift.split(' ').collect(self.alloc)?;
         let shift = shift_of(words.as_slice())?;
-        let receipts = serve(rt, self.alloc, self.nodes.as_slice(), shift, lines)?;
+        make_clients(self.alloc, self.nodes.as_slice(), &mut self.running)?;
+        let running = self.running.as_ref().ok_or(StepFault::Unknown)?;
+        let receipts = serve(rt, self.alloc, self.nodes.as_slice(), running, shift, lines)?;
         drop(mem::replace(&mut self.receipts, receipts));
         for line in behind.lines() {
             self.look(line)?;
@@ -166,6 +177,7 @@ impl Session {
         let receipts = mem::replace(&mut self.receipts, Vec::new(self.alloc));
         drop(mem::replace(&mut self.earlier, receipts));
         drop(mem::replace(&mut self.nodes, Vec::new(self.alloc)));
+        drop(self.running.take());
         drop(self.found.take());
     }
 }

@@ -1,11 +1,12 @@
 //! The lines that are carried out while workers run.
 use crate::gate::Hold;
-use crate::nodes::input_of;
+use crate::nodes::event_of;
 use kx_cases::{StepFault, Texts};
+use kx_core::Event;
 use kx_machine::Input;
 use kx_message::NodeId;
 use kx_nodes::{Locked, Node, Receipt, Workers};
-use kx_script::{Order, order_in};
+use kx_script::Running;
 use kx_wire::Frames;
 use std::alloc::{AllocError, Global};
 use std::sync::atomic::Ordering;
@@ -28,7 +29,7 @@ fn place_of<L: Locked>(nodes: &[Arc<Node<L>>], name: NodeId) -> Result<usize, St
         .ok_or(StepFault::Unknown)
 }
 
-// Hands a node an input.
+// Hands a node an input, by which it isn't opened again.
 fn hand<L: Locked + Send + Sync + 'static, R: Threads + Wait + Copy + Send + 'static>(
     workers: &Workers<L, Hold, R>,
     nodes: &[Arc<Node<L>>],
@@ -36,7 +37,7 @@ fn hand<L: Locked + Send + Sync + 'static, R: Threads + Wait + Copy + Send + 'st
     input: Input,
 ) -> Result<(), StepFault> {
     let place = place_of(nodes, name)?;
-    if place >= workers.served() {
+    if place >= workers.served() || matches!(input, Input::Restart(_)) {
         return Err(StepFault::Unknown);
     }
     let _ticket = workers
@@ -66,6 +67,7 @@ fn carry_out<L: Locked + Send + Sync + 'static, R: Threads + Wait + Copy + Send 
     alloc: Global,
     workers: &Workers<L, Hold, R>,
     nodes: &[Arc<Node<L>>],
+    running: &Running,
     line: &str,
 ) -> Result<(), StepFault> {
     if line == "settle" {
@@ -76,11 +78,10 @@ fn carry_out<L: Locked + Send + Sync + 'static, R: Threads + Wait + Copy + Send 
         let bytes = Texts::new(alloc).bytes(bytes)?;
         return bring(alloc, workers, nodes, bytes.as_slice());
     }
-    let Some(Order::Happen(what)) = order_in(line.as_bytes()) else {
-        return Err(StepFault::Unknown);
-    };
-    let (name, input) = input_of(alloc, what)?;
-    hand(workers, nodes, name, input)
+    match event_of(alloc, running, line)? {
+        Event::Hand { to, input, .. } => hand(workers, nodes, to, input),
+        _ => Err(StepFault::Unknown),
+    }
 }
 
 // Carries out all lines.
@@ -88,21 +89,24 @@ fn carry_all<L: Locked + Send + Sync + 'static, R: Threads + Wait + Copy + Send 
     alloc: Global,
     workers: &Workers<L, Hold, R>,
     nodes: &[Arc<Node<L>>],
+    running: &Running,
     lines: &str,
 ) -> Result<(), StepFault> {
     for line in lines.lines() {
         if !line.starts_with('#') {
-            carry_out(alloc, workers, nodes, line)?;
+            carry_out(alloc, workers, nodes, running, line)?;
         }
     }
     Ok(())
 }
 
-/// Serves these nodes while lines are carried out, and gives the receipts of all steps.
+/// Serves these nodes while lines are carried out, each read in the world of the script, and gives
+/// the receipts of all steps.
 pub(crate) fn serve<L: Locked + Send + Sync + 'static, R: Threads + Wait + Copy + Send + 'static>(
     rt: R,
     alloc: Global,
     nodes: &[Arc<Node<L>>],
+    running: &Running,
     shift: Shift,
     lines: &str,
 ) -> Result<Vec<Receipt>, StepFault> {
@@ -115,7 +119,7 @@ pub(crate) fn serve<L: Locked + Send + Sync + 'static, R: Threads + Wait + Copy 
     }
     let (gate, late) = Hold::new(alloc, shift.held, shift.until)?;
     let workers = Workers::start(rt, alloc, theirs, shift.count, gate)?;
-    let done = carry_all(alloc, &workers, nodes, lines);
+    let done = carry_all(alloc, &workers, nodes, running, lines);
     let ended = workers.end();
     done?;
     if late.load(Ordering::SeqCst) {

@@ -3,7 +3,7 @@ use Rattle.std.specs.Prelude.{slice_get}
 use Rattle.std.proofs.lemmas.Option.{slice_get_read}
 use Rattle.kx_audit.specs.Making.{named, node_of}
 use Rattle.kx_nodes.specs.declared.trace.Step.{Step}
-use Rattle.kx_audit.proofs.Rerunning.{run_more, run_ends, run_starts}
+use Rattle.kx_audit.proofs.Rerunning.{run_ends, run_more, run_starts}
 use Rattle.kx_audit.proofs.replayer.Replayer.new.Goals as goal
 
 pub loop-place-preserved : goal.loop-place-preserved
@@ -39,14 +39,18 @@ loop-place-init g c =
 
 pub invariant_of-result : goal.invariant_of-result
 invariant_of-result g c =
-    let making = g.B.Tells.making c.args.trace.made in
-    let steps = c.args.trace.steps in
-    let last : c.loop-place.place ≡ length steps =
+    let last : c.loop-place.place ≡ length c.args.trace.steps =
     (let n = ap (λ (l : List Step). length l) c.steps-steps.ensures.value in omega (arith, n)) in
-    let run = rw last at c.loop-place.invariant in
+    run_ends g.B.Tells.making g.B.Machine.Machine.stands c.args.trace c.loop-place.takens.items
+    c.loop-place.machine (rw last at c.loop-place.invariant)
+
+pub returns : goal.returns
+returns g c =
+    let last : c.loop-place.place ≡ length c.args.trace.steps =
+    (let n = ap (λ (l : List Step). length l) c.steps-steps.ensures.value in omega (arith, n)) in
     record {
-      answers = run_ends g.B.Machine.Machine.stands (named making) (node_of making) steps
-          c.loop-place.takens.items c.loop-place.machine run;
-      whole = run.count_is;
-      within = omega arith;
+      trace_is = refl;
+      done_is = refl;
+      replayed = run_ends g.B.Tells.making g.B.Machine.Machine.stands c.args.trace
+          c.loop-place.takens.items c.loop-place.machine (rw last at c.loop-place.invariant);
     }
