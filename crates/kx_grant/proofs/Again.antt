@@ -5,14 +5,16 @@ use Rattle.std.specs.Prelude.{Option, ◌&&◌, unwrap_or}
 use Rattle.std.proofs.Math.Nat.{mod-lt}
 use Rattle.std.proofs.lemmas.Bool.{eqb-true}
 use Rattle.std.proofs.lemmas.Bool.Decides.{Decides-eqb}
+use Rattle.kx_message.specs.declared.code.ErrorCode.{ErrorCode}
 use Rattle.kx_message.specs.Ranges.{data_partitions, offsets_partition}
 use Rattle.kx_message.specs.declared.message.Held.{Held}
 use Rattle.kx_message.specs.declared.outcome.Outcome.{Outcome}
 use Rattle.kx_grant.specs.Sequences.{IsSequence, after, sequence_in, sequences, since}
+use Rattle.kx_grant.specs.Grant.{commit_code, committing}
 use Rattle.kx_grant.specs.Grant.{after_verdict, at, batch_verdict, begun_at, counted, counts, ended}
 use Rattle.kx_grant.specs.Grant.{ended_empty, gone_on, is_held, listed_at, listing, next_at, noted}
 use Rattle.kx_grant.specs.Grant.{stopped, stopped_at, with_at, with_sent}
-use Rattle.kx_grant.specs.Steps.{Step, Adds, Batches, Takes, Refuses, Ends, Goes, Regrants}
+use Rattle.kx_grant.specs.Steps.{Step, Adds, Batches, Takes, Refuses, Ends, Commits, Goes, Regrants}
 use Rattle.kx_grant.specs.Steps.{after_all, after_step, all_keep_grant, all_records_in, keeps_grant}
 use Rattle.kx_grant.specs.Steps.{records_in}
 use Rattle.kx_grant.specs.declared.grant.Grant.{Grant}
@@ -274,6 +276,18 @@ module _ (p first : ℕ) (fits : IsSequence first) where
   empty_past total (phase.Ended last) g outcome w = w
   empty_past total (phase.Decided last) g outcome w = w
 
+  committed_past : (total : ℕ) (refusal : Option ErrorCode) (g : Grant) → In total g
+      → In total (committing refusal g)
+  committed_past total None g w = record {
+    next = w.next;
+    next_is = w.next_is;
+    in_range = w.in_range;
+    some = w.some;
+    counted = w.counted;
+    listed = w.listed;
+  }
+  committed_past total (Some code) g w = w
+
   plus_none : (total : ℕ) (g : Grant) → In total g → In (total + 0) g
   plus_none total g w =
       let still : total ≡ total + 0 = omega arith in subst (λ (k : ℕ). In k g) still w
@@ -300,6 +314,9 @@ module _ (p first : ℕ) (fits : IsSequence first) where
       plus_none total (after_step g (Ends held outcome))
       (either total (is_held g.granted held) (ended_empty g.phase outcome g) g
       (empty_past total g.phase g outcome w) w)
+  stepped total g (Commits held) e room w =
+      plus_none total (after_step g (Commits held))
+      (committed_past total (commit_code g held) g w)
   stepped total g (Goes outcome next) e room w =
       plus_none total (ended outcome next g) (ended_past total g outcome next w)
   stepped total g (Regrants asked held) e room w = absurd cc

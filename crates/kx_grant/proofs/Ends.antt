@@ -1,12 +1,14 @@
 -- By which steps a grant comes to remember an outcome.
 use Rattle.std.proofs.Common.{◌≡◌, ◌⊎◌, ℕ, Bool, true, false, cond, refl, inl, inr, Some, None}
 use Rattle.std.specs.Prelude.{Option}
+use Rattle.kx_message.specs.declared.code.ErrorCode.{ErrorCode}
 use Rattle.kx_message.specs.declared.message.Held.{Held}
 use Rattle.kx_message.specs.declared.outcome.Outcome.{Outcome}
 use Rattle.kx_grant.specs.Sequences.{sequence_in}
+use Rattle.kx_grant.specs.Grant.{commit_code, committing}
 use Rattle.kx_grant.specs.Grant.{after_verdict, batch_verdict, counts, ended_empty, gone_on, with_sent}
 use Rattle.kx_grant.specs.Grant.{is_held, noted, opened, stopped_at}
-use Rattle.kx_grant.specs.Steps.{Step, Adds, Batches, Takes, Refuses, Ends, Goes, Regrants}
+use Rattle.kx_grant.specs.Steps.{Step, Adds, Batches, Takes, Refuses, Ends, Commits, Goes, Regrants}
 use Rattle.kx_grant.specs.Steps.{EndsSo, after_step}
 use Rattle.kx_grant.specs.declared.grant.Grant.{Grant}
 use Rattle.kx_grant.specs.declared.grant.Phase.{Phase}
@@ -35,6 +37,11 @@ never_with_sent : (g : Grant) (q : ℕ) (first : Option ℕ) (outcome : Outcome)
     → (with_sent g q first).phase ≡ phase.Ended outcome → g.phase ≡ phase.Ended outcome
 never_with_sent g q None outcome e = e
 never_with_sent g q (Some first) outcome e = absurd cc
+
+never_committed : (refusal : Option ErrorCode) (g : Grant) (outcome : Outcome)
+    → (committing refusal g).phase ≡ phase.Ended outcome → g.phase ≡ phase.Ended outcome
+never_committed None g outcome e = absurd cc
+never_committed (Some code) g outcome e = e
 
 ended_so : (g : Grant) (held : Held) (f : Phase) (asked outcome : Outcome) → f ≡ g.phase
     → (ended_empty f asked g).phase ≡ phase.Ended outcome
@@ -72,6 +79,7 @@ remembered g (Ends held asked) outcome e =
     either ((g.phase ≡ phase.Ended outcome) ⊎ EndsSo g (Ends held asked) outcome)
     (phase.Ended outcome) (is_held g.granted held) (ended_empty g.phase asked g) g
     (λ x. ended_so g held g.phase asked outcome refl x) (λ x. inl x) e
+remembered g (Commits held) outcome e = inl (never_committed (commit_code g held) g outcome e)
 remembered g (Goes decided next) outcome e =
     let same : phase.Ended decided ≡ phase.Ended outcome = e in
     let one : decided ≡ outcome = cc in
@@ -90,6 +98,11 @@ with_sent_read : (g : Grant) (q : ℕ) (first : Option ℕ) (outcome : Outcome)
     → (with_sent g q first).phase ≡ phase.Decided outcome → g.phase ≡ phase.Decided outcome
 with_sent_read g q None outcome e = e
 with_sent_read g q (Some first) outcome e = absurd cc
+
+committed_read : (refusal : Option ErrorCode) (g : Grant) (outcome : Outcome)
+    → (committing refusal g).phase ≡ phase.Decided outcome → g.phase ≡ phase.Decided outcome
+committed_read None g outcome e = absurd cc
+committed_read (Some code) g outcome e = e
 
 ended_read : (g : Grant) (f : Phase) (asked outcome : Outcome)
     → (ended_empty f asked g).phase ≡ phase.Decided outcome → g.phase ≡ phase.Decided outcome
@@ -118,6 +131,7 @@ read g (Refuses held q first count) outcome e =
 read g (Ends held asked) outcome e =
     either (g.phase ≡ phase.Decided outcome) (phase.Decided outcome) (is_held g.granted held)
     (ended_empty g.phase asked g) g (λ x. ended_read g g.phase asked outcome x) (λ x. x) e
+read g (Commits held) outcome e = committed_read (commit_code g held) g outcome e
 read g (Goes decided next) outcome e =
     let never : phase.Ended decided ≡ phase.Decided outcome = e in absurd cc
 read g (Regrants asked held) outcome e =

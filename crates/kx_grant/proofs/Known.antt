@@ -5,14 +5,16 @@ use Rattle.std.proofs.Common.{inr, Some, None, arith}
 use Rattle.std.specs.Prelude.{Option, unwrap_or}
 use Rattle.std.proofs.lemmas.List.{get_or-replicate, get_or-set_same, length-replicate, length-set}
 use Rattle.std.proofs.Math.Nat.{mod-lt}
+use Rattle.kx_message.specs.declared.code.ErrorCode.{ErrorCode}
 use Rattle.kx_message.specs.Ranges.{data_partitions, offsets_partition}
 use Rattle.kx_message.specs.declared.message.Held.{Held}
 use Rattle.kx_message.specs.declared.outcome.Outcome.{Outcome}
 use Rattle.kx_grant.specs.Sequences.{IsSequence, after, sequence_in, sequences}
+use Rattle.kx_grant.specs.Grant.{commit_code, committing}
 use Rattle.kx_grant.specs.Grant.{after_verdict, at, batch_verdict, begun, begun_at, counted, counts}
 use Rattle.kx_grant.specs.Grant.{ended, ended_empty, gone_on, with_sent, is_held, listed_at, listing}
 use Rattle.kx_grant.specs.Grant.{next_at, noted, reopened, stopped, stopped_at, with_at}
-use Rattle.kx_grant.specs.Steps.{Step, Adds, Batches, Takes, Refuses, Ends, Goes, Regrants}
+use Rattle.kx_grant.specs.Steps.{Step, Adds, Batches, Takes, Refuses, Ends, Commits, Goes, Regrants}
 use Rattle.kx_grant.specs.Steps.{Fits, IsGrant, after_step}
 use Rattle.kx_grant.specs.declared.grant.Grant.{Grant}
 use Rattle.kx_grant.specs.declared.grant.LastRow.{LastRow}
@@ -191,6 +193,10 @@ empty_is phase.Resumed g outcome k = k
 empty_is (phase.Ended last) g outcome k = k
 empty_is (phase.Decided last) g outcome k = k
 
+committed_is : (refusal : Option ErrorCode) (g : Grant) → IsGrant g → IsGrant (committing refusal g)
+committed_is None g k = record { next = k.next; base = k.base }
+committed_is (Some code) g k = k
+
 pub step_is : (g : Grant) (s : Step) → IsGrant g → Fits s → IsGrant (after_step g s)
 step_is g (Adds held q) k f =
     either (is_held g.granted held) (noted q g) g (noted_is g q k) k
@@ -205,5 +211,6 @@ step_is g (Refuses held q first count) k f =
 step_is g (Ends held outcome) k f =
     either (is_held g.granted held) (ended_empty g.phase outcome g) g
     (empty_is g.phase g outcome k) k
+step_is g (Commits held) k f = committed_is (commit_code g held) g k
 step_is g (Goes outcome next) k f = ended_is outcome next g k
 step_is g (Regrants asked held) k f = begun_is (Some asked) held

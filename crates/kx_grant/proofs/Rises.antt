@@ -2,12 +2,14 @@
 use Rattle.std.proofs.Common.{◌≡◌, ◌≤◌, ◌<◌, ℕ, ℤ, Bool, true, false, cond, List, [], ◌∷◌, refl, ap}
 use Rattle.std.proofs.Common.{inl, inr, Some, None, arith}
 use Rattle.std.specs.Prelude.{Option, ◌&&◌}
+use Rattle.kx_message.specs.declared.code.ErrorCode.{ErrorCode}
 use Rattle.kx_message.specs.declared.message.Held.{Held}
 use Rattle.kx_message.specs.declared.outcome.Outcome.{Outcome}
 use Rattle.kx_grant.specs.Sequences.{sequence_in}
+use Rattle.kx_grant.specs.Grant.{commit_code, committing}
 use Rattle.kx_grant.specs.Grant.{after_verdict, batch_verdict, counts, ended_empty, gone_on, with_sent}
 use Rattle.kx_grant.specs.Grant.{is_held, noted, stopped_at}
-use Rattle.kx_grant.specs.Steps.{Step, Adds, Batches, Takes, Refuses, Ends, Goes, Regrants}
+use Rattle.kx_grant.specs.Steps.{Step, Adds, Batches, Takes, Refuses, Ends, Commits, Goes, Regrants}
 use Rattle.kx_grant.specs.Steps.{AllRaise, Raises, after_all, after_step, all_stay, rank, stays}
 use Rattle.kx_grant.specs.declared.grant.Grant.{Grant}
 use Rattle.kx_grant.specs.declared.grant.Phase.{Phase}
@@ -45,6 +47,10 @@ ended_same phase.Resumed g outcome = same g
 ended_same (phase.Ended last) g outcome = same g
 ended_same (phase.Decided last) g outcome = same g
 
+committed_same : (refusal : Option ErrorCode) (g : Grant) → SamePairs g (committing refusal g)
+committed_same None g = record { granted = refl; core = refl }
+committed_same (Some code) g = same g
+
 batched : (g : Grant) (held : Held) (q : ℕ) (first : ℤ) (count : ℕ)
     → SamePairs g (after_step g (Batches held q first count))
 batched g held q first count =
@@ -65,6 +71,7 @@ stepped g (Refuses held q first count) e =
 stepped g (Ends held outcome) e =
     either g (is_held g.granted held) (ended_empty g.phase outcome g) g
     (ended_same g.phase g outcome) (same g)
+stepped g (Commits held) e = committed_same (commit_code g held) g
 stepped g (Goes outcome next) e = absurd cc
 stepped g (Regrants asked held) e = absurd cc
 
@@ -80,6 +87,7 @@ goes g (Batches held q first count) e r = absurd cc
 goes g (Takes held q first count) e r = absurd cc
 goes g (Refuses held q first count) e r = absurd cc
 goes g (Ends held outcome) e r = absurd cc
+goes g (Commits held) e r = absurd cc
 goes g (Goes outcome next) e r = r
 goes g (Regrants asked held) e r = r
 
@@ -139,6 +147,7 @@ step_behind g (Batches held q first count) r h = still g (Batches held q first c
 step_behind g (Takes held q first count) r h = still g (Takes held q first count) refl h
 step_behind g (Refuses held q first count) r h = still g (Refuses held q first count) refl h
 step_behind g (Ends held outcome) r h = still g (Ends held outcome) refl h
+step_behind g (Commits held) r h = still g (Commits held) refl h
 
 pub behind : (steps : List Step) (g : Grant) → rank g.granted ≤ rank g.core → AllRaise g steps
     → rank (after_all g steps).granted ≤ rank (after_all g steps).core

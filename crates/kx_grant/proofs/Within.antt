@@ -2,13 +2,15 @@
 use Rattle.std.proofs.Common.{◌≡◌, ℕ, ℤ, Bool, true, false, cond, List, [], ◌∷◌, refl, ap}
 use Rattle.std.proofs.Common.{◌∙◌, subst, inl, inr, Some, None}
 use Rattle.std.specs.Prelude.{Option, unwrap_or, ◌&&◌}
+use Rattle.kx_message.specs.declared.code.ErrorCode.{ErrorCode}
 use Rattle.kx_message.specs.declared.message.Held.{Held}
 use Rattle.kx_message.specs.declared.outcome.Outcome.{Outcome}
 use Rattle.kx_grant.specs.Sequences.{sequence_in}
+use Rattle.kx_grant.specs.Grant.{commit_code, committing}
 use Rattle.kx_grant.specs.Grant.{after_verdict, at, batch_verdict, begun_at, counts, ended_empty}
 use Rattle.kx_grant.specs.Grant.{gone_on, with_sent, is_held, listing, next_at, noted, opened, stopped}
 use Rattle.kx_grant.specs.Grant.{stopped_at, with_at}
-use Rattle.kx_grant.specs.Steps.{Step, Adds, Batches, Takes, Refuses, Ends, Goes, Regrants}
+use Rattle.kx_grant.specs.Steps.{Step, Adds, Batches, Takes, Refuses, Ends, Commits, Goes, Regrants}
 use Rattle.kx_grant.specs.Steps.{after_all, after_step, all_stay, stays}
 use Rattle.kx_grant.specs.declared.grant.Grant.{Grant}
 use Rattle.kx_grant.specs.declared.grant.Listed.{Listed}
@@ -138,6 +140,15 @@ module _ (granted core : Held) (p base : ℕ) where
   ended_in (phase.Ended last) g outcome e w = w
   ended_in (phase.Decided last) g outcome e w = w
 
+  committed_in : (refusal : Option ErrorCode) (g : Grant) → In g → In (committing refusal g)
+  committed_in None g w = record {
+    granted_is = w.granted_is;
+    core_is = w.core_is;
+    phase_is = refl;
+    has = w.has;
+  }
+  committed_in (Some code) g w = w
+
   stepped : (g : Grant) (s : Step) → stays s ≡ true → In g → In (after_step g s)
   stepped g (Adds held q) e w =
       either In (is_held g.granted held) (noted q g) g (noted_in g q w) w
@@ -152,6 +163,7 @@ module _ (granted core : Held) (p base : ℕ) where
   stepped g (Ends held outcome) e w =
       either In (is_held g.granted held) (ended_empty g.phase outcome g) g
       (ended_in g.phase g outcome w.phase_is w) w
+  stepped g (Commits held) e w = committed_in (commit_code g held) g w
   stepped g (Goes outcome next) e w = absurd cc
   stepped g (Regrants asked held) e w = absurd cc
 

@@ -218,6 +218,28 @@ abbrev pub after_refused : Grant → Held → ℕ → ℤ → ℕ → Grant
 after_refused g held partition first count =
     if counts g held partition first then stopped_at (gone_on g partition count) partition else g
 
+------ TxnOffsetCommit
+
+-- where offsets aren't sent to the core: a transaction from before a restart is to be aborted
+abbrev pub offsets_code : Phase → Option ErrorCode
+offsets_code phase.Empty = None
+offsets_code phase.Sent = None
+offsets_code phase.Resumed = Some code.UnknownMemberId
+offsets_code (phase.Ended outcome) = Some code.InvalidTxnState
+offsets_code (phase.Decided outcome) = Some code.InvalidTxnState
+
+abbrev pub commit_code : Grant → Held → Option ErrorCode
+commit_code g held =
+    if is_held g.granted held then offsets_code g.phase else Some code.InvalidProducerEpoch
+
+-- offsets are sent to the core in the transaction
+abbrev pub committing : Option ErrorCode → Grant → Grant
+committing None g = record g { phase = phase.Sent }
+committing (Some code) g = g
+
+abbrev pub after_commit : Grant → Held → Grant
+after_commit g held = committing (commit_code g held) g
+
 ------ EndTxn
 
 abbrev pub same_outcome : Outcome → Outcome → Bool

@@ -3,3 +3,4 @@ pub mod Grant
 pub mod Steps
 pub mod Codes
 pub mod Heard
+pub mod Producer

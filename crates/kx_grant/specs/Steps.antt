@@ -4,8 +4,8 @@ use Rattle.std.specs.Prelude.{◌==◌, if◌then◌else◌}
 use Rattle.kx_message.specs.declared.message.Held.{Held}
 use Rattle.kx_message.specs.declared.outcome.Outcome.{Outcome}
 use Rattle.kx_grant.specs.Sequences.{IsSequence, sequence_in}
-use Rattle.kx_grant.specs.Grant.{after_add, after_batch, after_end, after_refused, after_taken}
-use Rattle.kx_grant.specs.Grant.{begun, counts, ended, listed_at, next_at}
+use Rattle.kx_grant.specs.Grant.{after_add, after_batch, after_commit, after_end, after_refused}
+use Rattle.kx_grant.specs.Grant.{after_taken, begun, counts, ended, listed_at, next_at}
 use Rattle.kx_grant.specs.declared.grant.Grant.{Grant}
 use Rattle.kx_grant.specs.declared.grant.Listed.{Listed}
 use Rattle.kx_grant.specs.declared.grant.Phase.TheVariants as phase
@@ -17,6 +17,8 @@ pub data Step : Type 0 where
   Takes : (held : Held) (partition : ℕ) (first : ℤ) (count : ℕ) → Step
   Refuses : (held : Held) (partition : ℕ) (first : ℤ) (count : ℕ) → Step
   Ends : (held : Held) (outcome : Outcome) → Step
+  -- offsets are sent to the core
+  Commits : (held : Held) → Step
   -- the core answered an end with code 0, and goes on with this pair
   Goes : (outcome : Outcome) (next : Held) → Step
   -- the core answered a request for an id anew
@@ -28,6 +30,7 @@ after_step g (Batches held partition first count) = after_batch g held partition
 after_step g (Takes held partition first count) = after_taken g held partition first count
 after_step g (Refuses held partition first count) = after_refused g held partition first count
 after_step g (Ends held outcome) = after_end g held outcome
+after_step g (Commits held) = after_commit g held
 after_step g (Goes outcome next) = ended outcome next g
 after_step g (Regrants asked held) = begun (Some asked) held
 

@@ -1,8 +1,9 @@
 //! What one transactional id was granted.
-ghost use Rattle.std.specs.Prelude.{◌≡◌, ◌<◌, None, Some, unwrap_or};
+ghost use Rattle.std.specs.Prelude.{◌≡◌, ◌<◌, MatchResult, None, Some, unwrap_or};
 ghost use Rattle.kx_grant.specs.Sequences.{sequences};
 ghost use Rattle.kx_grant.specs.Grant.{add_code, after_add, after_batch, after_end, after_refused};
 ghost use Rattle.kx_grant.specs.Grant.{after_taken, again, batch_verdict, begun, begun_at, counted};
+ghost use Rattle.kx_grant.specs.Grant.{after_commit, commit_code, committing, offsets_code};
 ghost use Rattle.kx_grant.specs.Grant.{counts, end_in, end_verdict, ended, gone_on, with_sent};
 ghost use Rattle.kx_grant.specs.Grant.{in_turn, init_verdict, is_before, is_held, is_next};
 ghost use Rattle.kx_grant.specs.Grant.{listed_at, listed_verdict, listing, next_at, opened};
@@ -131,6 +132,17 @@ impl Phase {
         match self {
             Phase::Empty | Phase::Sent => None,
             Phase::Resumed => Some(ErrorCode::InvalidProducerIdMapping),
+            Phase::Ended(_) | Phase::Decided(_) => Some(ErrorCode::InvalidTxnState),
+        }
+    }
+
+    // With which code offsets are refused.
+    fn offsets_refusal(self) -> Option<ErrorCode>
+        ensures { result ≡ offsets_code self }
+    {
+        match self {
+            Phase::Empty | Phase::Sent => None,
+            Phase::Resumed => Some(ErrorCode::UnknownMemberId),
             Phase::Ended(_) | Phase::Decided(_) => Some(ErrorCode::InvalidTxnState),
         }
     }
@@ -469,6 +481,38 @@ impl Grant {
         if self.counts(held, partition, first) {
             self.skip(partition, count);
         }
+    }
+
+    // Whether offsets are sent to the core, or the code with which they are refused.
+    fn commit_refusal(&self, held: &Held) -> Option<ErrorCode>
+        ensures { result ≡ commit_code self.now held.now }
+    {
+        if is_held(&self.granted, held) {
+            self.phase.offsets_refusal()
+        } else {
+            Some(ErrorCode::InvalidProducerEpoch)
+        }
+    }
+
+    /// Offsets of a group are sent to the core in the transaction, as this producer, the core's.
+    /// That they are is noted: the core is then asked to end the transaction too.
+    ///
+    /// # Errors
+    ///
+    /// The code with which they are refused; then nothing changes. 47 for another pair than the
+    /// granted one; 25 in a transaction that was under way before a restart, after which clients
+    /// abort it; 48 after an end, before a partition was listed.
+    pub fn commit(&mut self, held: &Held) -> Result<Held, ErrorCode>
+        ensures answered { MatchResult result
+            (λ core. (commit_code self.old held.now ≡ None) × (core ≡ self.old.core))
+            (λ code. commit_code self.old held.now ≡ Some code) }
+        ensures noted { self.new ≡ after_commit self.old held.now }
+    {
+        if let Some(code) = self.commit_refusal(held) {
+            return Err(code);
+        }
+        self.phase = Phase::Sent;
+        Ok(self.core)
     }
 
     /// What becomes of a request to end the transaction: fenced for another pair than the granted

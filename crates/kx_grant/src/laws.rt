@@ -4,11 +4,13 @@ ghost use Rattle.std.specs.Prelude.{false, ◌<◌, ◌+◌};
 ghost use Rattle.kx_message.specs.declared.message.Held.{Held};
 ghost use Rattle.kx_message.specs.declared.outcome.Outcome.{Outcome};
 ghost use Rattle.kx_message.specs.declared.code.ErrorCode.{ErrorCode};
+ghost use Rattle.kx_message.specs.declared.requests.EndTxn.{EndTxn};
 ghost use Rattle.kx_grant.specs.Codes.{end_code, init_code, produce_code};
 ghost use Rattle.kx_grant.specs.Heard.{Hear, after_hear, after_hears, is_heard};
 ghost use Rattle.kx_grant.specs.Sequences.{IsSequence, sequences, since};
 ghost use Rattle.kx_grant.specs.Grant.{after_batch, batch_verdict, begun, end_verdict};
 ghost use Rattle.kx_grant.specs.Grant.{ended, listed_at, next_at, reopened};
+ghost use Rattle.kx_grant.specs.Producer.{end_of};
 ghost use Rattle.kx_grant.specs.Steps.{AllRaise, EndsSo, Fits, IsGrant, IsRaised, Step};
 ghost use Rattle.kx_grant.specs.Steps.{after_all};
 ghost use Rattle.kx_grant.specs.Steps.{after_step, all_keep_grant, all_records_in, all_stay, rank};
@@ -19,6 +21,7 @@ ghost use Rattle.kx_grant.specs.declared.grant.Phase.{Phase};
 ghost use Rattle.kx_grant.specs.declared.heard.Heard.{Heard};
 ghost use Rattle.kx_grant.specs.declared.heard.Role.{Role};
 ghost use Rattle.kx_grant.specs.declared.verdicts.BatchVerdict.{BatchVerdict};
+ghost use Rattle.kx_grant.specs.declared.verdicts.EndStep.{EndStep};
 ghost use Rattle.kx_grant.specs.declared.verdicts.EndVerdict.{EndVerdict};
 
 /// A law: in one transaction a client's batch is sent to the core with one id, epoch and base
@@ -68,7 +71,9 @@ pub fn a_batch_is_sent_in_one_transaction()
 /// A law: once a batch was sent to the core, the core is asked to end its transaction. An end is
 /// answered with code 0 without asking only if nothing of its transaction was sent to the core, or
 /// if the core ended it before with this outcome: a grant remembers an outcome only after a step
-/// that ends a transaction so, or after a restart, from the coordinator's log.
+/// that ends a transaction so, or after a restart, from the coordinator's log. Clauses `at_once`
+/// and `as_asked` say so of a client's request: the core is asked for the outcome that the client
+/// asked for.
 pub fn an_end_is_decided_by_the_core()
     ensures asked { (g : Grant) (steps : List Step) (held one : Held) (p : ℕ) (first : ℤ)
         (count : ℕ) (at : ℤ) (outcome : Outcome)
@@ -85,6 +90,12 @@ pub fn an_end_is_decided_by_the_core()
         → (g.phase ≡ Phase.Ended outcome) ⊎ EndsSo g step outcome }
     ensures read { (g : Grant) (step : Step) (outcome : Outcome)
         → (after_step g step).phase ≡ Phase.Decided outcome → g.phase ≡ Phase.Decided outcome }
+    ensures at_once { (version : ℤ) (request : EndTxn) (grant : Option Grant)
+        → end_of version request grant ≡ EndStep.Answer ErrorCode.NoError
+        → (g : Grant) × (grant ≡ Some g) × ((g.phase ≡ Phase.Empty)
+        ⊎ ((g.phase ≡ Phase.Ended request.outcome) ⊎ (g.phase ≡ Phase.Decided request.outcome))) }
+    ensures as_asked { (version : ℤ) (request core : EndTxn) (grant : Option Grant)
+        → end_of version request grant ≡ EndStep.Ask core → core.outcome ≡ request.outcome }
 {}
 
 /// A law: a producer that asks for an id anew is granted another pair than it held, if the core

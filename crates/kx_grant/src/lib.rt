@@ -9,6 +9,7 @@ mod fenced;
 mod grant;
 mod heard;
 mod laws;
+mod producer;
 mod sequence;
 mod verdicts;
 
@@ -20,4 +21,5 @@ pub use laws::{
     an_end_is_decided_by_the_core, grants_know_sequences, older_connections_are_not_heard,
     zero_is_the_cores,
 };
-pub use verdicts::{BatchVerdict, EndVerdict, InitVerdict};
+pub use producer::{ClientBatch, Producer, outcome_of};
+pub use verdicts::{BatchVerdict, EndStep, EndVerdict, InitVerdict};

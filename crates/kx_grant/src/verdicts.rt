@@ -1,6 +1,6 @@
 //! What becomes of a producer's requests.
 
-use kx_message::{ErrorCode, Held, Outcome};
+use kx_message::{EndTxn, ErrorCode, Held, Outcome};
 
 /// What becomes of a request for an id.
 #[derive(Clone, Copy, Debug, PartialEq, Eq)]
@@ -11,10 +11,10 @@ pub enum InitVerdict {
     Fenced,
 }
 
-/// What becomes of a batch.
+/// What becomes of a batch, or of offsets that are to be committed.
 #[derive(Clone, Copy, Debug, PartialEq, Eq)]
 pub enum BatchVerdict {
-    /// The core is asked to append it, with this id and epoch and this base sequence.
+    /// The core is asked to append it, or them, with this id and epoch and this base sequence.
     Send {
         /// The core's id and epoch for the transaction.
         held: Held,
@@ -39,4 +39,13 @@ pub enum EndVerdict {
     Answer(ErrorCode),
     /// Another producer was granted the transactional id since.
     Fenced,
+}
+
+/// What is done first with a request to end a transaction.
+#[derive(Clone, Copy, PartialEq, Eq)]
+pub enum EndStep {
+    /// The core is asked this.
+    Ask(EndTxn),
+    /// It is answered with this code, and the core isn't asked.
+    Answer(ErrorCode),
 }

@@ -1,17 +1,20 @@
 use Rattle.std.proofs.Common.{◌≡◌, ◌⊎◌, Bool, true, false, cond, refl, sym, ap, ◌∙◌, subst, inl, inr, Some}
-use Rattle.std.specs.Prelude.{unwrap_or}
+use Rattle.std.specs.Prelude.{Option, None, ℤ, int_lt, pos, unwrap_or}
 use Rattle.kx_message.specs.declared.message.Held.{Held}
 use Rattle.kx_message.specs.declared.outcome.Outcome.{Outcome}
 use Rattle.kx_message.specs.declared.outcome.Outcome.TheVariants.{Abort, Commit}
 use Rattle.kx_message.specs.declared.code.ErrorCode.{ErrorCode}
 use Rattle.kx_message.specs.declared.code.ErrorCode.TheVariants as code
-use Rattle.kx_grant.specs.Grant.{after_batch, end_in, is_held, same_outcome}
+use Rattle.kx_message.specs.declared.requests.EndTxn.{EndTxn}
+use Rattle.kx_grant.specs.Grant.{after_batch, end_in, end_verdict, is_held, same_outcome}
+use Rattle.kx_grant.specs.Producer.{end_of, end_step}
 use Rattle.kx_grant.specs.Grant.{with_sent}
 use Rattle.kx_grant.specs.Sequences.{sequence_in}
 use Rattle.kx_grant.specs.Steps.{after_all}
 use Rattle.kx_grant.specs.declared.grant.Grant.{Grant}
 use Rattle.kx_grant.specs.declared.grant.Phase.{Phase}
 use Rattle.kx_grant.specs.declared.grant.Phase.TheVariants as phase
+use Rattle.kx_grant.specs.declared.verdicts.EndStep.TheVariants as step
 use Rattle.kx_grant.specs.declared.verdicts.EndVerdict.{EndVerdict}
 use Rattle.kx_grant.specs.declared.verdicts.EndVerdict.TheVariants as end
 use Rattle.kx_grant.proofs.Ends.{read, remembered}
@@ -84,3 +87,67 @@ returns-clause-remembered c = remembered
 
 pub returns-clause-read : goal.returns-clause-read
 returns-clause-read c = read
+
+never_fenced : (b : Bool) → cond b code.InvalidProducerEpoch code.ProducerFenced ≡ code.NoError
+    → ⊥
+never_fenced true e = absurd cc
+never_fenced false e = absurd cc
+
+zero_step : (version : ℤ) (request : EndTxn) (v : EndVerdict)
+    → end_step version request v ≡ step.Answer code.NoError → v ≡ end.Answer code.NoError
+zero_step version request (end.Ask held outcome) e = absurd cc
+zero_step version request (end.Answer given) e =
+    let same : given ≡ code.NoError = cc in
+    ap (λ (x : ErrorCode). end.Answer x) same
+zero_step version request end.Fenced e =
+    let same : cond (int_lt version (pos 2)) code.InvalidProducerEpoch code.ProducerFenced
+    ≡ code.NoError = cc in
+    absurd (never_fenced (int_lt version (pos 2)) same)
+
+at_once : (version : ℤ) (request : EndTxn) (grant : Option Grant)
+    → end_of version request grant ≡ step.Answer code.NoError
+    → (g : Grant) × (grant ≡ Some g) × ((g.phase ≡ phase.Empty)
+    ⊎ ((g.phase ≡ phase.Ended request.outcome) ⊎ (g.phase ≡ phase.Decided request.outcome)))
+at_once version request None e = absurd cc
+at_once version request (Some g) e =
+    let verdict : end_verdict g request.held request.outcome ≡ end.Answer code.NoError =
+    zero_step version request (end_verdict g request.held request.outcome) e in (
+      g,
+      refl,
+      by_phase g.core g.phase request.outcome
+          (ours_only (is_held g.granted request.held) (end_in g.core g.phase request.outcome) verdict),
+    )
+
+pub returns-clause-at_once : goal.returns-clause-at_once
+returns-clause-at_once c = at_once
+
+-- the core is asked for this outcome
+asks_so : (b : Bool) (core : Held) (f : Phase) (outcome : Outcome) (held : Held) (asked : Outcome)
+    → cond b (end_in core f outcome) end.Fenced ≡ end.Ask held asked → asked ≡ outcome
+asks_so false core f outcome held asked e = absurd cc
+asks_so true core phase.Empty outcome held asked e = absurd cc
+asks_so true core phase.Sent outcome held asked e = cc
+asks_so true core phase.Resumed outcome held asked e = cc
+asks_so true core (phase.Ended last) outcome held asked e = absurd cc
+asks_so true core (phase.Decided last) outcome held asked e = absurd cc
+
+asking_step : (version : ℤ) (request core : EndTxn) (v : EndVerdict)
+    → end_step version request v ≡ step.Ask core
+    → (held : Held) × (v ≡ end.Ask held core.outcome)
+asking_step version request core (end.Ask held outcome) e =
+    let same : record request { held = held; outcome = outcome } ≡ core = cc in
+    (held, ap (λ (x : EndTxn). end.Ask held x.outcome) same)
+asking_step version request core (end.Answer given) e = absurd cc
+asking_step version request core end.Fenced e = absurd cc
+
+as_asked : (version : ℤ) (request core : EndTxn) (grant : Option Grant)
+    → end_of version request grant ≡ step.Ask core → core.outcome ≡ request.outcome
+as_asked version request core None e = absurd cc
+as_asked version request core (Some g) e =
+    let asking = asking_step version request core
+    (end_verdict g request.held request.outcome) e in
+    asks_so (is_held g.granted request.held) g.core g.phase request.outcome asking.0 core.outcome
+    asking.1
+
+pub returns-clause-as_asked : goal.returns-clause-as_asked
+returns-clause-as_asked c = as_asked
