@@ -1,6 +1,5 @@
 pub mod Clients
 pub mod Sent
 pub mod World
-pub mod Count
 pub mod Internal
 pub mod Local

@@ -74,8 +74,9 @@ fn servers(
     ensures few { IfOk result (λ servers. length servers.items < offsets_partition) }
     ensures each { IfOk result (λ servers. AreServers servers.items) }
 {
-    let mut servers = Vec::with_capacity(alloc, count.get())?;
-    for number in 0..count.get() {
+    let count = usize::from(count.get());
+    let mut servers = Vec::with_capacity(alloc, count)?;
+    for number in 0..count {
         servers.push(server(alloc, number)?)?;
     }
     Ok(servers)

@@ -140,7 +140,7 @@ impl<R: Wait + Drop> Clients<R> {
 
     // Drops the one member when it has sent the images of half an input partition.
     fn drop_member(&mut self, rt: &R) -> Result<(), PlayFault> {
-        let half = self.records.get().div_ceil(2);
+        let half = usize::from(self.records.get()).div_ceil(2);
         if self.has_dropped || self.leaving.written() < half {
             return Ok(());
         }
@@ -150,7 +150,7 @@ impl<R: Wait + Drop> Clients<R> {
 
     // Whether the group has read all, and the dropped member has found out that it was dropped.
     fn is_over(&self) -> bool {
-        let all = self.records.get() as i64;
+        let all = i64::from(self.records.get());
         self.leaving.has_failed() && self.committed.iter().all(|committed| *committed >= all)
     }
 

@@ -80,7 +80,7 @@ pub(crate) fn serve_core<R: Eprint + Threads + Wait + Clock + Copy + Send + Sync
     for node in nodes {
         places.push(Place::unread(Arc::try_clone(node)?))?;
     }
-    Server::start(rt, alloc, places, workers.get())
+    Server::start(rt, alloc, places, usize::from(workers.get()))
 }
 
 // A client's node, to be shared.

@@ -65,6 +65,7 @@ fn serving() -> ServeOptions<'static> {
         port: 0,
         dir: None,
         expires: false,
+        session_timeout: None,
         tells_progress: false,
     }
 }

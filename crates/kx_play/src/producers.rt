@@ -103,7 +103,7 @@ impl Producer {
     // Sends the next batch, if there is one.
     fn go_on<R: Wait>(&mut self, rt: &R) -> Result<(), PlayFault> {
         self.awaited = None;
-        let (from, all) = (self.sent, self.records.get());
+        let (from, all) = (self.sent, usize::from(self.records.get()));
         if from >= all {
             return Ok(());
         }
@@ -137,6 +137,6 @@ impl Producer {
 
     /// Whether all its batches were appended.
     pub(crate) fn is_done(&self) -> bool {
-        self.awaited.is_none() && self.sent >= self.records.get()
+        self.awaited.is_none() && self.sent >= usize::from(self.records.get())
     }
 }

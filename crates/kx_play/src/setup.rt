@@ -20,7 +20,7 @@ const STAYING: u32 = 3;
 const LEAVING: u32 = 4;
 
 /// How many clients there are, and so how many connections to the server.
-pub(crate) const CLIENTS: usize = INPUTS as usize + 2;
+pub(crate) const CLIENTS: u16 = INPUTS as u16 + 2;
 
 /// What stands before anything is asked for: the clients' nodes and their connections.
 #[derive(Drop)]

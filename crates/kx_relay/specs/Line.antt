@@ -1,15 +1,7 @@
 -- A line that repeats every frame.
-use Rattle.std.specs.Prelude.{ℕ, ◌≤◌, ◌++◌, ◌∷◌, [], List, length, nat_lt, Option, None}
+use Rattle.std.specs.Prelude.{ℕ, ◌++◌, ◌∷◌, [], List, length, nat_lt, Option, None}
 use Rattle.std.specs.Prelude.{if◌then◌else◌, Bool}
 use Rattle.kx_message.specs.declared.message.Message.{Message}
-
--- so many of a hundred frames may be lost
-abbrev pub IsLosses : ℕ → Type 0
-IsLosses losses = losses ≤ 50
-
--- so many frames may go between a frame and its copy
-abbrev pub IsHolding : ℕ → Type 0
-IsHolding holding = holding ≤ 8
 
 -- the copies of the last frames, none of one that was lost
 pub record Holds : Type 0 where

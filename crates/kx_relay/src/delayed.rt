@@ -49,7 +49,7 @@ impl Delayed {
             (λ refused. self.new ≡ self.old) }
     {
         self.copies.push_back(copy)?;
-        if self.copies.len() <= self.holding.get() {
+        if self.copies.len() <= usize::from(self.holding.get()) {
             return Ok(None);
         }
         match self.copies.pop_front() {

@@ -1,0 +1,6 @@
+//! Whole numbers within bounds that their type names.
+#![tactic(auto)]
+
+mod bounded;
+
+pub use bounded::Bounded;
