@@ -30,5 +30,15 @@ with Server(program(), "--topics", "orders:2") as server:
     trial.look("topics and partitions", (consumer.topics(), consumer.partitions_for_topic("orders")),
         ({"orders"}, {0, 1}))
     consumer.close()
+    group = {"group_id": "readers", "bootstrap_servers": server.address, "auto_offset_reset": "earliest",
+        "enable_auto_commit": False, "consumer_timeout_ms": 3000, "session_timeout_ms": 6000}
+    member = KafkaConsumer("orders", **group)
+    trial.look("a group reads all records", len(list(member)), 1000)
+    member.commit()
+    trial.look("its commit is read back", member.committed(partition), 1000)
+    member.close()
+    member = KafkaConsumer("orders", **group)
+    trial.look("the next member reads on after it", len(list(member)), 0)
+    member.close()
     producer.close()
 trial.end()

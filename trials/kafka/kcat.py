@@ -40,6 +40,9 @@ with Server(program(), "--topics", "orders:2,one:1") as server:
         given="n\n"), kcat(server.address, "-C", "-t", "fresh", "-o", "beginning", "-e")), ("", "n\n"))
     trial.look("a name that Kafka doesn't allow", "Invalid topic" in kcat(server.address, "-L", "-t",
         "no:name"), True)
+    trial.look("a group reads on where it was", (sorted(kcat(server.address, "-G", "readers", "-o", "beginning",
+        "-e", "-q", "-X", "auto.offset.reset=earliest", "one").split()), kcat(server.address, "-G", "readers",
+        "-e", "-q", "-X", "auto.offset.reset=earliest", "one")), (["x", "y", "z"], ""))
     trial.look("compression is switched off by the offer", (kcat(server.address, "-P", "-t", "orders",
         "-p", "0", "-z", "gzip", given="z" * 1000 + "\n"), kcat(server.address, "-C", "-t", "orders",
         "-p", "0", "-o", "beginning", "-e", "-f", "%S\n")), ("", "1000\n"))

@@ -1,11 +1,13 @@
-// sarama against the program: plain and idempotent producers, readers of both isolation levels.
+// sarama against the program: plain and idempotent producers, readers of both isolation levels, groups.
 //
 //	go run sarama.go ADDRESS
 package main
 
 import (
+	"context"
 	"fmt"
 	"os"
+	"time"
 
 	"github.com/Shopify/sarama"
 )
@@ -54,6 +56,57 @@ func consume(address string, config *sarama.Config, topic string, count int) {
 	must(consumer.Close())
 }
 
+// A member of a group, which marks each record that it reads and counts down.
+type member struct {
+	left int
+	done context.CancelFunc
+}
+
+func (*member) Setup(sarama.ConsumerGroupSession) error   { return nil }
+func (*member) Cleanup(sarama.ConsumerGroupSession) error { return nil }
+
+func (it *member) ConsumeClaim(session sarama.ConsumerGroupSession, claim sarama.ConsumerGroupClaim) error {
+	for message := range claim.Messages() {
+		session.MarkMessage(message, "")
+		it.left--
+		if it.left == 0 {
+			it.done()
+		}
+	}
+	return nil
+}
+
+// A group of one member reads so many records, and its offset is committed.
+func group(address string, version sarama.KafkaVersion, topic string, count int) {
+	config := sarama.NewConfig()
+	config.Version = version
+	config.Consumer.Offsets.Initial = sarama.OffsetOldest
+	name := fmt.Sprint("group-", version)
+	group, err := sarama.NewConsumerGroup([]string{address}, name, config)
+	must(err)
+	ctx, cancel := context.WithTimeout(context.Background(), 30*time.Second)
+	it := &member{count, cancel}
+	for ctx.Err() == nil {
+		must(group.Consume(ctx, []string{topic}, it))
+	}
+	must(group.Close())
+	if it.left != 0 {
+		must(fmt.Errorf("%d records not read", it.left))
+	}
+	client, err := sarama.NewClient([]string{address}, config)
+	must(err)
+	offsets, err := sarama.NewOffsetManagerFromClient(name, client)
+	must(err)
+	partition, err := offsets.ManagePartition(topic, 0)
+	must(err)
+	if next, _ := partition.NextOffset(); next != int64(count) {
+		must(fmt.Errorf("committed %d", next))
+	}
+	must(partition.Close())
+	must(offsets.Close())
+	must(client.Close())
+}
+
 func main() {
 	address := os.Args[1]
 	for _, version := range []sarama.KafkaVersion{sarama.V0_11_0_0, sarama.V2_1_0_0} {
@@ -73,6 +126,7 @@ func main() {
 			reader.Consumer.IsolationLevel = level
 			consume(address, reader, topic, 1000)
 		}
+		group(address, version, topic, 1000)
 		fmt.Println("ok sarama as Kafka", version)
 	}
 }

@@ -42,8 +42,17 @@ LIST_END = "0002000200000006000772646b61666b61ffffffff01000000010001740000000100
 FETCH = ("0001000400000005000772646b61666b61ffffffff{wait:08x}000000010320000001000000010001740000000100000000"
     "{offset:016x}00100000")
 
-OFFERED = [(0, 3, 4), (1, 4, 4), (2, 1, 2), (3, 0, 5), (10, 0, 1), (18, 0, 0), (22, 0, 4), (24, 0, 0), (25, 0, 0),
-    (26, 0, 1)]
+# JoinGroup 2 of a client that is no member yet, and of the other requests what stands in front of the group.
+JOIN = ("000b000200000004000772646b61666b61000267730000afc8000493e000000008636f6e73756d657200000002000572616e67"
+    "65000000110001000000010001740000000000000000000a726f756e64726f62696e0000001100010000000100017400000000000000"
+    "00")
+SYNC, HEARTBEAT = "000e000100000006000772646b61666b61", "000c000100000007000772646b61666b61"
+OFFSET_COMMIT, LEAVE = "0008000200000009000772646b61666b61", "000d00010000000b000772646b61666b61"
+OFFSET_FETCH = "0009000700000007000772646b61666b6100036773020274030000000000000001000100"
+ASSIGNMENT = "00000000000100017400000002000000000000000100000000"
+
+OFFERED = [(0, 3, 4), (1, 4, 4), (2, 1, 2), (3, 0, 5), (8, 1, 2), (9, 1, 7), (10, 0, 1), (11, 0, 2), (12, 0, 1),
+    (13, 0, 1), (14, 0, 1), (18, 0, 0), (22, 0, 4), (24, 0, 0), (25, 0, 0), (26, 0, 1), (28, 0, 3)]
 NO_PORT = 0
 
 
@@ -301,6 +310,142 @@ def fetch_all(to, end, stable, aborted, records):
     return frame(text + struct.pack(">i", len(records)) + records)
 
 
+def member_id(number):
+    """The id of the member that the core knows by this number."""
+    return b"rdkafka-%d" % number
+
+
+def join_request(member):
+    """JOIN of a member."""
+    return JOIN.replace("000493e000000008", "000493e0" + string(member).hex() + "0008")
+
+
+def of_member(front, generation, member, rest=b""):
+    return front + (string(b"gs") + struct.pack(">i", generation) + string(member) + rest).hex()
+
+
+def sync_request(generation, member, assigned):
+    rest = struct.pack(">i", len(assigned))
+    for one, text in assigned:
+        rest += string(one) + struct.pack(">i", len(text)) + text
+    return of_member(SYNC, generation, member, rest)
+
+
+def leave_request(member):
+    return LEAVE + (string(b"gs") + string(member)).hex()
+
+
+def commit_request(generation, member, offset):
+    """OffsetCommit 2 of partition 0, without metadata."""
+    rest = struct.pack(">qi", -1, 1) + string(b"t") + struct.pack(">iiq", 1, 0, offset) + string(b"")
+    return of_member(OFFSET_COMMIT, generation, member, rest)
+
+
+def joined(to, generation, leader, member, members):
+    """JoinGroup 2: throttle, error, generation, protocol, leader, member, the members with their metadata."""
+    metadata = bytes.fromhex("0001000000010001740000000000000000"[:34])
+    text = correlation(to) + struct.pack(">ihi", 0, 0, generation) + string(b"range") + string(leader)
+    text += string(member) + struct.pack(">i", len(members))
+    for one in members:
+        text += string(one) + struct.pack(">i", len(metadata)) + metadata
+    return frame(text)
+
+
+def assigned(to, code, text):
+    """SyncGroup 1: throttle, error, assignment."""
+    return frame(correlation(to) + struct.pack(">ihi", 0, code, len(text)) + text)
+
+
+def beaten(to, code):
+    """Heartbeat 1 and LeaveGroup 1: throttle, error."""
+    return frame(correlation(to) + struct.pack(">ih", 0, code))
+
+
+def committed(to, code):
+    """OffsetCommit 2: topics with partitions (error)."""
+    return frame(correlation(to) + struct.pack(">i", 1) + string(b"t") + struct.pack(">iih", 1, 0, code))
+
+
+def fetched_offsets(to, offsets):
+    """OffsetFetch 7, flexible: throttle, topics with partitions (offset, leader epoch, metadata, error), error."""
+    text = correlation(to) + b"\0" + struct.pack(">i", 0) + b"\2\2t" + bytes([len(offsets) + 1])
+    for index, offset in enumerate(offsets):
+        text += struct.pack(">iqi", index, offset, -1) + b"\1" + struct.pack(">h", 0) + b"\0"
+    return frame(text + b"\0" + struct.pack(">h", 0) + b"\0")
+
+
+def group():
+    it = Session(["A member joins, syncs, commits an offset and leaves. The numbers of clients count up from 0: the",
+        "connection is 0, the member 1 and the server's guest 2, which joins last: its generation is the group's."])
+    it.do("kafka 1 with t:2", "open a")
+    it.told.append("listening")
+    one, all_of_it = member_id(1), bytes.fromhex(ASSIGNMENT)
+    it.ask("a", JOIN, joined(JOIN, 2, one, one, [one]))
+    asked = sync_request(2, one, [(one, all_of_it)])
+    it.ask("a", asked, assigned(asked, 0, all_of_it))
+    asked = of_member(HEARTBEAT, 2, one)
+    it.ask("a", asked, beaten(asked, 0))
+    it.ask("a", OFFSET_FETCH, fetched_offsets(OFFSET_FETCH, [-1, -1]))
+    asked = commit_request(2, one, 10)
+    it.ask("a", asked, committed(asked, 0))
+    it.ask("a", OFFSET_FETCH, fetched_offsets(OFFSET_FETCH, [10, -1]))
+    it.do("# Another generation, and a member that isn't there.")
+    asked = of_member(HEARTBEAT, 1, one)
+    it.ask("a", asked, beaten(asked, 22))
+    asked = commit_request(1, one, 20)
+    it.ask("a", asked, committed(asked, 22))
+    asked = commit_request(2, member_id(7), 20)
+    it.ask("a", asked, committed(asked, 25))
+    it.ask("a", OFFSET_FETCH, fetched_offsets(OFFSET_FETCH, [10, -1]))
+    it.do("# After it has left.")
+    asked = leave_request(one)
+    it.ask("a", asked, beaten(asked, 0))
+    asked = of_member(HEARTBEAT, 2, one)
+    it.ask("a", asked, beaten(asked, 25))
+    it.do("end")
+    return it
+
+
+def group_of_two():
+    it = Session(["A second member joins, and both share. Connections are 0 and 1, the members 2 and 4, and the",
+        "server's guests 3, 5 and 6; the generation counts each that joins or leaves."])
+    it.do("kafka 2 with t:2", "open a", "open b")
+    it.told.append("listening")
+    one, two, all_of_it = member_id(2), member_id(4), bytes.fromhex(ASSIGNMENT)
+    it.ask("a", JOIN, joined(JOIN, 2, one, one, [one]))
+    asked = sync_request(2, one, [(one, all_of_it)])
+    it.ask("a", asked, assigned(asked, 0, all_of_it))
+    it.do("# The second waits until the first has joined again, and its SyncGroup until the leader's.")
+    it.do(f"send b {request(JOIN)}", "wait 100")
+    asked = of_member(HEARTBEAT, 2, one)
+    it.ask("a", asked, beaten(asked, 27))
+    asked = join_request(one)
+    it.ask("a", asked, joined(asked, 5, one, one, [one, two]))
+    it.do("receive b")
+    it.told.append("b " + joined(JOIN, 5, one, two, []))
+    first, second = b"the first", b"the second"
+    waits = sync_request(5, two, [])
+    it.do(f"send b {request(waits)}", "wait 100")
+    asked = sync_request(5, one, [(one, first), (two, second)])
+    it.ask("a", asked, assigned(asked, 0, first))
+    it.do("receive b")
+    it.told.append("b " + assigned(waits, 0, second))
+    it.do("# Of the generation before nothing is taken.")
+    asked = sync_request(2, one, [])
+    it.ask("a", asked, assigned(asked, 22, b""))
+    asked = commit_request(2, one, 10)
+    it.ask("a", asked, committed(asked, 22))
+    it.do("# One leaves, and the other joins again, alone.")
+    asked = leave_request(two)
+    it.ask("b", asked, beaten(asked, 0))
+    asked = of_member(HEARTBEAT, 5, one)
+    it.ask("a", asked, beaten(asked, 27))
+    asked = join_request(one)
+    it.ask("a", asked, joined(asked, 8, one, one, [one]))
+    it.do("end")
+    return it
+
+
 def transactions():
     it = Session(["A commit and an abort of librdkafka's, over the connections that it had: one to the coordinator",
         "and one for batches. It keeps epoch 0, and its sequences go on; the core has epochs 0 and 1, and",
@@ -394,5 +539,6 @@ from frames import crc32c  # noqa: E402
 
 for name, made in (("stock", stock()), ("stock_in_flight", in_flight()), ("stock_faults", faults()),
         ("stock_restarted", restarted()), ("stock_transactions", transactions()),
-        ("stock_transactions_restarted", transactions_restarted())):
+        ("stock_transactions_restarted", transactions_restarted()), ("stock_group", group()),
+        ("stock_group_of_two", group_of_two())):
     made.write(os.path.join(sys.argv[1], name))

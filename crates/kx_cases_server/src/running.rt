@@ -50,6 +50,7 @@ impl Wanted {
             port: 0,
             dir: self.dir.as_deref(),
             expires: self.expires,
+            session_timeout: None,
             tells_progress: false,
         }
     }

@@ -1,6 +1,5 @@
 -- The APIs that are served, in which versions.
-use Rattle.std.specs.Prelude.{pos, List, [], ◌∷◌, Bool, ◌==◌}
-use Rattle.std.specs.List.{list_any}
+use Rattle.std.specs.Prelude.{pos, List, [], ◌∷◌}
 use Rattle.kx_kafka_types.specs.Schema.{Values}
 use Rattle.kx_kafka.specs.declared.api_key.ApiKey.{ApiKey}
 use Rattle.kx_kafka.specs.declared.api_key.ApiKey.TheVariants as api
@@ -9,12 +8,7 @@ use Rattle.kx_kafka.specs.Layouts.{api_version}
 
 abbrev pub offered : List ApiKey
 offered =
-    api.Produce ∷ api.Fetch ∷ api.ListOffsets ∷ api.Metadata ∷ api.FindCoordinator
-    ∷ api.ApiVersions ∷ api.InitProducerId ∷ api.AddPartitionsToTxn ∷ api.AddOffsetsToTxn
-    ∷ api.EndTxn ∷ []
-
-abbrev pub is_offered : ApiKey → Bool
-is_offered key = list_any (λ k. number_of k == number_of key) offered
+    api.Produce ∷ api.Fetch ∷ api.ListOffsets ∷ api.Metadata ∷ api.OffsetCommit ∷ api.OffsetFetch ∷ api.FindCoordinator ∷ api.JoinGroup ∷ api.Heartbeat ∷ api.LeaveGroup ∷ api.SyncGroup ∷ api.ApiVersions ∷ api.InitProducerId ∷ api.AddPartitionsToTxn ∷ api.AddOffsetsToTxn ∷ api.EndTxn ∷ api.TxnOffsetCommit ∷ []
 
 -- its number, and from which version it is spoken up to which
 abbrev pub range_of : ApiKey → Values api_version

@@ -30,7 +30,7 @@ pub use laws::{
 };
 pub use metadata::{Broker, NamedTopic, TopicAnswer, asks_all, metadata_frame};
 pub use names::is_topic_name;
-pub use offer::{api_versions_frame, is_offered};
+pub use offer::api_versions_frame;
 pub use offsets::{list_offsets_frame, listed, refused_offset};
 pub use produce::{ProduceAsk, ask_produce, produce_frame, produced, refused_produce};
 pub use table_file::{TopicsFault, read_topics, topic_line};

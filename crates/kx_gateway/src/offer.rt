@@ -3,31 +3,12 @@ ghost use Rattle.std.specs.Prelude.{◌≡◌, IfOk, map};
 ghost use Rattle.kx_kafka.specs.Frames.{frame_text, response_text};
 ghost use Rattle.kx_kafka.specs.Layouts.{api_versions_response};
 ghost use Rattle.kx_kafka.specs.Requests.{plain};
-ghost use Rattle.kx_gateway.specs.Offer.{is_offered, offered, range_of};
+ghost use Rattle.kx_gateway.specs.Offer.{offered, range_of};
 
 use kx_kafka::{
     ApiKey, ApiVersion, ApiVersionsResponse, KafkaFault, Version, Writes, response_frame,
 };
 use std::alloc::Global;
-
-/// Whether the API is served.
-pub fn is_offered(api: ApiKey) -> bool
-    ensures { result ≡ is_offered api }
-{
-    matches!(
-        api,
-        ApiKey::Produce
-            | ApiKey::Fetch
-            | ApiKey::ListOffsets
-            | ApiKey::Metadata
-            | ApiKey::FindCoordinator
-            | ApiKey::ApiVersions
-            | ApiKey::InitProducerId
-            | ApiKey::AddPartitionsToTxn
-            | ApiKey::AddOffsetsToTxn
-            | ApiKey::EndTxn
-    )
-}
 
 // The versions of an API that are spoken.
 fn range_of(api: ApiKey) -> ApiVersion
@@ -40,7 +21,7 @@ fn range_of(api: ApiKey) -> ApiVersion
     }
 }
 
-fn offered_ranges() -> [ApiVersion; 10]
+fn offered_ranges() -> [ApiVersion; 17]
     ensures { map ⟦<ApiVersion as Writes>⟧.values result ≡ map range_of offered }
 {
     [
@@ -48,12 +29,19 @@ fn offered_ranges() -> [ApiVersion; 10]
         range_of(ApiKey::Fetch),
         range_of(ApiKey::ListOffsets),
         range_of(ApiKey::Metadata),
+        range_of(ApiKey::OffsetCommit),
+        range_of(ApiKey::OffsetFetch),
         range_of(ApiKey::FindCoordinator),
+        range_of(ApiKey::JoinGroup),
+        range_of(ApiKey::Heartbeat),
+        range_of(ApiKey::LeaveGroup),
+        range_of(ApiKey::SyncGroup),
         range_of(ApiKey::ApiVersions),
         range_of(ApiKey::InitProducerId),
         range_of(ApiKey::AddPartitionsToTxn),
         range_of(ApiKey::AddOffsetsToTxn),
         range_of(ApiKey::EndTxn),
+        range_of(ApiKey::TxnOffsetCommit),
     ]
 }
 

@@ -7,7 +7,7 @@ use crate::transacting::TxnInit;
 use kx_gateway::{
     Broker, GatewayCode, InitAsk, NamedTopic, ProduceAsk, TopicAnswer, TopicFault, Topics,
     api_versions_frame, ask_init, ask_produce, asks_all, find_coordinator_frame, init_frame,
-    is_offered, is_topic_name, list_offsets_frame, listed, metadata_frame, produce_frame, produced,
+    is_topic_name, list_offsets_frame, listed, metadata_frame, produce_frame, produced,
     refused_init_frame, refused_offset, refused_produce,
 };
 use kx_kafka::{
@@ -350,9 +350,6 @@ impl<'a, L: Readable, J: Naming, R: Wait + Clock + Drop> Session<'a, L, J, R> {
             Ok(read) => read,
             Err(fault) => return answer_unread(self.alloc, text, fault),
         };
-        if !is_offered(header.api) {
-            return Err(Closed);
-        }
         let asked = Asked { header, text };
         match request {
             Request::Produce(it) => self.produce(&asked, it),
@@ -363,6 +360,13 @@ impl<'a, L: Readable, J: Naming, R: Wait + Clock + Drop> Session<'a, L, J, R> {
             Request::AddPartitionsToTxn(it) => self.add_partitions(&asked, it),
             Request::AddOffsetsToTxn(it) => self.add_offsets(&asked, &it),
             Request::EndTxn(it) => self.end_txn(&asked, &it),
+            Request::TxnOffsetCommit(it) => self.txn_offset_commit(&asked, it),
+            Request::OffsetCommit(it) => self.offset_commit(&asked, it),
+            Request::OffsetFetch(it) => self.offset_fetch(&asked, it),
+            Request::JoinGroup(it) => self.join_group(&asked, it),
+            Request::SyncGroup(it) => self.sync_group(&asked, it),
+            Request::Heartbeat(it) => self.heartbeat(&asked, &it),
+            Request::LeaveGroup(it) => self.leave_group(&asked, &it),
             Request::FindCoordinator(_) => {
                 let broker = Broker {
                     host: HOST,
@@ -375,7 +379,6 @@ impl<'a, L: Readable, J: Naming, R: Wait + Clock + Drop> Session<'a, L, J, R> {
                 let frame = api_versions_frame(self.alloc, asked.header.correlation_id, 0)?;
                 Ok(Answer::Frame(frame))
             }
-            _ => Err(Closed),
         }
     }
 

@@ -21,7 +21,7 @@ pub(crate) struct Inbox {
 }
 
 impl Inbox {
-    /// Nothing waits.
+    /// An inbox without requests, which takes some.
     pub(crate) fn new(alloc: Global) -> Inbox {
         Inbox {
             waiting: Mutex::new(Waiting {

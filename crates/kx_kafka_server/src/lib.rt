@@ -6,11 +6,15 @@
 mod answering;
 mod asked;
 mod closed;
+mod committing;
 mod fault;
 mod fetching;
+mod grouping;
+mod groups;
 mod inbox;
 mod kept;
 mod link;
+mod members;
 mod numbers;
 mod producers;
 mod protocol;

@@ -1,20 +1,11 @@
 //! What the server knows of producers with a transactional id, which threads share.
 use indexmap::IndexMap;
-use kx_grant::{Grant, Heard};
+use kx_grant::{Grant, Producer};
 use kx_message::TxnId;
 use kx_regrant::Regrant;
 use kx_txnlog::Entry;
 use std::alloc::{AllocError, Global};
 use std::sync::{Arc, Mutex, Wait};
-
-/// What is known of a transactional id.
-#[derive(Drop)]
-pub(crate) struct Producer {
-    /// What was granted last, if anything was.
-    pub(crate) grant: Option<Grant>,
-    /// The newest connections that spoke for it.
-    pub(crate) heard: Heard,
-}
 
 /// The producers, by their transactional ids.
 #[derive(Drop)]
@@ -25,11 +16,7 @@ pub(crate) struct Producers {
 
 // A producer that wasn't heard yet.
 fn unheard(alloc: Global, grant: Option<Grant>) -> Result<Arc<Mutex<Producer>>, AllocError> {
-    let producer = Producer {
-        grant,
-        heard: Heard::new(),
-    };
-    match Arc::new(alloc, Mutex::new(producer)) {
+    match Arc::new(alloc, Mutex::new(Producer::new(grant))) {
         Ok(producer) => Ok(producer),
         Err(_) => Err(AllocError),
     }

@@ -1,5 +1,6 @@
 //! Kafka's protocol, as a server's connections speak it.
 use crate::answering::Session;
+use crate::groups::Groups;
 use crate::link::StockLink;
 use crate::numbers::Numbers;
 use crate::producers::Producers;
@@ -9,7 +10,7 @@ use kx_publishing::Readable;
 use kx_server::{Hub, Link, Peer, Protocol};
 use std::alloc::{AllocError, Global};
 use std::sync::{Arc, Wait};
-use std::time::Clock;
+use std::time::{Clock, Instant};
 
 /// What all connections of stock clients share.
 #[derive(Drop)]
@@ -17,6 +18,9 @@ pub(crate) struct Shared {
     pub(crate) table: Table,
     pub(crate) numbers: Numbers,
     pub(crate) producers: Producers,
+    pub(crate) groups: Groups,
+    // when the server began
+    pub(crate) begun: Option<Instant>,
     // whether a topic is made when a client first asks for it
     pub(crate) makes_topics: bool,
 }

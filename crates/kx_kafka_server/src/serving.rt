@@ -3,7 +3,9 @@ ghost use Rattle.std.specs.Prelude.{OnOk};
 ghost use Rattle.kx_server.specs.Lines.{Listens};
 
 use crate::fault::{GatewayFile, KafkaServeFault};
+use crate::groups::Groups;
 use crate::kept::Lines;
+use crate::members::members_of;
 use crate::numbers::Numbers;
 use crate::producers::Producers;
 use crate::protocol::{Kafka, Shared};
@@ -22,7 +24,7 @@ use std::io::{ErrorKind, Write};
 use std::net::{Net, TcpListener, TcpStream};
 use std::sync::{Arc, Wait};
 use std::thread::Threads;
-use std::time::Clock;
+use std::time::{Clock, Instant};
 
 /// What a server of stock clients is asked for.
 #[derive(Clone, Copy)]
@@ -98,6 +100,8 @@ fn serve_locked<
         table: Table::open(alloc, topics, options.topics)?,
         numbers: Numbers::open(alloc, clients, log.entries())?,
         producers: Producers::open(alloc, log.entries())?,
+        groups: Groups::open(alloc, members_of(&rt, options.dir)?)?,
+        begun: Instant::now(&rt).ok(),
         makes_topics: options.makes_topics,
     };
     drop(log);
@@ -114,6 +118,7 @@ fn serve_locked<
         port: options.port,
         dir: options.dir,
         expires: true,
+        session_timeout: None,
         tells_progress: options.tells_progress,
     };
     serve_speaking(rt, &served, &protocol, options.until, out)?;

@@ -1,15 +1,14 @@
 //! Producers with a transactional id: what they ask of the coordinator, and their batches.
 use crate::answering::{Answer, Asked, Session};
 use crate::closed::Closed;
-use crate::producers::Producer;
+use crate::committing::is_own;
 use crate::replies::{end_reply, init_reply, produce_reply};
 use kx_gateway::{
-    TxnBatch, add_offsets_frame, add_partitions_frame, end_txn_frame, held_of, init_frame,
-    produced, refused_init_frame, refused_produce, txn_of,
+    GatewayCode, TxnBatch, add_offsets_frame, add_partitions_frame, end_txn_frame, held_of,
+    init_frame, produced, refused_init_frame, refused_produce, txn_of,
 };
 use kx_grant::{
-    BatchVerdict, EndVerdict, Grant, InitVerdict, Role, end_code, end_fenced_code, init_code,
-    init_fenced_code, is_final, produce_code,
+    BatchVerdict, ClientBatch, EndStep, InitVerdict, Producer, init_fenced_code, outcome_of,
 };
 use kx_kafka::{
     AddOffsetsToTxnRequest, AddPartitionsToTxnRequest, EndTxnRequest, PartitionProduceResponse,
@@ -53,54 +52,29 @@ fn version_of(asked: &Asked<'_>) -> i16 {
     }
 }
 
-// What the core answered to a request for an id makes a grant.
-fn granted(asked: Option<Held>, reply: &InitReply) -> Option<Grant> {
-    let held = match reply.code {
-        ErrorCode::NoError => reply.held?,
-        _ => return None,
-    };
-    Some(match asked {
-        Some(asked) => Grant::granted_anew(asked, held),
-        None => Grant::new(held),
-    })
-}
-
-// How a transaction is to end.
-fn outcome_of(committed: bool) -> Outcome {
-    if committed {
-        Outcome::Commit
-    } else {
-        Outcome::Abort
-    }
-}
-
-// What was answered for a batch is noted: it was taken, or refused for good.
-fn note(grant: &mut Grant, batch: &TxnBatch<'_>, code: ErrorCode) {
-    let (held, partition) = (batch.held(), batch.partition());
-    if code == ErrorCode::NoError {
-        grant.batch_taken(held, partition, batch.first(), batch.count());
-    } else if is_final(code) {
-        grant.batch_refused(held, partition, batch.first(), batch.count());
-    }
-}
-
-// What becomes of a request for an id, by what was granted before.
-fn init_verdict(grant: Option<Grant>, held: Option<Held>) -> InitVerdict {
-    match (grant, held) {
-        (Some(grant), held) => grant.init_again(held),
-        (None, None) => InitVerdict::Ask,
-        (None, Some(_)) => InitVerdict::Fenced,
+// What a batch says of itself.
+fn client_batch(batch: &TxnBatch<'_>) -> ClientBatch {
+    ClientBatch {
+        held: batch.held(),
+        partition: batch.partition(),
+        first: batch.first(),
+        count: batch.count(),
     }
 }
 
 impl<'a, L: Readable, J: Naming, R: Wait + Clock + Drop> Session<'a, L, J, R> {
     // The number of the connection; a connection that was taken later has a greater one.
-    fn number(&self) -> u64 {
+    pub(crate) fn number(&self) -> u64 {
         self.link.peer.number() as u64
     }
 
+    // How often the core is asked at most.
+    pub(crate) fn most_asked(&self) -> usize {
+        MOST_ASKED
+    }
+
     // Waits before the core is asked again.
-    fn pause(&self) {
+    pub(crate) fn pause(&self) {
         thread::sleep(self.rt, Duration::from_millis(PAUSE_MILLIS));
     }
 
@@ -121,7 +95,7 @@ impl<'a, L: Readable, J: Naming, R: Wait + Clock + Drop> Session<'a, L, J, R> {
     }
 
     // Asks the coordinator as a client of a new number: a request fences those of lower numbers.
-    fn ask_as_newest(&self, init: &TxnInit) -> Result<InitReply, Closed> {
+    pub(crate) fn ask_as_newest(&self, init: &TxnInit) -> Result<InitReply, Closed> {
         let Some(client) = self.link.shared.numbers.take(self.rt) else {
             return Err(Closed);
         };
@@ -138,23 +112,18 @@ impl<'a, L: Readable, J: Naming, R: Wait + Clock + Drop> Session<'a, L, J, R> {
         reply
     }
 
-    // A producer asks for an id with a pair that it may hold.
+    // A producer asks for an id, of which the core is asked.
     fn grant_to(
         &self,
         producer: &mut Producer,
         asked: &Asked<'_>,
         init: &TxnInit,
     ) -> Result<Answer, Closed> {
-        if !producer.heard.hear(Role::Coordinator, self.number()) {
-            return Err(Closed);
-        }
         let reply = self.ask_as_newest(init)?;
-        let Some(grant) = granted(init.held, &reply) else {
-            return self.refuse_init(asked, init_code(version_of(asked), reply.code).number());
-        };
-        producer.grant = Some(grant);
-        producer.heard.granted_to(self.number());
-        Ok(Answer::Frame(init_frame(self.alloc, &asked.header, &reply)?))
+        match producer.granted(version_of(asked), init.held, self.number(), &reply) {
+            Ok(()) => Ok(Answer::Frame(init_frame(self.alloc, &asked.header, &reply)?)),
+            Err(code) => self.refuse_init(asked, code.number()),
+        }
     }
 
     /// The response to InitProducerId with a transactional id.
@@ -163,42 +132,27 @@ impl<'a, L: Readable, J: Naming, R: Wait + Clock + Drop> Session<'a, L, J, R> {
         asked: &Asked<'_>,
         init: &TxnInit,
     ) -> Result<Answer, Closed> {
+        if is_own(&init.txn) {
+            let code = GatewayCode::TransactionalIdAuthorizationFailed;
+            return self.refuse_init(asked, code.number());
+        }
         let producers = &self.link.shared.producers;
         let producer = producers.find_or_add(self.rt, init.txn)?;
         let mut producer = producer.lock(self.rt);
-        match init_verdict(producer.grant, init.held) {
-            InitVerdict::Ask => self.grant_to(&mut producer, asked, init),
-            InitVerdict::Fenced => {
+        match producer.init(init.held, self.number()) {
+            None => Err(Closed),
+            Some(InitVerdict::Ask) => self.grant_to(&mut producer, asked, init),
+            Some(InitVerdict::Fenced) => {
                 self.refuse_init(asked, init_fenced_code(version_of(asked)).number())
             }
         }
     }
 
     // The producer of a transactional id, by its text. None where it was never granted.
-    fn producer_of(&self, txn: &[u8]) -> Option<(TxnId, Arc<Mutex<Producer>>)> {
+    pub(crate) fn producer_of(&self, txn: &[u8]) -> Option<(TxnId, Arc<Mutex<Producer>>)> {
         let txn = txn_of(txn)?;
         let producer = self.link.shared.producers.find(self.rt, &txn)?;
         Some((txn, producer))
-    }
-
-    // What a producer that lists a partition is answered.
-    fn add_to(
-        &self,
-        producer: &mut Producer,
-        held: Held,
-        partition: PartitionId,
-    ) -> Result<ErrorCode, Closed> {
-        let Some(mut grant) = producer.grant else {
-            return Ok(UNKNOWN);
-        };
-        let code = grant.add_partition(held, partition);
-        if code == ErrorCode::NoError {
-            if !producer.heard.hear(Role::Coordinator, self.number()) {
-                return Err(Closed);
-            }
-            producer.grant = Some(grant);
-        }
-        Ok(code)
     }
 
     // What is answered for a partition that is listed for a transactional id.
@@ -215,7 +169,9 @@ impl<'a, L: Readable, J: Naming, R: Wait + Clock + Drop> Session<'a, L, J, R> {
             return Ok(UNKNOWN);
         };
         let mut producer = producer.lock(self.rt);
-        self.add_to(&mut producer, *held, partition)
+        producer
+            .add_partition(*held, partition, self.number())
+            .ok_or(Closed)
     }
 
     // What is answered for each partition that is listed.
@@ -264,7 +220,7 @@ impl<'a, L: Readable, J: Naming, R: Wait + Clock + Drop> Session<'a, L, J, R> {
 
     // Asks the coordinator to end a transaction, and again while it answers that markers are under
     // way.
-    fn ask_for_end(&self, end: EndTxn) -> Result<EndReply, Closed> {
+    pub(crate) fn ask_for_end(&self, end: EndTxn) -> Result<EndReply, Closed> {
         for _ in 0..MOST_ASKED {
             let reply = end_reply(&self.ask(Message::EndTxn(end))?)?;
             if reply.code != ErrorCode::ConcurrentTransactions {
@@ -279,49 +235,21 @@ impl<'a, L: Readable, J: Naming, R: Wait + Clock + Drop> Session<'a, L, J, R> {
         })
     }
 
-    // What a producer is answered of whose transaction something was sent to the core.
-    fn end_asked(&self, grant: &mut Grant, version: i16, end: EndTxn) -> Result<ErrorCode, Closed> {
-        let outcome = end.outcome;
-        let reply = self.ask_for_end(end)?;
-        if reply.code == ErrorCode::NoError {
-            if let Some(next) = &reply.held {
-                grant.ended(outcome, *next);
-            }
-        }
-        Ok(end_code(version, reply.code))
-    }
-
     // What a producer that ends its transaction is answered.
     fn end(
         &self,
         producer: &mut Producer,
         version: i16,
-        asked: EndTxn,
+        asked: &EndTxn,
     ) -> Result<ErrorCode, Closed> {
-        let Some(mut grant) = producer.grant else {
-            return Ok(UNKNOWN);
-        };
-        if !grant.holds(&asked.held) {
-            return Ok(end_fenced_code(version));
-        }
-        if !producer.heard.hear(Role::Coordinator, self.number()) {
-            return Err(Closed);
-        }
-        let code = match grant.end(asked.held, asked.outcome) {
-            EndVerdict::Fenced => end_fenced_code(version),
-            EndVerdict::Answer(code) => code,
-            EndVerdict::Ask { held, outcome } => {
-                let end = EndTxn {
-                    caller: asked.caller,
-                    txn: asked.txn,
-                    held,
-                    outcome,
-                };
-                self.end_asked(&mut grant, version, end)?
+        match producer.end(version, asked, self.number()) {
+            None => Err(Closed),
+            Some(EndStep::Answer(code)) => Ok(code),
+            Some(EndStep::Ask(end)) => {
+                let reply = self.ask_for_end(end)?;
+                Ok(producer.end_answered(version, &end, &reply))
             }
-        };
-        producer.grant = Some(grant);
-        Ok(code)
+        }
     }
 
     // What is answered for a transaction that is to end.
@@ -339,7 +267,7 @@ impl<'a, L: Readable, J: Naming, R: Wait + Clock + Drop> Session<'a, L, J, R> {
             outcome: outcome_of(request.committed),
         };
         let mut producer = producer.lock(self.rt);
-        self.end(&mut producer, version, end)
+        self.end(&mut producer, version, &end)
     }
 
     /// The response to EndTxn.
@@ -372,56 +300,21 @@ impl<'a, L: Readable, J: Naming, R: Wait + Clock + Drop> Session<'a, L, J, R> {
         Err(Closed)
     }
 
-    // What a producer is answered for a batch that the core is asked to append.
-    fn append_at(
-        &self,
-        grant: &mut Grant,
-        batch: &TxnBatch<'_>,
-        held: Held,
-        first: i32,
-    ) -> Result<(ErrorCode, i64), Closed> {
-        let reply = self.ask_to_append(batch, held, first)?;
-        note(grant, batch, reply.code);
-        Ok((produce_code(reply.code), reply.offset))
-    }
-
-    // What a producer is answered for its batch, a code and an offset, and what becomes of its
-    // grant.
-    fn append_granted(
-        &self,
-        grant: &mut Grant,
-        batch: &TxnBatch<'_>,
-    ) -> Result<(ErrorCode, i64), Closed> {
-        let verdict = grant.batch(
-            batch.held(),
-            batch.partition(),
-            batch.first(),
-            batch.count(),
-        );
-        match verdict {
-            BatchVerdict::Send { held, first } => self.append_at(grant, batch, held, first),
-            BatchVerdict::Refused(code) => {
-                note(grant, batch, code);
-                Ok((code, -1))
-            }
-        }
-    }
-
-    // As `append_granted`, over a connection that is heard where the batch has the granted pair.
+    // What a producer is answered for its batch, a code and an offset.
     fn append_of(
         &self,
         producer: &mut Producer,
         batch: &TxnBatch<'_>,
     ) -> Result<(ErrorCode, i64), Closed> {
-        let Some(mut grant) = producer.grant else {
-            return Ok((UNKNOWN, -1));
-        };
-        if grant.holds(&batch.held()) && !producer.heard.hear(Role::Batches, self.number()) {
-            return Err(Closed);
+        let claims = client_batch(batch);
+        match producer.batch(&claims, self.number()) {
+            None => Err(Closed),
+            Some(BatchVerdict::Refused(code)) => Ok((code, -1)),
+            Some(BatchVerdict::Send { held, first }) => {
+                let reply = self.ask_to_append(batch, held, first)?;
+                Ok((producer.batch_answered(&claims, reply.code), reply.offset))
+            }
         }
-        let answer = self.append_granted(&mut grant, batch);
-        producer.grant = Some(grant);
-        answer
     }
 
     /// What is answered for a batch of a transaction.

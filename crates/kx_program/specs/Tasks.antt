@@ -3,15 +3,13 @@ use Rattle.std.specs.Prelude.{◌≡◌, ◌<◌, ◌^◌, ℕ, List, Bool, true
 use Rattle.std.specs.Prelude.{option_map}
 use Rattle.std.specs.Str.Parse.{IsNumeral, digits_value, without_leading_plus}
 use Rattle.clap.specs.Words.{Row, Text, first_of, one_of, subcommand_of}
-use Rattle.kx_play.specs.Options.{IsRecords, IsWorkers}
+use Rattle.kx_bounded.specs.Bounds.{IsWithin}
 use Rattle.kx_play.specs.declared.options.PlayOptions.{PlayOptions}
 use Rattle.kx_program.specs.Usage.{program_app}
 use Rattle.kx_program.specs.declared.task.Demonstration.{Demonstration}
 use Rattle.kx_program.specs.declared.task.StockClients.{StockClients}
 use Rattle.kx_program.specs.declared.task.Task.{Task}
 use Rattle.kx_program.specs.declared.task.Task.TheVariants as task
-use Rattle.kx_relay.specs.Line.{IsHolding, IsLosses}
-use Rattle.kx_server.specs.Options.{IsConnections, IsPartitions}
 use Rattle.kx_server.specs.declared.options.ServeOptions.{ServeOptions}
 
 -- the text is this number of so many bits, in decimal digits
@@ -25,16 +23,28 @@ abbrev pub Flags : Option Text → Bool → Type 0
 Flags None on = on ≡ false
 Flags (Some text) on = (text ≡ codes "true" → on ≡ true) × (text ≡ codes "false" → on ≡ false)
 
+-- no timeout is written as 0
+abbrev pub millis_of : Option ℕ → ℕ
+millis_of None = 0
+millis_of (Some timeout) = timeout
+
+abbrev pub IsSession : Option ℕ → Type 0
+IsSession None = Unit {0}
+IsSession (Some timeout) = IsWithin 1 900000 timeout
+
 -- the options of `serve`
 pub record IsServe (rows : List Row) (is_watched : Bool) (options : ServeOptions) : Type 0 where
   pub partitions : Writes 16 (one_of (codes "partitions") rows) options.partitions
-  pub partitions_fit : IsPartitions options.partitions
+  pub partitions_fit : IsWithin 1 16 options.partitions
   pub connections : Writes 16 (one_of (codes "connections") rows) options.connections
-  pub connections_fit : IsConnections options.connections
+  pub connections_fit : IsWithin 1 1024 options.connections
   pub port : Writes 16 (one_of (codes "port") rows) options.port
   pub dir : option_map (λ d. d.now) options.dir ≡ first_of (codes "dir") rows
   pub tells : options.tells_progress ≡ is_watched
   pub expires : Flags (one_of (codes "expire") rows) options.expires
+  pub session : Writes 32 (one_of (codes "session-timeout") rows)
+      (millis_of options.session_timeout)
+  pub session_fits : IsSession options.session_timeout
 
 -- the options of `kafka`
 pub record IsKafka (rows : List Row) (is_watched : Bool) (asked : StockClients) : Type 0 where
@@ -47,14 +57,14 @@ pub record IsKafka (rows : List Row) (is_watched : Bool) (asked : StockClients) 
 -- what is played
 pub record IsPlay (rows : List Row) (options : PlayOptions) : Type 0 where
   pub workers : Writes 16 (one_of (codes "workers") rows) options.workers
-  pub workers_fit : IsWorkers options.workers
+  pub workers_fit : IsWithin 1 16 options.workers
   pub records : Writes 16 (one_of (codes "records") rows) options.records
-  pub records_fit : IsRecords options.records
+  pub records_fit : IsWithin 1 10000 options.records
   pub seed : Writes 64 (one_of (codes "seed") rows) options.seed
   pub lose : Writes 16 (one_of (codes "lose") rows) options.lose
-  pub lose_fits : IsLosses options.lose
+  pub lose_fits : IsWithin 0 50 options.lose
   pub hold : Writes 16 (one_of (codes "hold") rows) options.hold
-  pub hold_fits : IsHolding options.hold
+  pub hold_fits : IsWithin 0 8 options.hold
 
 -- the options of `demo`
 pub record IsDemo (rows : List Row) (asked : Demonstration) : Type 0 where

@@ -48,9 +48,14 @@ expire_rule = record (new_rule (codes "expire")) {
   action = Some SetTrue;
 }
 
+abbrev pub session_timeout_rule : Rule
+session_timeout_rule =
+    read_by (between 0 900000) (with_default (codes "0") (option_of (codes "session-timeout")))
+
 abbrev pub serve_app : App
-serve_app = with_rule (with_rule (with_rule (with_rule (with_rule (new_app (codes "serve"))
-    partitions_rule) connections_rule) port_rule) dir_rule) expire_rule
+serve_app = with_rule (with_rule (with_rule (with_rule (with_rule (with_rule
+    (new_app (codes "serve")) partitions_rule) connections_rule) port_rule) dir_rule) expire_rule)
+    session_timeout_rule
 
 abbrev pub topics_rule : Rule
 topics_rule = read_by parser.NonEmptyString (option_of (codes "topics"))

@@ -18,7 +18,7 @@ use std::thread::Threads;
 use std::time::Clock;
 
 // How many connections are served at a time.
-const MOST_CONNECTIONS: usize = 1024;
+const MOST_CONNECTIONS: u16 = 1024;
 
 // The topics that are asked for.
 fn topics_of(alloc: Global, asked: Option<&str>) -> Result<Topics, AskFault> {

@@ -1,15 +1,16 @@
 //! What the words of a command line ask for.
-ghost use Rattle.std.specs.Prelude.{ℕ, MatchOption, codes};
+ghost use Rattle.std.specs.Prelude.{ℕ, ◌≡◌, MatchOption, Option, codes};
 ghost use Rattle.clap.specs.Words.{found_of, one_of, rows_of, subcommand_rows_of};
 ghost use Rattle.kx_play.specs.declared.options.PlayOptions.{PlayOptions};
-ghost use Rattle.kx_program.specs.Tasks.{AsksFor, IsDemo, IsKafka, IsPlay, IsServe, Writes};
+ghost use Rattle.kx_program.specs.Tasks.{AsksFor, IsDemo, IsKafka, IsPlay, IsServe, IsSession};
+ghost use Rattle.kx_program.specs.Tasks.{Writes, millis_of};
 ghost use Rattle.kx_program.specs.declared.task.Demonstration.{Demonstration};
 ghost use Rattle.kx_program.specs.declared.task.StockClients.{StockClients};
 ghost use Rattle.kx_program.specs.declared.task.Task.{Task};
-ghost use Rattle.kx_relay.specs.Line.{IsLosses};
 ghost use Rattle.kx_server.specs.declared.options.ServeOptions.{ServeOptions};
 
 use clap::ArgMatches;
+use kx_message::Timeout;
 use kx_play::{PlayOptions, Records, WorkerCount};
 use kx_relay::{Holding, Losses};
 use kx_server::{Connections, Partitions, ServeOptions};
@@ -71,6 +72,43 @@ fn seed_in(given: &ArgMatches<'_>) -> Option<u64>
     given.get_one("seed")
 }
 
+// For how many milliseconds a member of a group may be silent.
+fn millis_in(given: &ArgMatches<'_>) -> Option<u32>
+    ensures { MatchOption result
+        ((n : ℕ) → Writes 32 (one_of (codes "session-timeout") (rows_of (found_of given.now))) n
+        → ⊥)
+        (Writes 32 (one_of (codes "session-timeout") (rows_of (found_of given.now)))) }
+{
+    given.get_one("session-timeout")
+}
+
+// The timeout of so many milliseconds; 0 is none.
+fn session_of(millis: u32) -> Option<Option<Timeout>>
+    ensures { MatchOption result
+        ((timeout : Option ℕ) → millis ≡ millis_of timeout → IsSession timeout → ⊥)
+        (λ timeout. (millis ≡ millis_of timeout) × IsSession timeout) }
+{
+    if millis == 0 {
+        return Some(None);
+    }
+    match Timeout::try_from(millis) {
+        Ok(timeout) => Some(Some(timeout)),
+        Err(_) => None,
+    }
+}
+
+// For how long a member of a group may be silent; None where 0 is written.
+fn session_in(given: &ArgMatches<'_>) -> Option<Option<Timeout>>
+    ensures { MatchOption result
+        ((timeout : Option ℕ) → Writes 32 (one_of (codes "session-timeout")
+        (rows_of (found_of given.now))) (millis_of timeout) → IsSession timeout → ⊥)
+        (λ timeout. Writes 32 (one_of (codes "session-timeout") (rows_of (found_of given.now)))
+        (millis_of timeout) × IsSession timeout) }
+{
+    let millis = millis_in(given)?;
+    session_of(millis)
+}
+
 // What `serve` is asked for.
 fn serve_options<'a>(given: &ArgMatches<'a>, is_watched: bool) -> Option<ServeOptions<'a>>
     ensures { MatchOption result
@@ -79,11 +117,12 @@ fn serve_options<'a>(given: &ArgMatches<'a>, is_watched: bool) -> Option<ServeOp
 {
     Some(ServeOptions {
         partitions: Partitions::new(number_in(given, "partitions")?)?,
-        connections: Connections::new(usize::from(number_in(given, "connections")?))?,
+        connections: Connections::new(number_in(given, "connections")?)?,
         port: number_in(given, "port")?,
         dir: given.get_str("dir"),
         tells_progress: is_watched,
         expires: given.get_flag("expire"),
+        session_timeout: session_in(given)?,
     })
 }
 
@@ -102,20 +141,6 @@ fn kafka_in<'a>(given: &ArgMatches<'a>, is_watched: bool) -> Option<StockClients
     })
 }
 
-// How many frames of a hundred are lost.
-fn losses_in(given: &ArgMatches<'_>) -> Option<Losses>
-    ensures { MatchOption result
-        ((n : ℕ) → Writes 16 (one_of (codes "lose") (rows_of (found_of given.now))) n
-        → IsLosses n → ⊥)
-        (λ losses. Writes 16 (one_of (codes "lose") (rows_of (found_of given.now))) losses
-        × IsLosses losses) }
-{
-    match u8::try_from(number_in(given, "lose")?) {
-        Ok(percent) => Losses::new(percent),
-        Err(_) => None,
-    }
-}
-
 // What `demo` is asked to play.
 fn play_options(given: &ArgMatches<'_>) -> Option<PlayOptions>
     ensures { MatchOption result
@@ -123,11 +148,11 @@ fn play_options(given: &ArgMatches<'_>) -> Option<PlayOptions>
         (IsPlay (rows_of (found_of given.now))) }
 {
     Some(PlayOptions {
-        workers: WorkerCount::new(usize::from(number_in(given, "workers")?))?,
-        records: Records::new(usize::from(number_in(given, "records")?))?,
+        workers: WorkerCount::new(number_in(given, "workers")?)?,
+        records: Records::new(number_in(given, "records")?)?,
         seed: seed_in(given)?,
-        lose: losses_in(given)?,
-        hold: Holding::new(usize::from(number_in(given, "hold")?))?,
+        lose: Losses::new(number_in(given, "lose")?)?,
+        hold: Holding::new(number_in(given, "hold")?)?,
     })
 }
 

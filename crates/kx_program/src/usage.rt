@@ -2,6 +2,7 @@
 ghost use Rattle.std.specs.Prelude.{◌≡◌, IfOk, false};
 ghost use Rattle.clap.specs.Words.{app_of, rule_of};
 ghost use Rattle.clap.specs.declared.builder.command.Command.TheViews.{out-Command};
+ghost use Rattle.kx_program.specs.Usage.{session_timeout_rule};
 ghost use Rattle.kx_program.specs.Usage.{connections_rule, demo_app, dir_rule, dump_app, expire_rule};
 ghost use Rattle.kx_program.specs.Usage.{hold_rule, kafka_app, kafka_port_rule, lose_rule, needed};
 ghost use Rattle.kx_program.specs.Usage.{no_auto_topics_rule, option_of, partitions_rule, port_rule};
@@ -93,6 +94,18 @@ fn expire<'a>(alloc: Global) -> Arg<'a>
         .long("expire")
         .action(ArgAction::SetTrue)
         .help("Aborts transactions whose time is up; else they stay open")
+}
+
+// For how long a member of a group may be silent.
+fn session_timeout<'a>(alloc: Global) -> Arg<'a>
+    ensures rule { rule_of result ≡ session_timeout_rule }
+    ensures local { result.global ≡ false }
+{
+    let help =
+        "Drops members of groups that are silent for so many milliseconds, up to 900000; 0 drops none";
+    number(alloc, "session-timeout", "MS", "0", help).value_parser(clap::value_parser!(u32).range(
+        0..=900_000,
+    ))
 }
 
 // The topics of a server of stock clients.
@@ -222,7 +235,8 @@ fn serve_usage<'a>(alloc: Global) -> Result<Command<'a>, AllocError>
         .arg(connections(alloc))?
         .arg(port(alloc))?
         .arg(dir(alloc))?
-        .arg(expire(alloc))
+        .arg(expire(alloc))?
+        .arg(session_timeout(alloc))
 }
 
 // `kafka`.

@@ -3,6 +3,5 @@ pub mod Faults
 pub mod Files
 pub mod Lines
 pub mod Opening
-pub mod Options
 pub mod Owed
 pub mod Queues

@@ -36,6 +36,7 @@ pub(crate) struct Connection<'a, L: Readable, J: Naming, R: Wait + Drop> {
     hub: &'a Hub<L, J, R>,
     peer: &'a Arc<Peer>,
     partitions: Partitions,
+    hears: bool,
     speakers: Speakers,
 }
 
@@ -46,12 +47,14 @@ impl<'a, L: Readable, J: Naming, R: Wait + Drop> Connection<'a, L, J, R> {
         hub: &'a Hub<L, J, R>,
         peer: &'a Arc<Peer>,
         partitions: Partitions,
+        hears: bool,
     ) -> Self {
         Connection {
             alloc,
             hub,
             peer,
             partitions,
+            hears,
             speakers: Speakers::new(alloc),
         }
     }
@@ -71,6 +74,9 @@ impl<'a, L: Readable, J: Naming, R: Wait + Drop> Connection<'a, L, J, R> {
             return Err(Closed);
         };
         self.hear(client)?;
+        if self.hears {
+            self.hub.sessions.hear(rt, client, &message)?;
+        }
         if let Some(reply) = missing_partition(self.alloc, &message, self.partitions.get()) {
             self.peer.answer(rt, reply);
             return Ok(());

@@ -3,6 +3,7 @@
 use crate::peer::Peer;
 use crate::readers::Readers;
 use crate::routes::Routes;
+use crate::sessions::Sessions;
 use crate::watches::{Waker, Watches};
 use kx_broker::{answer_fetch, page_room};
 use kx_machine::Input;
@@ -135,6 +136,7 @@ pub struct Hub<L: Readable, J: Naming, R: Wait + Drop> {
     nodes: Handle<PublishedMachine<L, J, R>, Answers<R>>,
     // the receipts of steps that no worker made; None once some were lost
     kept: Mutex<Option<Vec<Receipt>>>,
+    pub(crate) sessions: Sessions,
 }
 
 impl<L: Readable, J: Naming, R: Wait + Drop> Hub<L, J, R> {
@@ -149,6 +151,7 @@ impl<L: Readable, J: Naming, R: Wait + Drop> Hub<L, J, R> {
             places,
             nodes,
             kept: Mutex::new(Some(Vec::new(alloc))),
+            sessions: Sessions::new(alloc),
         }
     }
 
@@ -253,6 +256,19 @@ impl<L: Readable, J: Naming, R: Wait + Drop> Hub<L, J, R> {
         let _ = self.step(rt, NodeId::Coordinator, Input::Remind);
     }
 
+    /// Drops members of groups whose clients weren't heard for this long, in milliseconds, now that
+    /// so many have passed.
+    pub(crate) fn drop_silent(&self, rt: &R, passed: u64, limit: u64) {
+        self.sessions.pass(rt, passed);
+        for _ in rt.forever() {
+            let Some((group, member)) = self.sessions.take_silent(rt, limit) else {
+                break;
+            };
+            let offsets = NodeId::Partition(PartitionId::OFFSETS);
+            let _ = self.step(rt, offsets, Input::Drop(group, member));
+        }
+    }
+
     /// Each node whose log is closed is opened again, and each log that readers don't see yet is
     /// published. Where that fails, it is tried again by the next call.
     pub(crate) fn tend(&self, rt: &R, now: u64) {
@@ -299,8 +315,8 @@ impl<L: Readable, J: Naming, R: Wait + Drop> Hub<L, J, R> {
         ends
     }
 
-    /// The reply with the page that is asked for, of the published log of its partition: no step.
-    /// None where the log isn't published, or memory runs out.
+    /// The reply with the page that is asked for, read from the published log of its partition, so
+    /// that the node takes no step. Returns None if the log isn't published or memory runs out.
     pub fn page(&self, rt: &R, fetch: &Fetch) -> Option<Message> {
         let readers = self.readers(NodeId::Partition(fetch.partition))?;
         let mut reader = readers.take(rt)?;

@@ -21,6 +21,7 @@ mod readers;
 mod routes;
 mod seats;
 mod server;
+mod sessions;
 mod speakers;
 mod ticking;
 mod waiting;

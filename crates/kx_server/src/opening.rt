@@ -10,7 +10,7 @@ ghost use Rattle.kx_log.specs.Log.{IsLog};
 ghost use Rattle.kx_machine.specs.Meaning.{AtPartition, NodeState};
 ghost use Rattle.kx_message.specs.Ranges.{data_partitions, offsets_partition};
 ghost use Rattle.kx_server.specs.Opening.{HasBook, IsOpened};
-ghost use Rattle.kx_server.specs.Options.{IsConnections};
+ghost use Rattle.kx_bounded.specs.Bounds.{IsWithin};
 
 use crate::fault::ServeFault;
 use crate::files::LogFile;
@@ -163,7 +163,7 @@ fn placed<L: Readable, J: Naming, R: Wait + Drop + Copy>(
         (AtPartition opened.partition (opened_partition (L.log locked))) locked }
     requires log { IsLog (L.log locked) }
     requires grown { IsGrown (L.log locked) }
-    requires readers { IsConnections readers }
+    requires readers { IsWithin 1 1024 readers }
     requires book { opened.seen.book ≡ J.book opened.partition }
 {
     if !wrote_itself(opened.partition, &locked) {
@@ -311,7 +311,7 @@ impl<'a, F: Folder, R: Wait + Drop + Copy> Making<'a, F, R> {
         requires opened { IsOpened opened.partition machine }
         requires book { opened.seen.book ≡ J.book opened.partition }
     {
-        let readers = self.connections.get().min(MOST_READERS);
+        let readers = usize::from(self.connections.get()).min(MOST_READERS);
         let locked = Untraced::new(NodeId::Partition(opened.partition), machine);
         let place = placed(self.rt, self.alloc, locked, opened, readers)?;
         if place.readers.is_none() {

@@ -1,88 +1,12 @@
 //! What a server is asked for.
-ghost use Rattle.std.specs.Prelude.{◌≡◌, ◌≤◌, MatchOption};
-ghost use Rattle.kx_server.specs.Options.{IsConnections, IsPartitions};
-
-use kx_message::PartitionId;
-use std::marker::Model;
-
-// The most connections that a server serves.
-const MOST_CONNECTIONS: usize = 1024;
+use kx_bounded::Bounded;
+use kx_message::{PartitionId, Timeout};
 
 /// How many data partitions a server has, 1 to 16: those from 0 on.
-#[derive(Clone, Copy, Debug, PartialEq, Eq)]
-pub struct Partitions(u16);
-
-impl Model for Partitions {
-    ghost use Rattle.std.specs.Prelude.{ℕ};
-    ghost use Rattle.kx_server.specs.Options.{IsPartitions};
-
-    ghost Value = { ℕ };
-
-    ghost view = { λ count. count.0 };
-
-    ghost invariant = { λ count. IsPartitions count.0 };
-
-    ghost inverse = { λ n. record { 0 = n } };
-}
-
-impl Partitions {
-    /// This many, or None where that is 0 or more than 16.
-    pub fn new(count: u16) -> Option<Partitions>
-        ensures { MatchOption result (IsPartitions count → ⊥)
-            (λ it. (it ≡ count) × IsPartitions count) }
-    {
-        match count {
-            1..=PartitionId::DATA_COUNT => Some(Partitions(count)),
-            _ => None,
-        }
-    }
-
-    /// How many there are.
-    pub fn get(self) -> u16
-        ensures value { result ≡ self }
-        ensures within { IsPartitions self }
-    {
-        self.0
-    }
-}
+pub type Partitions = Bounded<1, { PartitionId::DATA_COUNT }>;
 
 /// How many connections a server serves before it ends, 1 to 1,024.
-#[derive(Clone, Copy, Debug, PartialEq, Eq)]
-pub struct Connections(usize);
-
-impl Model for Connections {
-    ghost use Rattle.std.specs.Prelude.{ℕ};
-    ghost use Rattle.kx_server.specs.Options.{IsConnections};
-
-    ghost Value = { ℕ };
-
-    ghost view = { λ count. count.0 };
-
-    ghost invariant = { λ count. IsConnections count.0 };
-
-    ghost inverse = { λ n. record { 0 = n } };
-}
-
-impl Connections {
-    /// This many, or None where that is 0 or more than 1,024.
-    pub fn new(count: usize) -> Option<Connections>
-        ensures { MatchOption result (IsConnections count → ⊥)
-            (λ it. (it ≡ count) × IsConnections count) }
-    {
-        match count {
-            1..=MOST_CONNECTIONS => Some(Connections(count)),
-            _ => None,
-        }
-    }
-
-    /// How many there are.
-    pub fn get(self) -> usize
-        ensures value { result ≡ self }
-        ensures within { IsConnections self }
-    {
-        self.0
-    }
-}
+pub type Connections = Bounded<1, 1024>;
 
 /// What a server is asked for.
 #[derive(Clone, Copy)]
@@ -99,6 +23,8 @@ pub struct ServeOptions<'a> {
     /// Whether its clock ends transactions that have lasted longer than they asked for. Else none
     /// ends by itself.
     pub expires: bool,
+    /// How long nothing may be heard of a member of a group until it is dropped; None drops none.
+    pub session_timeout: Option<Timeout>,
     /// Whether it tells on standard error which log it opens, and how long that is.
     pub tells_progress: bool,
 }

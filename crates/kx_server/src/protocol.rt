@@ -51,6 +51,8 @@ pub trait Protocol: Drop {
 #[derive(Drop)]
 pub(crate) struct OwnFrames {
     pub(crate) partitions: Partitions,
+    // whether clients are heard, so that silent members can be dropped
+    pub(crate) hears: bool,
 }
 
 /// A connection whose clients send frames of messages.
@@ -58,6 +60,7 @@ pub(crate) struct OwnFrames {
 pub(crate) struct OwnLink {
     peer: Arc<Peer>,
     partitions: Partitions,
+    hears: bool,
 }
 
 impl Protocol for OwnFrames {
@@ -72,6 +75,7 @@ impl Protocol for OwnFrames {
         Ok(OwnLink {
             peer,
             partitions: self.partitions,
+            hears: self.hears,
         })
     }
 }
@@ -83,7 +87,7 @@ impl Link for OwnLink {
         alloc: Global,
         hub: &Hub<L, J, R>,
     ) {
-        Connection::new(alloc, hub, &self.peer, self.partitions).serve(rt);
+        Connection::new(alloc, hub, &self.peer, self.partitions, self.hears).serve(rt);
     }
 
     fn write<L: Readable, J: Naming, R: Wait + Clock + Drop>(

@@ -18,7 +18,7 @@ use crate::seats::Seats;
 use crate::ticking::{Going, keep_time, moment};
 use crate::waiting::wait_until;
 use crate::watches::Watches;
-use kx_message::PartitionId;
+use kx_message::{PartitionId, Timeout};
 use kx_nodes::{JoinSet, Receipt, Workers};
 use kx_published::book::{Naming, Opened};
 use kx_publishing::{PublishedMachine, Readable};
@@ -52,11 +52,19 @@ impl<
     R: Eprint + Threads + Wait + Clock + Copy + Send + Sync + Drop + 'static,
 > Shared<L, J, R> {
     // Starts the clock.
-    fn add_clock(&self, threads: &mut JoinSet<R>, rt: R, expires: bool) -> Result<(), AllocError> {
+    fn add_clock(
+        &self,
+        threads: &mut JoinSet<R>,
+        rt: R,
+        expires: bool,
+        limit: Option<Timeout>,
+    ) -> Result<(), AllocError> {
         threads.make_room()?;
         let hub = Arc::try_clone(&self.hub)?;
         let going = Arc::try_clone(&self.going)?;
-        let Ok(handle) = thread::spawn(&rt, move || keep_time(&rt, &*hub, &*going, expires)) else {
+        let Ok(handle) = thread::spawn(&rt, move || {
+            keep_time(&rt, &*hub, &*going, expires, limit)
+        }) else {
             return Err(AllocError);
         };
         threads.push(handle);
@@ -112,7 +120,7 @@ impl Until {
     // How many connections are taken at most.
     fn taken(self, options: &ServeOptions<'_>) -> usize {
         match self {
-            Until::Served => options.connections.get(),
+            Until::Served => usize::from(options.connections.get()),
             Until::Killed => usize::MAX,
         }
     }
@@ -150,7 +158,7 @@ fn take_connections<
             Ok(stream) => stream,
             Err(fault) => return Err(net_fault(listener, fault)),
         };
-        if seats.count() >= options.connections.get() {
+        if seats.count() >= usize::from(options.connections.get()) {
             continue;
         }
         if let Some(link) = opened(&rt, alloc, protocol, number, stream) {
@@ -265,7 +273,10 @@ impl<
         let hub = Arc::try_clone(&self.shared.hub)?;
         let mut clock = JoinSet::new(rt, alloc);
         let mut seats = Seats::new(rt, alloc, hub);
-        let served = match self.shared.add_clock(&mut clock, rt, options.expires) {
+        let served = match self
+            .shared
+            .add_clock(&mut clock, rt, options.expires, options.session_timeout)
+        {
             Ok(()) => {
                 take_connections(rt, alloc, &mut seats, listener, options, (protocol, until))
             }
@@ -311,6 +322,7 @@ impl<
     ) -> Result<Vec<Receipt>, ServeFault> {
         let protocol = OwnFrames {
             partitions: options.partitions,
+            hears: options.session_timeout.is_some(),
         };
         self.serve_speaking(listener, options, &protocol, Until::Served)
     }
@@ -527,9 +539,10 @@ fn serve_own<
 {
     let protocol = OwnFrames {
         partitions: options.partitions,
+        hears: options.session_timeout.is_some(),
     };
     serve_speaking(rt, options, &protocol, Until::Served, out)?;
-    tell(out, "served", options.connections.get())
+    tell(out, "served", usize::from(options.connections.get()))
 }
 
 /// Serves the core on 127.0.0.1: prints `listening` and the port, serves as many connections as

@@ -1,10 +1,12 @@
 //! The clock of a server: nodes whose stores failed are opened again, logs that readers don't see
 //! yet are published, markers that weren't answered are sent again, and where the server is asked
-//! to, transactions that have lasted too long are ended.
+//! to, transactions that have lasted too long are ended, and members of groups that are silent for
+//! too long are dropped.
 ghost use Rattle.std.specs.Prelude.{◌≡◌, ◌/◌, min};
 ghost use Rattle.core.specs.Duration.{as_nanos};
 
 use crate::hub::Hub;
+use kx_message::Timeout;
 use kx_published::book::Naming;
 use kx_publishing::Readable;
 use std::sync::{Condvar, Mutex, Wait};
@@ -86,17 +88,34 @@ fn tick<L: Readable, J: Naming, R: Wait + Drop>(
     hub.remind(rt);
 }
 
+// Drops members of groups that were silent for too long, where the server does so at all.
+fn drop_silent<L: Readable, J: Naming, R: Wait + Drop>(
+    rt: &R,
+    hub: &Hub<L, J, R>,
+    limit: &Option<Timeout>,
+    passed: u64,
+) {
+    if let Some(limit) = limit {
+        hub.drop_silent(rt, passed, u64::from(limit.get()));
+    }
+}
+
 /// Ticks until the server has ended. Transactions that have lasted too long are ended only where
-/// the clock `expires` them.
+/// the clock `expires` them, and members of groups that are silent for longer than `limit` are
+/// dropped only where there is one.
 pub(crate) fn keep_time<L: Readable, J: Naming, R: Wait + Clock + Drop>(
     rt: &R,
     hub: &Hub<L, J, R>,
     going: &Going,
     expires: bool,
+    limit: Option<Timeout>,
 ) {
+    let mut last = moment(rt).unwrap_or(0);
     for _ in rt.forever() {
         if let Some(now) = moment(rt) {
             tick(rt, hub, expires, now);
+            drop_silent(rt, hub, &limit, now.saturating_sub(last));
+            last = now;
         }
         if going.waits(rt) {
             break;

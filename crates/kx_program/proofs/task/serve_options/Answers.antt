@@ -18,4 +18,6 @@ returns c = record {
       (one_text-rows (found_of c.args.given.now) (codes "expire"))
       (flags (one_text (found_of c.args.given.now) (codes "expire")) c.get_flag.result
       c.get_flag.ensures.none c.get_flag.ensures.value c.get_flag.ensures.other);
+  session = search rules;
+  session_fits = search rules;
 }

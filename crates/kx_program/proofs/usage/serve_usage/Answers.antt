@@ -16,9 +16,12 @@ returns c =
     c.port.ensures.rule c.port.ensures.local in
     let made_4 = with_argument _ _ _ _ _ c.in_ok-arg-4.ensures made_3
     c.dir.ensures.rule c.dir.ensures.local in
+    let made_5 = with_argument _ _ _ _ _ c.in_ok-arg-5.ensures made_4
+    c.expire.ensures.rule c.expire.ensures.local in
     record {
-      app = IfOk-weaker c.arg-5.result _ _ (λ command adds. (with_argument _ _ _ _ _ adds
-          made_4 c.expire.ensures.rule c.expire.ensures.local).is) c.arg-5.ensures;
-      local = IfOk-weaker c.arg-5.result _ _ (λ command adds. (with_argument _ _ _ _ _ adds
-          made_4 c.expire.ensures.rule c.expire.ensures.local).local) c.arg-5.ensures;
+      app = IfOk-weaker c.arg-6.result _ _ (λ command adds. (with_argument _ _ _ _ _ adds
+          made_5 c.session_timeout.ensures.rule c.session_timeout.ensures.local).is) c.arg-6.ensures;
+      local = IfOk-weaker c.arg-6.result _ _ (λ command adds. (with_argument _ _ _ _ _ adds
+          made_5 c.session_timeout.ensures.rule c.session_timeout.ensures.local).local)
+          c.arg-6.ensures;
     }

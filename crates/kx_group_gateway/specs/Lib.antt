@@ -1,0 +1,4 @@
+pub mod Claims
+pub mod Codes
+pub mod Fetched
+pub mod Replies

@@ -1,0 +1,464 @@
+//! The members of consumer groups: JoinGroup, SyncGroup, Heartbeat and LeaveGroup.
+//!
+//! A group's generation is the core's: when a rebalance is complete, the core is told who left and
+//! who is new, and a guest of the server's joins last, so that the generation that it is answered
+//! is the group's.
+use crate::answering::{Answer, Asked, Session};
+use crate::closed::Closed;
+use crate::groups::{KnownGroup, MOST_MEMBERS};
+use crate::replies::{join_reply, leave_reply};
+use kx_group_gateway::{
+    GroupCode, generation_in, group_of, heartbeat_frame, join_frame, leave_frame,
+    refused_join_frame, sync_frame,
+};
+use kx_kafka::{
+    HeartbeatRequest, JoinGroupMember, JoinGroupRequest, LeaveGroupRequest, SyncGroupRequest,
+};
+use kx_membership::{
+    Assignment, Assignments, GroupFault, JoinAsk, Joined, Protocol, Protocols, member_id, number_in,
+};
+use kx_message::{Bytes, Caller, ClientId, ErrorCode, GroupId, Join, Leave, Message};
+use kx_published::book::Naming;
+use kx_publishing::Readable;
+use std::sync::{Arc, Mutex, Wait};
+use std::time::Clock;
+
+// How many protocols of a member are looked at. Stock clients have two or three.
+const MOST_PROTOCOLS: usize = 16;
+
+impl<'a, L: Readable, J: Naming, R: Wait + Clock + Drop> Session<'a, L, J, R> {
+    // The time of the server's clock, in milliseconds.
+    fn now(&self) -> Result<u64, Closed> {
+        let Some(begun) = &self.link.shared.begun else {
+            return Err(Closed);
+        };
+        match begun.elapsed(self.rt) {
+            Ok(passed) => Ok(u64::try_from(passed.as_millis()).unwrap_or(u64::MAX)),
+            Err(_) => Err(Closed),
+        }
+    }
+
+    // Asks the core in the name of another client.
+    fn ask_as(&self, client: ClientId, message: Message) -> Result<Message, Closed> {
+        self.hub.speaks(client, &self.link.peer)?;
+        let reply = self.ask(message);
+        self.hub.forget_client(client);
+        reply
+    }
+
+    // Tells the core that a member leaves. One that the core doesn't count has left before.
+    fn tell_leave(&self, group: GroupId, member: ClientId) -> Result<(), Closed> {
+        let caller = Caller {
+            client: member,
+            correlation: 0,
+        };
+        let leave = Leave { caller, group };
+        let reply = leave_reply(&self.ask_as(member, Message::Leave(leave))?)?;
+        match reply.code {
+            ErrorCode::NoError | ErrorCode::UnknownMemberId => Ok(()),
+            _ => Err(Closed),
+        }
+    }
+
+    // Tells the core that a member joins, and returns the group's generation.
+    fn tell_join(&self, group: GroupId, member: ClientId) -> Result<i32, Closed> {
+        let caller = Caller {
+            client: member,
+            correlation: 0,
+        };
+        let join = Join { caller, group };
+        let reply = join_reply(&self.ask_as(member, Message::Join(join))?)?;
+        generation_in(&reply).ok_or(Closed)
+    }
+
+    // Tells the core of each that leaves.
+    fn tell_gone(&self, id: GroupId, known: &mut KnownGroup) -> Result<(), Closed> {
+        for stranger in &known.strangers {
+            let member = *stranger;
+            self.tell_leave(id, member)?;
+        }
+        known.strangers.clear();
+        for gone in known.group.gone() {
+            let member = *gone;
+            self.tell_leave(id, member)?;
+        }
+        if let Some(guest) = known.guest {
+            self.tell_leave(id, guest)?;
+            known.guest = None;
+        }
+        Ok(())
+    }
+
+    // Tells the core of each new member.
+    fn tell_new(&self, id: GroupId, known: &KnownGroup) -> Result<(), Closed> {
+        for place in 0..MOST_MEMBERS {
+            if let Some(member) = known.group.new_at(place) {
+                self.tell_join(id, member)?;
+            }
+        }
+        Ok(())
+    }
+
+    // A guest joins, and what it is answered is the group's generation.
+    fn invite_guest(&self, id: GroupId, known: &mut KnownGroup) -> Result<(), Closed> {
+        let Some(guest) = self.link.shared.numbers.take(self.rt) else {
+            return Err(Closed);
+        };
+        known.generation = self.tell_join(id, guest)?;
+        known.guest = Some(guest);
+        Ok(())
+    }
+
+    /// Has a guest join, if none is there.
+    pub(crate) fn ensure_guest(&self, id: GroupId, known: &mut KnownGroup) -> Result<(), Closed> {
+        if known.guest.is_some() {
+            return Ok(());
+        }
+        for stranger in &known.strangers {
+            let member = *stranger;
+            self.tell_leave(id, member)?;
+        }
+        known.strangers.clear();
+        self.invite_guest(id, known)
+    }
+
+    /// Does what is due: members that are late are gone, and a rebalance that is complete is told to
+    /// the core and settled.
+    pub(crate) fn move_on(&self, id: GroupId, known: &mut KnownGroup) -> Result<(), Closed> {
+        let now = self.now()?;
+        known.group.tick(now);
+        if !known.group.due(now) {
+            return Ok(());
+        }
+        self.tell_gone(id, known)?;
+        self.tell_new(id, known)?;
+        self.invite_guest(id, known)?;
+        known
+            .group
+            .settle(self.alloc, known.generation, self.now()?)?;
+        known.forget_gone();
+        Ok(())
+    }
+
+    // What a client says when it joins. Of its protocols the first are looked at.
+    fn join_ask(&self, request: JoinGroupRequest<'_>) -> Result<JoinAsk, Closed> {
+        let mut protocols = Vec::new(self.alloc);
+        for protocol in request.protocols.take(MOST_PROTOCOLS) {
+            protocols.push(Protocol {
+                name: Bytes::from_vec(Vec::from_slice(self.alloc, protocol.name)?),
+                metadata: Bytes::from_vec(Vec::from_slice(self.alloc, protocol.metadata)?),
+            })?;
+        }
+        let session = request.session_timeout_ms;
+        Ok(JoinAsk {
+            session_timeout: session,
+            rebalance_timeout: match request.rebalance_timeout_ms {
+                -1 => session,
+                timeout => timeout,
+            },
+            protocol_type: Bytes::from_vec(Vec::from_slice(self.alloc, request.protocol_type)?),
+            protocols: Protocols::from_vec(protocols),
+        })
+    }
+
+    // A client joins that is no member yet.
+    fn join_new(
+        &self,
+        known: &mut KnownGroup,
+        client_id: &[u8],
+        ask: JoinAsk,
+    ) -> Result<Result<ClientId, GroupFault>, Closed> {
+        let Some(number) = self.link.shared.numbers.take(self.rt) else {
+            return Err(Closed);
+        };
+        if let Err(fault) = known.group.join_new(number, ask, self.now()?) {
+            return Ok(Err(fault));
+        }
+        known.name(number, member_id(self.alloc, client_id, number)?)?;
+        Ok(Ok(number))
+    }
+
+    // A member joins again.
+    fn join_again(
+        &self,
+        known: &mut KnownGroup,
+        id: &[u8],
+        ask: JoinAsk,
+    ) -> Result<Result<ClientId, GroupFault>, Closed> {
+        let Some(number) = number_in(id) else {
+            return Ok(Err(GroupFault::UnknownMember));
+        };
+        if let Err(fault) = known.group.join_again(number, ask, self.now()?) {
+            return Ok(Err(fault));
+        }
+        Ok(Ok(number))
+    }
+
+    // The response to a JoinGroup that is refused.
+    fn refuse_join(&self, asked: &Asked<'_>, code: i16, id: &[u8]) -> Result<Answer, Closed> {
+        Ok(Answer::Frame(refused_join_frame(self.alloc, &asked.header, code, id)?))
+    }
+
+    // The response to a JoinGroup of a member. The leader is told all members.
+    fn joined(
+        &self,
+        asked: &Asked<'_>,
+        known: &KnownGroup,
+        number: ClientId,
+        joined: Joined,
+    ) -> Result<Answer, Closed> {
+        let mut members = Vec::new(self.alloc);
+        if joined.is_leader {
+            for place in 0..MOST_MEMBERS {
+                if let Some(member) = known.group.number_at(place) {
+                    members.push(JoinGroupMember {
+                        member_id: known.id_of(member),
+                        metadata: known.group.metadata_of(member),
+                    })?;
+                }
+            }
+        }
+        let frame = join_frame(
+            self.alloc,
+            &asked.header,
+            joined.generation,
+            known.group.protocol(),
+            known.id_of(joined.leader),
+            known.id_of(number),
+            members.as_slice(),
+        )?;
+        Ok(Answer::Frame(frame))
+    }
+
+    // The answer to a member's JoinGroup, if there is one.
+    fn look_joined(
+        &self,
+        asked: &Asked<'_>,
+        id: GroupId,
+        known: &Mutex<KnownGroup>,
+        number: ClientId,
+    ) -> Result<Option<Answer>, Closed> {
+        let mut known = known.lock(self.rt);
+        self.move_on(id, &mut known)?;
+        match known.group.joined(number) {
+            None => Ok(None),
+            Some(Ok(joined)) => Ok(Some(self.joined(asked, &known, number, joined)?)),
+            Some(Err(fault)) => Ok(Some(self.refuse_join(asked, fault.number(), &[])?)),
+        }
+    }
+
+    // Waits for the answer to a member's JoinGroup.
+    fn wait_joined(
+        &self,
+        asked: &Asked<'_>,
+        id: GroupId,
+        known: &Mutex<KnownGroup>,
+        number: ClientId,
+    ) -> Result<Answer, Closed> {
+        for _ in self.rt.forever() {
+            if let Some(answer) = self.look_joined(asked, id, known, number)? {
+                return Ok(answer);
+            }
+            if !self.link.inbox.is_open(self.rt) {
+                return Err(Closed);
+            }
+            self.pause();
+        }
+        Err(Closed)
+    }
+
+    // Begins the JoinGroup of a client.
+    fn begin_join(
+        &self,
+        asked: &Asked<'_>,
+        id: GroupId,
+        known: &Mutex<KnownGroup>,
+        member: &[u8],
+        ask: JoinAsk,
+    ) -> Result<Result<ClientId, GroupFault>, Closed> {
+        let mut known = known.lock(self.rt);
+        self.move_on(id, &mut known)?;
+        if member.is_empty() {
+            let client_id = asked.header.client_id.unwrap_or(b"");
+            self.join_new(&mut known, client_id, ask)
+        } else {
+            self.join_again(&mut known, member, ask)
+        }
+    }
+
+    /// The response to JoinGroup, which waits until all members have joined, or those that have not
+    /// are gone.
+    pub(crate) fn join_group(
+        &self,
+        asked: &Asked<'_>,
+        request: JoinGroupRequest<'_>,
+    ) -> Result<Answer, Closed> {
+        let member = request.member_id;
+        let Some(id) = group_of(request.group_id) else {
+            return self.refuse_join(asked, GroupCode::InvalidGroupId.number(), member);
+        };
+        let ask = self.join_ask(request)?;
+        let known = self.link.shared.groups.find_or_add(self.rt, id)?;
+        match self.begin_join(asked, id, &known, member, ask)? {
+            Ok(number) => self.wait_joined(asked, id, &known, number),
+            Err(fault) => self.refuse_join(asked, fault.number(), member),
+        }
+    }
+
+    // What a leader assigns. Members that it doesn't know by their ids are left out.
+    fn assignments(&self, request: SyncGroupRequest<'_>) -> Result<Assignments, Closed> {
+        let mut assignments = Vec::new(self.alloc);
+        for assigned in request.assignments {
+            if let Some(member) = number_in(assigned.member_id) {
+                assignments.push(Assignment {
+                    member,
+                    bytes: Bytes::from_vec(Vec::from_slice(self.alloc, assigned.assignment)?),
+                })?;
+            }
+        }
+        Ok(Assignments::from_vec(assignments))
+    }
+
+    // The response to a SyncGroup, with this code and assignment.
+    fn synced(&self, asked: &Asked<'_>, code: i16, assignment: &[u8]) -> Result<Answer, Closed> {
+        Ok(Answer::Frame(sync_frame(self.alloc, &asked.header, code, assignment)?))
+    }
+
+    // The answer to a member's SyncGroup, if there is one.
+    fn look_synced(
+        &self,
+        asked: &Asked<'_>,
+        id: GroupId,
+        known: &Mutex<KnownGroup>,
+        number: ClientId,
+        generation: i32,
+    ) -> Result<Option<Answer>, Closed> {
+        let mut known = known.lock(self.rt);
+        self.move_on(id, &mut known)?;
+        match known.group.synced(number, generation) {
+            None => Ok(None),
+            Some(Ok(assignment)) => Ok(Some(self.synced(asked, 0, assignment)?)),
+            Some(Err(fault)) => Ok(Some(self.synced(asked, fault.number(), &[])?)),
+        }
+    }
+
+    // Begins the SyncGroup of a member.
+    fn begin_sync(
+        &self,
+        id: GroupId,
+        known: &Mutex<KnownGroup>,
+        number: ClientId,
+        generation: i32,
+        assignments: Assignments,
+    ) -> Result<Result<(), GroupFault>, Closed> {
+        let mut known = known.lock(self.rt);
+        self.move_on(id, &mut known)?;
+        let now = self.now()?;
+        Ok(known.group.sync(number, generation, assignments, now))
+    }
+
+    // Waits for what is assigned to a member.
+    fn wait_synced(
+        &self,
+        asked: &Asked<'_>,
+        id: GroupId,
+        known: &Mutex<KnownGroup>,
+        number: ClientId,
+        generation: i32,
+    ) -> Result<Answer, Closed> {
+        for _ in self.rt.forever() {
+            if let Some(answer) = self.look_synced(asked, id, known, number, generation)? {
+                return Ok(answer);
+            }
+            if !self.link.inbox.is_open(self.rt) {
+                return Err(Closed);
+            }
+            self.pause();
+        }
+        Err(Closed)
+    }
+
+    /// The response to SyncGroup, which waits until the leader has assigned.
+    pub(crate) fn sync_group(
+        &self,
+        asked: &Asked<'_>,
+        request: SyncGroupRequest<'_>,
+    ) -> Result<Answer, Closed> {
+        let Some(id) = group_of(request.group_id) else {
+            return self.synced(asked, GroupCode::InvalidGroupId.number(), &[]);
+        };
+        let Some(number) = number_in(request.member_id) else {
+            return self.synced(asked, GroupFault::UnknownMember.number(), &[]);
+        };
+        let generation = request.generation_id;
+        let assignments = self.assignments(request)?;
+        let Some(known) = self.link.shared.groups.find(self.rt, &id) else {
+            return self.synced(asked, GroupFault::UnknownMember.number(), &[]);
+        };
+        match self.begin_sync(id, &known, number, generation, assignments)? {
+            Ok(()) => self.wait_synced(asked, id, &known, number, generation),
+            Err(fault) => self.synced(asked, fault.number(), &[]),
+        }
+    }
+
+    // The code for a member that says that it is there.
+    fn beat(&self, request: &HeartbeatRequest<'_>) -> Result<i16, Closed> {
+        let Some(id) = group_of(request.group_id) else {
+            return Ok(GroupCode::InvalidGroupId.number());
+        };
+        let Some(number) = number_in(request.member_id) else {
+            return Ok(GroupFault::UnknownMember.number());
+        };
+        let Some(known) = self.link.shared.groups.find(self.rt, &id) else {
+            return Ok(GroupFault::UnknownMember.number());
+        };
+        let mut known = known.lock(self.rt);
+        self.move_on(id, &mut known)?;
+        let now = self.now()?;
+        match known.group.heartbeat(number, request.generation_id, now) {
+            Ok(()) => Ok(0),
+            Err(fault) => Ok(fault.number()),
+        }
+    }
+
+    /// The response to Heartbeat.
+    pub(crate) fn heartbeat(
+        &self,
+        asked: &Asked<'_>,
+        request: &HeartbeatRequest<'_>,
+    ) -> Result<Answer, Closed> {
+        let code = self.beat(request)?;
+        Ok(Answer::Frame(heartbeat_frame(self.alloc, &asked.header, code)?))
+    }
+
+    // The code for a member that leaves.
+    fn leave(&self, request: &LeaveGroupRequest<'_>) -> Result<i16, Closed> {
+        let Some(id) = group_of(request.group_id) else {
+            return Ok(GroupCode::InvalidGroupId.number());
+        };
+        let Some(number) = number_in(request.member_id) else {
+            return Ok(GroupFault::UnknownMember.number());
+        };
+        let Some(known) = self.link.shared.groups.find(self.rt, &id) else {
+            return Ok(GroupFault::UnknownMember.number());
+        };
+        let mut known = known.lock(self.rt);
+        let now = self.now()?;
+        let left = known.group.leave(number, now);
+        self.move_on(id, &mut known)?;
+        match left {
+            Ok(()) => Ok(0),
+            Err(fault) => Ok(fault.number()),
+        }
+    }
+
+    /// The response to LeaveGroup.
+    pub(crate) fn leave_group(
+        &self,
+        asked: &Asked<'_>,
+        request: &LeaveGroupRequest<'_>,
+    ) -> Result<Answer, Closed> {
+        let code = self.leave(request)?;
+        Ok(Answer::Frame(leave_frame(self.alloc, &asked.header, code)?))
+    }
+}

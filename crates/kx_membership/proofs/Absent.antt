@@ -1,0 +1,95 @@
+-- Who is no member is one after a step only if it joined.
+use Rattle.std.proofs.Common.{List, [], ◌∷◌, ◌≡◌, ℕ, ℤ, Bool, true, false, not, cond}
+use Rattle.std.proofs.Common.{Option, Some, None, refl, sym, ◌⊎◌, inl, inr}
+use Rattle.std.proofs.lemmas.Bool.{cond_both, eqb-true}
+use Rattle.kx_membership.specs.Roster.{any_goes, begun, goes, has, heard, joining}
+use Rattle.kx_membership.specs.Group.{after_heartbeat, after_join_again, after_join_new, is_past}
+use Rattle.kx_membership.specs.Group.{again_refusal, is_present, is_ready, joined_again, left, must_wait}
+use Rattle.kx_membership.specs.Group.{new_refusal, prepared, settled_as, takes}
+use Rattle.kx_membership.specs.Steps.{Beats, Closes, Joins, JoinsAgain, JoinsNew, Leaves, NoneJoins, Settles}
+use Rattle.kx_membership.specs.Steps.{Step, Syncs, Ticks, after_all, after_step, unless}
+use Rattle.kx_membership.specs.declared.fault.GroupFault.{GroupFault}
+use Rattle.kx_membership.specs.declared.group.Group.{Group}
+use Rattle.kx_membership.specs.declared.group.Phase.TheVariants as phase
+use Rattle.kx_membership.specs.declared.member.Going.{Going}
+use Rattle.kx_membership.specs.declared.member.Going.TheVariants as going
+use Rattle.kx_membership.proofs.Numbered.{has_filtered, has_pushed, has_same_numbers}
+use Rattle.kx_membership.proofs.Numbered.{numbers_changed, numbers_counted}
+
+refused : (r : Option GroupFault) (g h : Group) (number : ℕ) (Joined : Type 0)
+    → has number g.roster.members ≡ false → (has number h.roster.members ≡ false) ⊎ Joined
+    → (has number (unless r g h).roster.members ≡ false) ⊎ Joined
+refused None g h number Joined none after = after
+refused (Some fault) g h number Joined none after = inl none
+
+leaves : (g : Group) (who : Going) (now number : ℕ) (b : Bool) → has number g.roster.members ≡ false
+    → has number (cond b (left who now g) g).roster.members ≡ false
+leaves g who now number true none =
+    has_filtered number (λ m. not (goes who m)) g.roster.members none
+leaves g who now number false none = none
+
+beats : (g : Group) (beating number : ℕ) (generation : ℤ) (now : ℕ)
+    → has number g.roster.members ≡ false
+    → has number (after_heartbeat g beating generation now).roster.members ≡ false
+beats g beating number generation now none =
+    cond_both (is_present g beating generation)
+    (record g { roster = heard beating now g.roster }) g
+    (λ (h : Group). has number h.roster.members ≡ false)
+    (λ there. has_same_numbers number g.roster.members _
+    (numbers_changed beating (begun now) g.roster.members (λ m here. refl)) none)
+    (λ gone. none)
+
+pub absent : (g : Group) (step : Step) (number : ℕ) → has number g.roster.members ≡ false
+    → (has number (after_step g step).roster.members ≡ false) ⊎ Joins step number
+absent g (JoinsNew joining_too ask now) number none =
+    refused (new_refusal g joining_too ask) g (after_join_new g joining_too ask now) number
+    (joining_too ≡ number) none
+    (has_pushed number (joining joining_too ask now) g.roster.members none)
+absent g (JoinsAgain joining_too ask now) number none =
+    let again : (waits : Bool)
+    → has number (joined_again g joining_too ask now waits).roster.members ≡ false = λ waits.
+    has_same_numbers number g.roster.members _ (numbers_changed joining_too _ g.roster.members
+    (λ m here. sym (eqb-true m.number joining_too here))) none in
+    refused (again_refusal g joining_too ask) g (after_join_again g joining_too ask now) number ⊥
+    none
+    (inl (cond_both (must_wait g joining_too ask.protocols)
+    (prepared now (joined_again g joining_too ask now true))
+    (joined_again g joining_too ask now false)
+    (λ (h : Group). has number h.roster.members ≡ false)
+    (λ waits. again true) (λ answered. again false)))
+absent g (Closes now) number none =
+    inl (leaves g going.Silent now number (is_past g.phase now) none)
+absent g (Settles generation now) number none =
+    inl (cond_both (is_ready g) (settled_as generation now g) g
+    (λ (h : Group). has number h.roster.members ≡ false)
+    (λ ready. has_same_numbers number g.roster.members _
+    (numbers_counted now g.roster.members) none)
+    (λ waits. none))
+absent g (Syncs syncing generation assignments now) number none =
+    inl (cond_both (takes g syncing generation)
+    (record g {
+      phase = phase.Stable;
+      roster = heard syncing now g.roster;
+      assignments = assignments;
+    })
+    (after_heartbeat g syncing generation now)
+    (λ (h : Group). has number h.roster.members ≡ false)
+    (λ taken. has_same_numbers number g.roster.members _
+    (numbers_changed syncing (begun now) g.roster.members (λ m here. refl)) none)
+    (λ others. beats g syncing number generation now none))
+absent g (Beats beating generation now) number none =
+    inl (beats g beating number generation now none)
+absent g (Leaves leaving now) number none =
+    inl (leaves g (going.Number leaving) now number (has leaving g.roster.members) none)
+absent g (Ticks now) number none =
+    inl (leaves g (going.Ended now) now number (any_goes (going.Ended now) g.roster.members) none)
+
+pub absent_after : (g : Group) (steps : List Step) (number : ℕ)
+    → has number g.roster.members ≡ false → NoneJoins steps number
+    → has number (after_all g steps).roster.members ≡ false
+absent_after g [] number none nobody = none
+absent_after g (step ∷ steps) number none nobody =
+    elim (absent g step number none) [
+      | inl still ↦ absent_after (after_step g step) steps number still nobody.1
+      | inr joins ↦ absurd (nobody.0 joins)
+    ]

@@ -1,0 +1,9 @@
+pub mod Finds
+pub mod Changes
+pub mod Numbers
+pub mod Numbered
+pub mod Stepping
+pub mod Before
+pub mod Absent
+pub mod Distinct
+pub mod Sound

@@ -1,0 +1,110 @@
+-- The members of a group, and who is gone.
+use Rattle.std.specs.Prelude.{ℕ, ◌==◌, ◌&&◌, Bool, true, false, not, nat_le, max}
+use Rattle.std.specs.Prelude.{List, [], ◌∷◌, ◌++◌, map, Option, is_some, if◌then◌else◌}
+use Rattle.std.specs.List.{filter, find, fold, list_any, slice_get}
+use Rattle.std.specs.Option.{option_and_then, option_map_or, option_or}
+use Rattle.kx_membership.specs.Protocols.{later, milliseconds, same_protocols}
+use Rattle.kx_membership.specs.declared.ask.JoinAsk.{JoinAsk}
+use Rattle.kx_membership.specs.declared.ask.Protocol.{Protocol}
+use Rattle.kx_membership.specs.declared.member.Member.{Member}
+use Rattle.kx_membership.specs.declared.member.Going.{Going}
+use Rattle.kx_membership.specs.declared.member.Going.TheVariants.{Number, Silent, Ended}
+
+-- members in joining order, and the numbers of those gone that the core still counts
+pub record RosterState : Type 0 where
+  pub members : List Member
+  pub gone : List ℕ
+
+abbrev pub nobody : RosterState
+nobody = record { members = []; gone = [] }
+
+------ members
+
+abbrev pub is_numbered : ℕ → Member → Bool
+is_numbered number m = m.number == number
+
+abbrev pub has : ℕ → List Member → Bool
+has number members = is_some (find (is_numbered number) members)
+
+abbrev pub is_among : ℕ → List ℕ → Bool
+is_among number list = list_any (λ n. n == number) list
+
+abbrev pub has_others : ℕ → List Member → Bool
+has_others number members = list_any (λ m. not (is_numbered number m)) members
+
+abbrev pub longest : List Member → ℕ
+longest members = fold (λ most m. max m.rebalance most) 0 members
+
+abbrev pub has_same : ℕ → List Protocol → List Member → Bool
+has_same number protocols members =
+    option_map_or (λ m. same_protocols m.protocols protocols) (find (is_numbered number) members)
+    false
+
+-- who led before leads on if it is there, else the first
+abbrev pub led_by : Option ℕ → List Member → Option Member
+led_by before members =
+    option_or (option_and_then (λ number. find (is_numbered number) members) before)
+    (slice_get members 0)
+
+-- who joins waits for the others, and the core doesn't count it yet
+abbrev pub joining : ℕ → JoinAsk → ℕ → Member
+joining number ask now = record {
+  number = number;
+  session = milliseconds ask.session_timeout;
+  rebalance = milliseconds ask.rebalance_timeout;
+  protocols = ask.protocols;
+  ends = later now (milliseconds ask.session_timeout);
+  waits = true;
+  is_counted = false;
+}
+
+-- its session begins anew
+abbrev pub begun : ℕ → Member → Member
+begun now m = record m { ends = later now m.session }
+
+-- all have joined
+abbrev pub counted : ℕ → Member → Member
+counted now m = record m { ends = later now m.session; waits = false; is_counted = true }
+
+------ who goes
+
+abbrev pub goes : Going → Member → Bool
+goes (Number number) m = m.number == number
+goes Silent m = not m.waits
+goes (Ended now) m = not m.waits && nat_le m.ends now
+
+abbrev pub any_goes : Going → List Member → Bool
+any_goes going members = list_any (goes going) members
+
+------ changes
+
+-- the member with this number changes
+abbrev pub changed : ℕ → (Member → Member) → List Member → List Member
+changed number f [] = []
+changed number f (m ∷ members) =
+    if is_numbered number m then f m ∷ members else m ∷ changed number f members
+
+abbrev pub pushed : Member → RosterState → RosterState
+pushed m r = record r { members = r.members ++ m ∷ [] }
+
+abbrev pub heard : ℕ → ℕ → RosterState → RosterState
+heard number now r = record r { members = changed number (begun now) r.members }
+
+abbrev pub replaced : Member → RosterState → RosterState
+replaced m r = record r {
+  members = changed m.number (λ old. record m { is_counted = old.is_counted }) r.members;
+}
+
+-- the numbers of those that go and that the core counts
+abbrev pub gone_numbers : Going → List Member → List ℕ
+gone_numbers going members =
+    map (λ m. m.number) (filter (λ m. goes going m && m.is_counted) members)
+
+abbrev pub parted : Going → RosterState → RosterState
+parted going r = record {
+  members = filter (λ m. not (goes going m)) r.members;
+  gone = r.gone ++ gone_numbers going r.members;
+}
+
+abbrev pub settled : ℕ → RosterState → RosterState
+settled now r = record { members = map (counted now) r.members; gone = [] }

@@ -1,0 +1,101 @@
+//! The members of a group, and the numbers of those gone that the core still counts.
+ghost use Rattle.std.specs.Prelude.{◌≡◌, ◌++◌, ◌∷◌, [], IsOk, MatchResult};
+ghost use Rattle.kx_membership.specs.Roster.{heard, nobody, parted, pushed, replaced, settled};
+
+use crate::member::{Going, Member, count_all, note_gone, place_of};
+use kx_message::ClientId;
+use std::alloc::{AllocError, Global};
+use std::marker::Model;
+
+// The members in joining order, and the numbers of those gone that the core still counts. There is
+// always room for the numbers of all members, so that one can go without taking memory.
+#[derive(Drop)]
+pub(crate) struct Roster {
+    members: Vec<Member>,
+    gone: Vec<ClientId>,
+}
+
+impl Model for Roster {
+    ghost use Rattle.std.specs.Prelude.{◌+◌, ◌≤◌, vec_capacity, vec_len};
+    ghost use Rattle.kx_membership.specs.Roster.{RosterState};
+
+    ghost Value = { RosterState };
+
+    ghost view = { λ r. record { members = r.members.items; gone = r.gone.items } };
+
+    ghost invariant = { λ r. vec_len r.gone + vec_len r.members ≤ vec_capacity r.gone };
+}
+
+impl Roster {
+    // Nobody.
+    pub(crate) fn new(alloc: Global) -> Roster
+        ensures { result ≡ nobody }
+    {
+        Roster {
+            members: Vec::new(alloc),
+            gone: Vec::new(alloc),
+        }
+    }
+
+    // The members, in joining order.
+    pub(crate) fn members(&self) -> &[Member]
+        ensures { result.now ≡ self.now.members }
+    {
+        &self.members
+    }
+
+    // The numbers of those gone that the core still counts.
+    pub(crate) fn gone(&self) -> &[ClientId]
+        ensures { result.now ≡ self.now.gone }
+    {
+        &self.gone
+    }
+
+    // One more, the last in joining order.
+    pub(crate) fn push(&mut self, member: Member) -> Result<(), AllocError>
+        ensures { MatchResult result (λ done. self.new ≡ pushed member self.old)
+            (λ err. self.new ≡ self.old) }
+    {
+        self.members.reserve(1)?;
+        self.gone.reserve(self.members.len() + 1)?;
+        self.members.push(member).unwrap();
+        Ok(())
+    }
+
+    // A member was heard: its session begins anew.
+    pub(crate) fn hear(&mut self, number: ClientId, now: u64)
+        ensures { self.new ≡ heard number now self.old }
+    {
+        if let Some(place) = place_of(&self.members, number) {
+            self.members[place].begin(now);
+        }
+    }
+
+    // A member says its protocols and timeouts anew; its number and whether the core counts it
+    // stay.
+    pub(crate) fn replace(&mut self, member: Member)
+        ensures { self.new ≡ replaced member self.old }
+    {
+        if let Some(place) = place_of(&self.members, member.number) {
+            let mut member = member;
+            member.is_counted = self.members[place].is_counted;
+            self.members[place] = member;
+        }
+    }
+
+    // Members go; the numbers of those that the core counts are kept.
+    pub(crate) fn part(&mut self, going: Going)
+        ensures { self.new ≡ parted going self.old }
+    {
+        note_gone(&self.members, &going, &mut self.gone);
+        self.members.retain(|member| !going.goes(member));
+    }
+
+    // The core counts the members and nobody else; none waits, and sessions begin anew.
+    pub(crate) fn settle(&mut self, now: u64)
+        ensures { self.new ≡ settled now self.old }
+    {
+        count_all(&mut self.members, now);
+        self.gone.clear();
+    }
+}
