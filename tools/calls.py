@@ -2,9 +2,8 @@
 """Writes docs/CALLS.md, the list of public calls: tools/calls.py [--check].
 
 Reads the sources: of each public function of a crate the names of its clauses (`ensures NAME`), and
-the planted bugs that change its body (crates/NAME/must-fail, which the gate tries, and
-crates/NAME/edits, which `./kx edits NAME` tries). Only crates with planted bugs in the gate are
-listed. With `--check` nothing is written: it says whether the file is current, and ends with status
+the planted bugs that change its body and that the gate tries (crates/NAME/must-fail). Only crates
+with such planted bugs are listed; those in crates/NAME/edits are not. With `--check` nothing is written: it says whether the file is current, and ends with status
 1 if it isn't.
 """
 import os
@@ -21,10 +20,10 @@ HEAD = """# Calls
 Written by `tools/calls.py` from the sources: change those, and run it again.
 
 The calls of each crate with planted bugs in the gate: each with the named clauses of its contract
-in parentheses, then the planted bugs that change its body. Those in `must-fail` stand plain; those
-in italics are in `edits`, and `./kx edits NAME` tries them. A call in italics isn't public, or has
-a trait's contract; a file's name stands for its constants. Left out are public calls with neither
-named clauses nor planted bugs of their own, and laws, whose contract is a theorem.
+in parentheses, then the planted bugs that change its body (`crates/NAME/must-fail`). More of them
+lie in `crates/NAME/edits`, and `./kx edits NAME` tries those. A call in italics isn't public, or
+has a trait's contract; a file's name stands for its constants. Left out are public calls with
+neither named clauses nor planted bugs here, and laws, whose contract is a theorem.
 """
 
 
@@ -105,14 +104,13 @@ def functions(text, names):
 
 
 def planted(crate):
-    """A crate's planted bugs: name, whether the gate tries it, its file, the text it changes."""
-    for place in ("must-fail", "edits"):
-        folder = f"{TOP}/crates/{crate}/{place}"
-        for name in sorted(os.listdir(folder)) if os.path.isdir(folder) else ():
-            if name.endswith(".edit"):
-                text = read(f"{folder}/{name}")
-                file = re.search(r"^file: (\S+)", text, re.M).group(1)
-                yield name[:-5], place == "must-fail", file, re.findall(r"^old: (.*)$", text, re.M)
+    """A crate's planted bugs in the gate: name, file, the text it changes."""
+    folder = f"{TOP}/crates/{crate}/must-fail"
+    for name in sorted(os.listdir(folder)) if os.path.isdir(folder) else ():
+        if name.endswith(".edit"):
+            text = read(f"{folder}/{name}")
+            file = re.search(r"^file: (\S+)", text, re.M).group(1)
+            yield name[:-5], file, re.findall(r"^old: (.*)$", text, re.M)
 
 
 def told(name, is_public, clauses, bugs):
@@ -121,8 +119,7 @@ def told(name, is_public, clauses, bugs):
     named = [it for it in clauses if it != "one"]
     if named:
         line += f" ({', '.join(named)})"
-    shown = [f"`{it}`" if in_gate else f"*`{it}`*"
-             for it, in_gate in sorted(bugs, key=lambda it: not it[1])]
+    shown = [f"`{it}`" for it in bugs]
     return f"{line}: {', '.join(shown)}" if shown else line
 
 
@@ -137,15 +134,15 @@ def section(crate):
     texts = {f"src/{it}": read(f"{source}/{it}") for it in files}
     held = {it: functions(text, names) for it, text in texts.items()}
     bugs, inside = {}, {}
-    for name, in_gate, file, olds in planted(crate):
+    for name, file, olds in planted(crate):
         # (the part that is changed may begin within a line; the first pair tells where it is)
         at = texts.get(file, "").find(olds[0])
         line = texts[file].count("\n", 0, at) if at >= 0 else -1
         where = [it for it in held.get(file, ()) if it.first <= line <= it.last]
         if where:
-            bugs.setdefault(id(where[-1]), []).append((name, in_gate))
+            bugs.setdefault(id(where[-1]), []).append(name)
         else:
-            inside.setdefault(file, []).append((name, in_gate))
+            inside.setdefault(file, []).append(name)
     lines = []
     for file, its in held.items():
         for it in its:

@@ -12,7 +12,7 @@ Looks, in README.md, docs/ and examples/README.md, for
 - in docs/CLAIMS.md, in the table of wrong bodies, planted bugs that the gate doesn't try in the
   crates named, and cases that don't exist; whether docs/CALLS.md is what tools/calls.py writes;
 - cells of tables that are too long, a README that is too long, documents that are so together;
-- copies: a script in examples/ must be the one of the cases.
+- copies: a script in examples/ must be the one of the cases, and worker.py the one of README.
 
 Prints a line for each finding, and ends with status 1 if there is one.
 """
@@ -208,6 +208,8 @@ def check_copies():
     for it in os.listdir(f"{TOP}/examples"):
         if it.endswith((".kx", ".out")) and read(f"examples/{it}") != read(f"{DATA}/{it}"):
             say(f"examples/{it}", 1, f"not the one of {DATA}")
+    if read("examples/worker.py") not in read("README.md"):
+        say("examples/worker.py", 1, "not the one of README.md")
 
 
 def check_lengths():
