@@ -73,11 +73,6 @@ impl<'a, L: Readable, J: Naming, R: Wait + Clock + Drop> Session<'a, L, J, R> {
 
     // Tells the core of each that leaves.
     fn tell_gone(&self, id: GroupId, known: &mut KnownGroup) -> Result<(), Closed> {
-        for stranger in &known.strangers {
-            let member = *stranger;
-            self.tell_leave(id, member)?;
-        }
-        known.strangers.clear();
         for gone in known.group.gone() {
             let member = *gone;
             self.tell_leave(id, member)?;
@@ -111,15 +106,10 @@ impl<'a, L: Readable, J: Naming, R: Wait + Clock + Drop> Session<'a, L, J, R> {
 
     /// Has a guest join, if none is there.
     pub(crate) fn ensure_guest(&self, id: GroupId, known: &mut KnownGroup) -> Result<(), Closed> {
-        if known.guest.is_some() {
-            return Ok(());
+        match known.guest {
+            Some(_) => Ok(()),
+            None => self.invite_guest(id, known),
         }
-        for stranger in &known.strangers {
-            let member = *stranger;
-            self.tell_leave(id, member)?;
-        }
-        known.strangers.clear();
-        self.invite_guest(id, known)
     }
 
     /// Does what is due: members that are late are gone, and a rebalance that is complete is told to

@@ -1,5 +1,4 @@
 //! What the server knows of consumer groups, which threads share.
-use crate::members::GroupMembers;
 use indexmap::IndexMap;
 use kx_membership::Group;
 use kx_message::{ClientId, GroupId, Held};
@@ -23,8 +22,6 @@ pub(crate) struct KnownGroup {
     pub(crate) guest: Option<ClientId>,
     /// The generation of the core's group, once the guest has joined.
     pub(crate) generation: i32,
-    /// Members of the core's group from before the server began.
-    pub(crate) strangers: Vec<ClientId>,
     /// The place of the group among those that are known.
     pub(crate) place: usize,
     /// The id and epoch with which the server commits offsets outside of clients' transactions.
@@ -40,13 +37,12 @@ pub(crate) struct Groups {
 }
 
 impl KnownGroup {
-    // A group without members but those of the core's from before.
-    fn new(alloc: Global, place: usize, strangers: Vec<ClientId>) -> KnownGroup {
+    // A group without members.
+    fn new(alloc: Global, place: usize) -> KnownGroup {
         KnownGroup {
             group: Group::new(alloc),
             guest: None,
             generation: 0,
-            strangers,
             place,
             held: None,
             names: Vec::new(alloc),
@@ -103,20 +99,12 @@ fn shared(alloc: Global, group: KnownGroup) -> Result<Arc<Mutex<KnownGroup>>, Al
 }
 
 impl Groups {
-    /// The groups whose members the offsets partition's log has.
-    pub(crate) fn open(alloc: Global, members: Vec<GroupMembers>) -> Result<Groups, AllocError> {
-        let mut groups = IndexMap::new(alloc);
-        for known in members {
-            let place = groups.len();
-            let group = shared(alloc, KnownGroup::new(alloc, place, known.members))?;
-            if groups.insert(known.group, group).is_err() {
-                return Err(AllocError);
-            }
-        }
-        Ok(Groups {
+    /// No group is known.
+    pub(crate) fn new(alloc: Global) -> Groups {
+        Groups {
             alloc,
-            groups: Mutex::new(groups),
-        })
+            groups: Mutex::new(IndexMap::new(alloc)),
+        }
     }
 
     /// The group of this name, if it is known.
@@ -135,10 +123,7 @@ impl Groups {
             return Arc::try_clone(group);
         }
         let place = groups.len();
-        let group = shared(
-            self.alloc,
-            KnownGroup::new(self.alloc, place, Vec::new(self.alloc)),
-        )?;
+        let group = shared(self.alloc, KnownGroup::new(self.alloc, place))?;
         let known = Arc::try_clone(&group)?;
         match groups.insert(id, group) {
             Ok(_) => Ok(known),

@@ -14,7 +14,6 @@ mod groups;
 mod inbox;
 mod kept;
 mod link;
-mod members;
 mod numbers;
 mod producers;
 mod protocol;

@@ -46,6 +46,11 @@ impl Protocol for Kafka {
             None => Err(AllocError),
         }
     }
+
+    // The server knows its members' sessions only while it runs.
+    fn may_return(&self) -> bool {
+        false
+    }
 }
 
 impl Link for StockLink {

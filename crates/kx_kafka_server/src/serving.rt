@@ -5,7 +5,6 @@ ghost use Rattle.kx_server.specs.Lines.{Listens};
 use crate::fault::{GatewayFile, KafkaServeFault};
 use crate::groups::Groups;
 use crate::kept::Lines;
-use crate::members::members_of;
 use crate::numbers::Numbers;
 use crate::producers::Producers;
 use crate::protocol::{Kafka, Shared};
@@ -100,7 +99,7 @@ fn serve_locked<
         table: Table::open(alloc, topics, options.topics)?,
         numbers: Numbers::open(alloc, clients, log.entries())?,
         producers: Producers::open(alloc, log.entries())?,
-        groups: Groups::open(alloc, members_of(&rt, options.dir)?)?,
+        groups: Groups::new(alloc),
         begun: Instant::now(&rt).ok(),
         makes_topics: options.makes_topics,
     };

@@ -1,5 +1,6 @@
 //! What the threads of a server share: its nodes with the readers of their logs, and over which
 //! connection each client is answered.
+use crate::members::Member;
 use crate::peer::Peer;
 use crate::readers::Readers;
 use crate::routes::Routes;
@@ -261,12 +262,17 @@ impl<L: Readable, J: Naming, R: Wait + Drop> Hub<L, J, R> {
     pub(crate) fn drop_silent(&self, rt: &R, passed: u64, limit: u64) {
         self.sessions.pass(rt, passed);
         for _ in rt.forever() {
-            let Some((group, member)) = self.sessions.take_silent(rt, limit) else {
+            let Some(member) = self.sessions.take_silent(rt, limit) else {
                 break;
             };
-            let offsets = NodeId::Partition(PartitionId::OFFSETS);
-            let _ = self.step(rt, offsets, Input::Drop(group, member));
+            self.drop_member(rt, member);
         }
+    }
+
+    /// A member leaves its group without being asked.
+    pub(crate) fn drop_member(&self, rt: &R, member: Member) {
+        let offsets = NodeId::Partition(PartitionId::OFFSETS);
+        let _ = self.step(rt, offsets, Input::Drop(member.group, member.client));
     }
 
     /// Each node whose log is closed is opened again, and each log that readers don't see yet is

@@ -9,6 +9,7 @@ mod fault;
 mod files;
 mod hub;
 mod locking;
+mod members;
 mod opening;
 mod operator;
 mod options;

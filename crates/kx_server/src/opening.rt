@@ -15,6 +15,7 @@ ghost use Rattle.kx_bounded.specs.Bounds.{IsWithin};
 use crate::fault::ServeFault;
 use crate::files::LogFile;
 use crate::hub::Place;
+use crate::members::{Member, members_of};
 use crate::options::{Connections, Partitions};
 use crate::owed::{first_missing, names};
 use crate::readers::{MOST_READERS, Readers};
@@ -199,6 +200,14 @@ pub(crate) struct Making<'a, F: Folder, R: Drop> {
 /// A node of a server.
 pub(crate) type Kept<F, J, R> = Place<Untraced<BrokerMachine<<F as Folder>::Kept>>, J, R>;
 
+/// The nodes of a server, and who is a member of a group by their logs.
+#[derive(Drop)]
+pub(crate) struct Made<F: Folder, J: Naming, R: Wait + Drop> {
+    /// The coordinator, the data partitions in order, and the offsets partition.
+    pub(crate) nodes: Vec<Kept<F, J, R>>,
+    pub(crate) members: Vec<Member>,
+}
+
 impl<'a, F: Folder, R: Wait + Drop + Copy> Making<'a, F, R> {
     // The partitions whose logs were made before, of those that are served.
     fn kept(&self) -> Result<Vec<PartitionId>, AllocError> {
@@ -332,12 +341,12 @@ impl<'a, F: Folder, R: Wait + Drop + Copy> Making<'a, F, R> {
         self.node(file, machine, opened)
     }
 
-    /// The nodes: the coordinator, the data partitions in order, and the offsets partition.
+    /// The nodes, whose published logs have these books.
     pub(crate) fn nodes<J: Naming>(
         &self,
         books: Vec<Opened>,
         offsets: Opened,
-    ) -> Result<Vec<Kept<F, J, R>>, ServeFault>
+    ) -> Result<Made<F, J, R>, ServeFault>
         requires books { All (HasBook J.book) books.items }
         requires offsets { (offsets.partition ≡ offsets_partition)
             × (offsets.seen.book ≡ J.book offsets_partition) }
@@ -350,7 +359,8 @@ impl<'a, F: Folder, R: Wait + Drop + Copy> Making<'a, F, R> {
             add(&mut nodes, self.data_node(opened)?)?;
         }
         let machine = self.offsets(LogFile::Offsets)?;
+        let members = members_of(self.alloc, &machine)?;
         add(&mut nodes, self.node(LogFile::Offsets, machine, offsets)?)?;
-        Ok(nodes)
+        Ok(Made { nodes, members })
     }
 }

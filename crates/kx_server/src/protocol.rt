@@ -45,6 +45,10 @@ pub trait Protocol: Drop {
         alloc: Global,
         peer: Arc<Peer>,
     ) -> Result<Self::Link, AllocError>;
+
+    /// Whether members of groups that the log has may still be there when a server begins. Where
+    /// they can't, they leave their groups before a connection is served.
+    fn may_return(&self) -> bool;
 }
 
 /// The project's own protocol: frames of messages.
@@ -77,6 +81,10 @@ impl Protocol for OwnFrames {
             partitions: self.partitions,
             hears: self.hears,
         })
+    }
+
+    fn may_return(&self) -> bool {
+        true
     }
 }
 

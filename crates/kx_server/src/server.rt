@@ -8,7 +8,8 @@ ghost use Rattle.kx_server.specs.Opening.{HasBook, InOrder};
 use crate::fault::{NetFault, ServeFault};
 use crate::hub::{Answers, Hub, Place};
 use crate::locking::lock_folder;
-use crate::opening::{Folder, InFiles, InMemory, Making};
+use crate::members::Member;
+use crate::opening::{Folder, InFiles, InMemory, Made, Making};
 use crate::operator::Operator;
 use crate::options::{Partitions, ServeOptions};
 use crate::peer::Peer;
@@ -261,6 +262,17 @@ impl<
         Ok(Operator::of(Arc::try_clone(&self.shared.hub)?))
     }
 
+    // Members of groups from before the server began are given their time from now on, where they
+    // may return. Else they leave, as does one for whose session memory runs out.
+    fn begin_with(&self, members: Vec<Member>, may_return: bool) {
+        let hub = &self.shared.hub;
+        for member in members {
+            if !may_return || hub.sessions.add(&self.rt, member).is_err() {
+                hub.drop_member(&self.rt, member);
+            }
+        }
+    }
+
     // Serves the connections that come to a listener, beside the clock.
     fn serve_shared<P: Protocol>(
         &self,
@@ -418,14 +430,16 @@ fn serve_named<
         connections: options.connections,
         now: moment(&rt).unwrap_or(0),
     };
-    let nodes = making.nodes::<J>(books, offsets)?;
+    let made = making.nodes::<J>(books, offsets)?;
     let listener = listen(&rt, options.port)?;
     let Ok(address) = listener.local_addr() else {
         return Err(net_fault(&listener, NetFault::Other));
     };
     tell(out, "listening", usize::from(address.port()))?;
+    let Made { nodes, members } = made;
     let server = Server::start(rt, alloc, nodes, WORKERS)?;
     let (protocol, until) = spoken;
+    server.begin_with(members, protocol.may_return());
     // Nodes without traces leave no receipts.
     server.serve_speaking(&listener, options, protocol, until)?;
     Ok(())

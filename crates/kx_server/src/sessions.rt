@@ -1,13 +1,13 @@
 //! Members of groups whose clients say nothing any more.
-use kx_message::{ClientId, GroupId, Message};
+use crate::members::Member;
+use kx_message::{ClientId, Message};
 use std::alloc::{AllocError, Global};
 use std::sync::{Mutex, Wait};
 
 // A member of a group, and how long ago its client was heard, in milliseconds.
 #[derive(Clone, Copy)]
 struct Session {
-    group: GroupId,
-    member: ClientId,
+    member: Member,
     silence: u64,
 }
 
@@ -18,8 +18,10 @@ pub(crate) struct Sessions {
 }
 
 // Whether there is a session of this member.
-fn is_there(sessions: &[Session], wanted: &Session) -> bool {
-    sessions.iter().any(|session| session.member == wanted.member && session.group == wanted.group)
+fn is_there(sessions: &[Session], wanted: &Member) -> bool {
+    sessions.iter().any(|session| {
+        session.member.client == wanted.client && session.member.group == wanted.group
+    })
 }
 
 impl Sessions {
@@ -34,22 +36,21 @@ impl Sessions {
     fn hear_client<R: Wait>(&self, rt: &R, client: ClientId) {
         let mut sessions = self.sessions.lock(rt);
         for session in sessions.iter_mut() {
-            if session.member == client {
+            if session.member.client == client {
                 session.silence = 0;
             }
         }
     }
 
-    // A client asks to join a group.
-    fn add<R: Wait>(&self, rt: &R, group: GroupId, member: ClientId) -> Result<(), AllocError> {
+    /// A member is given its time from now on, as one whose client is heard.
+    ///
+    /// # Errors
+    ///
+    /// Only where memory runs out for its session.
+    pub(crate) fn add<R: Wait>(&self, rt: &R, member: Member) -> Result<(), AllocError> {
         let mut sessions = self.sessions.lock(rt);
-        let session = Session {
-            group,
-            member,
-            silence: 0,
-        };
-        if !is_there(sessions.as_slice(), &session) {
-            sessions.push(session)?;
+        if !is_there(sessions.as_slice(), &member) {
+            sessions.push(Session { member, silence: 0 })?;
         }
         Ok(())
     }
@@ -67,7 +68,10 @@ impl Sessions {
     ) -> Result<(), AllocError> {
         self.hear_client(rt, client);
         match message {
-            Message::Join(join) => self.add(rt, join.group, client),
+            Message::Join(join) => {
+                let group = join.group;
+                self.add(rt, Member { group, client })
+            }
             _ => Ok(()),
         }
     }
@@ -81,10 +85,9 @@ impl Sessions {
     }
 
     /// Takes a member out whose client wasn't heard for this long, if there is one.
-    pub(crate) fn take_silent<R: Wait>(&self, rt: &R, limit: u64) -> Option<(GroupId, ClientId)> {
+    pub(crate) fn take_silent<R: Wait>(&self, rt: &R, limit: u64) -> Option<Member> {
         let mut sessions = self.sessions.lock(rt);
         let at = sessions.iter().position(|session| session.silence > limit)?;
-        let gone = sessions.swap_remove(at);
-        Some((gone.group, gone.member))
+        Some(sessions.swap_remove(at).member)
     }
 }
