@@ -1,16 +1,19 @@
 -- The requests that traces take in arrive from outside in an open schedule, before all else happens.
 use Rattle.std.proofs.Common.{◌≡◌, ◌++◌, ℕ, List, [], ◌∷◌, All, map, refl, sym, ap, ◌∙◌}
-use Rattle.std.proofs.Common.{append-nil}
+use Rattle.std.proofs.Common.{append-nil, subst}
 use Rattle.std.specs.List.{flat_map}
 use Rattle.std.proofs.lemmas.Grind.{flat_map-append}
 use Rattle.std.proofs.lemmas.List.{append_assoc}
 use Rattle.std.proofs.lemmas.List.Elements.{All-append, All-map}
 use Rattle.kx_audit.specs.Arrivals.{requests_in, requests_of}
+use Rattle.kx_audit.specs.Joined.{Passed}
 use Rattle.kx_audit.specs.Making.{NodeMaking, Trail, makings}
 use Rattle.kx_audit.specs.Replayed.{Progress, traces_of, trails_of}
-use Rattle.kx_audit.specs.Run.{open_events}
-use Rattle.kx_audit.specs.Schedule.{start_with}
+use Rattle.kx_audit.specs.Run.{IsOpenSchedule, open_events}
+use Rattle.kx_audit.specs.Schedule.{IsScheduleOf, IsWhole, start_with}
+use Rattle.kx_message.specs.Ranges.{data_partitions}
 use Rattle.kx_message.specs.declared.message.Message.{Message}
+use Rattle.kx_model.specs.OpenHeadline.{KeepsOpenPromises}
 use Rattle.kx_outside.specs.Requests.{IsRequest}
 use Rattle.kx_pipeline.specs.OpenSystems.{Arrives, Inside, IsOpenSystemEvent, IsOpenSystemSchedule}
 use Rattle.kx_pipeline.specs.OpenSystems.{OpenSystemEvent, open_system_step, run_open_system}
@@ -79,3 +82,29 @@ open_fits arrived trails events requests fits =
     All-append IsOpenSystemEvent (map Arrives arrived) (map Inside (makings trails ++ events))
     (All-map IsOpenSystemEvent Arrives arrived requests)
     (All-map IsOpenSystemEvent Inside (makings trails ++ events) fits)
+
+-- all systems keep the open promises
+module _ (keeps : (partitions : ℕ) (events : List OpenSystemEvent) → IsOpenSystemSchedule events
+    → KeepsOpenPromises (run_open_system events (start_system partitions)).world) where
+  abbrev pub open_schedule : (arrived : List Message) (trails : List Trail) (merged : List Passed)
+      (events : List SystemEvent) (s : System) → All IsRequest arrived
+      → IsScheduleOf arrived trails merged events s → IsOpenSchedule arrived trails merged s
+  open_schedule arrived trails merged events s fit whole =
+      let all = open_events arrived trails events in
+      let scheduled = open_fits arrived trails events fit whole.is_schedule in
+      let is : s ≡ run_open_system all (start_system data_partitions) =
+      whole.is_run ∙ sym (opens arrived trails events data_partitions) in
+      record {
+        events = events;
+        is = whole;
+        scheduled = scheduled;
+        is_run = is;
+        promises = subst (λ (t : System). KeepsOpenPromises t.world) (sym is)
+            (keeps data_partitions all scheduled);
+      }
+
+  pub joined_open : (arrived : List Message) (trails : List Trail) (merged : List Passed)
+      → All IsRequest arrived → IsWhole arrived trails merged
+      → (s : System) × IsOpenSchedule arrived trails merged s
+  joined_open arrived trails merged fit whole =
+      (whole.system, open_schedule arrived trails merged whole.events whole.system fit whole.is)

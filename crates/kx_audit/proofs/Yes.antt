@@ -8,7 +8,7 @@ use Rattle.kx_audit.specs.Merged.{AreDone, ArePlaced, IsMerging, Merged, arrived
 use Rattle.kx_audit.specs.Receipts.{AreDistinct, AreNamed, AreReceipts, IsOfStep}
 use Rattle.kx_audit.specs.Replayed.{machines_of, steps_of, traces_of, trails_of}
 use Rattle.kx_audit.specs.Rerun.{TakesAgain}
-use Rattle.kx_audit.specs.Run.{AreServersYes, AreTurns, IsFound, IsYes, Ran, StandsAt, open_events}
+use Rattle.kx_audit.specs.Run.{AreServersYes, AreTurns, IsFound, IsYes, Ran, StandsAt}
 use Rattle.kx_audit.specs.Schedule.{AllFit}
 use Rattle.kx_audit.specs.Told.{Told}
 use Rattle.kx_machine.specs.Meaning.{NodeState}
@@ -25,7 +25,7 @@ use Rattle.kx_audit.proofs.Answering.{is_answered}
 use Rattle.kx_audit.proofs.Audited.{audited_by}
 use Rattle.kx_audit.proofs.Done.{all_answer, are_merged, are_turns, count_is}
 use Rattle.kx_audit.proofs.Naming.{of_steps}
-use Rattle.kx_audit.proofs.Requests.{open_fits, opens}
+use Rattle.kx_audit.proofs.Requests.{open_schedule}
 use Rattle.kx_audit.proofs.Running.{runs_again}
 
 module _ {B M : Type 0} (making : B → NodeMaking) (stands : NodeState → M → Type 0)
@@ -119,18 +119,14 @@ module _ {B M : Type 0} (making : B → NodeMaking) (stands : NodeState → M �
         → All IsRequest (requests_of trails) → AreServersYes making stands run receipts s
     servers_yes_by run s found fit =
         let trails = trails_of making run.traces in
-        let arrived = requests_of trails in
-        let events = found.audited.events in
-        let all = open_events arrived trails events in
-        let scheduled = open_fits arrived trails events fit found.audited.is.is_schedule in
-        let is : s ≡ run_open_system all (start_system data_partitions) =
-        found.audited.is.is_run ∙ sym (opens arrived trails events data_partitions) in
+        let audited = found.audited in
+        let opened = open_schedule keeps (requests_of trails) trails audited.merged audited.events s
+        fit audited.is in
         record {
           found = found;
-          scheduled = scheduled;
-          is_run = is;
-          promises = subst (λ (t : System). KeepsOpenPromises t.world) (sym is)
-              (keeps data_partitions all scheduled);
+          scheduled = opened.scheduled;
+          is_run = opened.is_run;
+          promises = opened.promises;
         }
 
     pub is_servers_yes : {E : Type 0} (traces : List (Traced B)) (r : Result (Ran B M) E)

@@ -2,12 +2,12 @@
 use Rattle.std.specs.Prelude.{◌≡◌, ◌++◌, ℕ, List, [], length, map, slice_get, Option, Some, None}
 use Rattle.kx_audit.specs.Arrivals.{requests_of}
 use Rattle.kx_audit.specs.Audited.{IsAudited}
-use Rattle.kx_audit.specs.Joined.{AreApart}
+use Rattle.kx_audit.specs.Joined.{AreApart, Passed}
 use Rattle.kx_audit.specs.Making.{NodeMaking, Trail, makings, named}
 use Rattle.kx_audit.specs.Rerun.{AllAgain}
 use Rattle.kx_audit.specs.Receipts.{AreReceipts, IsAnswered}
 use Rattle.kx_audit.specs.Replayed.{trails_of}
-use Rattle.kx_audit.specs.Schedule.{made_system}
+use Rattle.kx_audit.specs.Schedule.{IsScheduleOf, made_system}
 use Rattle.kx_audit.specs.Told.{Told}
 use Rattle.kx_audit.specs.declared.turn.Turn.{Turn}
 use Rattle.kx_machine.specs.Meaning.{NodeState}
@@ -96,6 +96,17 @@ pub record IsYes {B M : Type 0} (making : B → NodeMaking) (stands : NodeState 
 -- these requests arrive, the clients of the traces are made, and these events happen
 abbrev pub open_events : List Message → List Trail → List SystemEvent → List OpenSystemEvent
 open_events arrived trails events = map Arrives arrived ++ map Inside (makings trails ++ events)
+
+-- these requests arrive, and then the steps happen: an open schedule, which so keeps the promises
+-- that need no trust in clients
+pub record IsOpenSchedule (arrived : List Message) (trails : List Trail) (merged : List Passed)
+    (s : System) : Type 0 where
+  pub events : List SystemEvent
+  pub is : IsScheduleOf arrived trails merged events s
+  pub scheduled : IsOpenSystemSchedule (open_events arrived trails events)
+  pub is_run : s
+      ≡ run_open_system (open_events arrived trails events) (start_system data_partitions)
+  pub promises : KeepsOpenPromises s.world
 
 -- the yes of an audit of servers: what it finds, where all requests that the traces take in had
 -- arrived from outside, is an open schedule, which so keeps the promises that need no trust in

@@ -46,20 +46,23 @@ mod sent;
 mod turn;
 mod verdict;
 
-ghost use Rattle.std.specs.Prelude.{List};
+ghost use Rattle.std.specs.Prelude.{All, List};
 ghost use Rattle.kx_audit.specs.Audited.{IsAudited};
 ghost use Rattle.kx_audit.specs.Joined.{AreJoined, Passed};
 ghost use Rattle.kx_audit.specs.Making.{Trail};
 ghost use Rattle.kx_audit.specs.Receipts.{IsAnswered, IsOfStep};
+ghost use Rattle.kx_audit.specs.Run.{IsOpenSchedule};
 ghost use Rattle.kx_audit.specs.Schedule.{AllFit, IsScheduleOf, IsWhole, made_system};
 ghost use Rattle.kx_audit.specs.Told.{AllAnswer, AreFound, AreMerged, AtPlace, Told, told_in};
 ghost use Rattle.kx_machine.specs.Meaning.{NodeState};
 ghost use Rattle.kx_message.specs.declared.message.Message.{Message};
 ghost use Rattle.kx_nodes.specs.declared.receipt.Receipt.{Receipt};
+ghost use Rattle.kx_outside.specs.Requests.{IsRequest};
 ghost use Rattle.kx_system.specs.System.{System, SystemEvent};
 
 pub use fault::AuditFault;
 pub use fits::trace_fits;
+use kx_pipeline::open_systems_keep_promises;
 pub use making::Tells;
 pub use remade::Remade;
 pub use run::Run;
@@ -106,3 +109,14 @@ pub fn audited_traces_are_a_schedule()
         → AllAnswer trails told (AtPlace nodes)
         → (s : System) × IsAudited arrived trails told (AtPlace nodes) s }
 {}
+
+/// Traces of servers that are joined, whose clients are outside: the requests that arrived, and
+/// after them the steps, are an open schedule, which keeps the promises that need no trust in
+/// clients. This does nothing when it runs.
+pub fn joined_traces_are_an_open_schedule()
+    ensures { (arrived : List Message) (trails : List Trail) (merged : List Passed)
+        → AllFit trails → All IsRequest arrived → AreJoined arrived trails merged
+        → (s : System) × IsOpenSchedule arrived trails merged s }
+{
+    open_systems_keep_promises();
+}
