@@ -264,11 +264,12 @@ impl<
 
     // Members of groups from before the server began are given their time from now on, where they
     // may return. Else they leave, as does one for whose session memory runs out.
-    fn begin_with(&self, members: Vec<Member>, may_return: bool) {
+    fn begin_with(&self, members: &[Member], may_return: bool) {
         let hub = &self.shared.hub;
         for member in members {
-            if !may_return || hub.sessions.add(&self.rt, member).is_err() {
-                hub.drop_member(&self.rt, member);
+            let stays = may_return && hub.sessions.add(&self.rt, *member).is_ok();
+            if !stays {
+                hub.drop_member(&self.rt, *member);
             }
         }
     }
@@ -439,7 +440,7 @@ fn serve_named<
     let Made { nodes, members } = made;
     let server = Server::start(rt, alloc, nodes, WORKERS)?;
     let (protocol, until) = spoken;
-    server.begin_with(members, protocol.may_return());
+    server.begin_with(members.as_slice(), protocol.may_return());
     // Nodes without traces leave no receipts.
     server.serve_speaking(&listener, options, protocol, until)?;
     Ok(())

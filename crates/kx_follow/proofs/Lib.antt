@@ -1,0 +1,5 @@
+pub mod Lists
+pub mod Sending
+pub mod History
+pub mod Stepping
+pub mod Ending

@@ -1,0 +1,48 @@
+-- Elements of lists by their places.
+use Rattle.std.proofs.Common.{◌≡◌, ◌≢◌, ◌⊎◌, ℕ, zero, suc, List, [], ◌∷◌, Some, refl, sym, ap, ◌∙◌}
+use Rattle.std.proofs.Common.{inl, inr, ⊎_elim, map, length, ◌++◌, arith}
+use Rattle.std.specs.Prelude.{slice_get, slice_set}
+use Rattle.std.proofs.lemmas.Option.{same_Some}
+
+-- an element of a list of which one was changed: that one, or another that stayed
+pub get_set : {A : Type 0} (xs : List A) (k : ℕ) (y : A) (j : ℕ) (q : A)
+    → slice_get (slice_set xs k y) j ≡ Some q
+    → ((j ≡ k) × (y ≡ q)) ⊎ ((j ≢ k) × (slice_get xs j ≡ Some q))
+get_set [] k y j q e = absurd cc
+get_set (x ∷ xs) zero y zero q e = inl (refl, cc)
+get_set (x ∷ xs) zero y (suc j) q e = inr ((λ h. omega arith), e)
+get_set (x ∷ xs) (suc k) y zero q e = inr ((λ h. omega arith), e)
+get_set (x ∷ xs) (suc k) y (suc j) q e =
+    ⊎_elim (λ t. inl (ap suc t.0, t.1))
+    (λ t. let n = t.0 in inr ((λ h. n (omega arith)), t.1)) (get_set xs k y j q e)
+
+-- what is mapped alike is the same after an element was changed
+pub map_set : {A B : Type 0} (f : A → B) (xs : List A) (k : ℕ) (x y : A)
+    → slice_get xs k ≡ Some x → f y ≡ f x → map f (slice_set xs k y) ≡ map f xs
+map_set f [] k x y at e = refl
+map_set {A} {B} f (z ∷ xs) zero x y at e =
+    let same : z ≡ x = same_Some z x at in
+    ap (λ (b : B). b ∷ map f xs) (e ∙ ap f (sym same))
+map_set {A} {B} f (z ∷ xs) (suc k) x y at e =
+    ap (λ (l : List B). f z ∷ l) (map_set f xs k x y at e)
+
+-- where an element was, the changed one is, or it is still there
+pub set_there : {A : Type 0} (xs : List A) (k : ℕ) (y : A) (j : ℕ) (x : A)
+    → slice_get xs j ≡ Some x
+    → ((j ≡ k) × (slice_get (slice_set xs k y) j ≡ Some y)) ⊎ (slice_get (slice_set xs k y) j ≡ Some x)
+set_there [] k y j x e = absurd cc
+set_there (z ∷ xs) zero y zero x e = inl (refl, refl)
+set_there (z ∷ xs) zero y (suc j) x e = inr e
+set_there (z ∷ xs) (suc k) y zero x e = inr e
+set_there (z ∷ xs) (suc k) y (suc j) x e =
+    ⊎_elim (λ t. inl (ap suc t.0, t.1)) (λ t. inr t) (set_there xs k y j x e)
+
+-- one of those before, or the last one
+pub get_push : {A : Type 0} (xs : List A) (y : A) (k : ℕ) (x : A)
+    → slice_get (xs ++ y ∷ []) k ≡ Some x
+    → (slice_get xs k ≡ Some x) ⊎ ((k ≡ length xs) × (y ≡ x))
+get_push [] y zero x e = inr (refl, same_Some y x e)
+get_push [] y (suc k) x e = absurd cc
+get_push (z ∷ xs) y zero x e = inl e
+get_push (z ∷ xs) y (suc k) x e =
+    ⊎_elim (λ t. inl t) (λ t. inr (ap suc t.0, t.1)) (get_push xs y k x e)

@@ -1,0 +1,75 @@
+//! One node that is followed.
+ghost use Rattle.std.specs.Prelude.{◌≡◌, IfOk};
+ghost use Rattle.kx_audit.specs.Making.{named, node_of};
+ghost use Rattle.kx_audit.specs.Schedule.{IsNodeMaking};
+ghost use Rattle.kx_follow.specs.Internal.{Steps};
+ghost use Rattle.kx_machine.specs.Meaning.{NodeState};
+
+use kx_audit::Remade;
+use kx_machine::{Input, Machine, StoreMode, Taken};
+use kx_message::NodeId;
+use std::alloc::{AllocError, Global};
+use std::marker::Model;
+
+/// How a node was made, and its machine after the steps so far.
+#[derive(Drop)]
+pub(crate) struct FollowedNode<B: Remade> {
+    made: B,
+    machine: B::Machine,
+}
+
+impl<B: Remade> Model for FollowedNode<B> {
+    ghost use Rattle.kx_follow.specs.Following.{Followed};
+
+    ghost Value = { Followed B B.Machine };
+
+    ghost view = { λ n. record { made = n.made; machine = n.machine } };
+}
+
+impl<B: Remade> FollowedNode<B> {
+    /// A node that was made so, and has taken nothing yet.
+    ///
+    /// # Errors
+    ///
+    /// Only where memory runs out.
+    pub(crate) fn new(alloc: Global, made: B) -> Result<FollowedNode<B>, AllocError>
+        ensures made { IfOk result (λ n. n.made ≡ made) }
+        ensures fits { IfOk result (λ n. IsNodeMaking (B.making n.made)) }
+        ensures stands { IfOk result (λ n.
+            B.Machine.stands (node_of (B.making n.made)) n.machine) }
+    {
+        made.tells();
+        let machine = made.make(alloc)?;
+        Ok(FollowedNode { made, machine })
+    }
+
+    /// The node's name.
+    pub(crate) fn name(&self) -> NodeId
+        ensures { result ≡ named (B.making self.now.made) }
+    {
+        self.made.tells();
+        self.made.name()
+    }
+
+    /// The machine takes an input once more, on a store that does so.
+    ///
+    /// # Errors
+    ///
+    /// Only where memory runs out.
+    pub(crate) fn take(&mut self, input: &Input, mode: StoreMode) -> Result<Taken, AllocError>
+        ensures made { self.new.made ≡ self.old.made }
+        ensures steps { IfOk result (λ taken. (node : NodeState)
+            → B.Machine.stands node self.old.machine
+            → Steps B.Machine.stands node input.now taken self.new.machine) }
+    {
+        B::prepare(&mut self.machine, mode);
+        self.machine.take(input)
+    }
+
+    /// The machine, borrowed.
+    pub(crate) fn machine(&self) -> &B::Machine
+        ensures { result.now ≡ self.now.machine }
+    {
+        &self.machine
+    }
+}

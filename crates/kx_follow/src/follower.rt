@@ -1,0 +1,165 @@
+//! Nodes of a server whose steps are made again.
+ghost use Rattle.std.specs.Prelude.{◌≡◌, ◌++◌, ◌∷◌, [], All, IfNone, IfOk, IfSome, IsTrue, List, MatchOption, OnOk};
+ghost use Rattle.std.specs.Prelude.{IsFalse, slice_get, Some};
+ghost use Rattle.kx_audit.specs.Arrivals.{requested};
+ghost use Rattle.kx_audit.specs.Joined.{Passed, WasHandedOut};
+ghost use Rattle.kx_follow.specs.Following.{Followed, HasMade, MakesOneMore, makings_of};
+ghost use Rattle.kx_follow.specs.Fresh.{AreFresh, IsNewName};
+ghost use Rattle.kx_follow.specs.Pending.{AreSent};
+ghost use Rattle.kx_follow.specs.Whole.{IsWholeRun};
+ghost use Rattle.kx_message.specs.declared.message.Message.{Message};
+ghost use Rattle.kx_outside.specs.Requests.{IsRequest};
+ghost use Rattle.kx_system.specs.System.{System};
+
+use crate::fault::FollowFault;
+use crate::followed::FollowedNode;
+use crate::pending::Pending;
+use kx_audit::{Remade, joined_traces_are_an_open_schedule};
+use kx_machine::{Input, StoreMode, Taken, input_fits};
+use kx_message::NodeId;
+use kx_outside::{can_arrive, request_fits};
+use std::alloc::{AllocError, Global};
+use std::marker::Model;
+
+/// The nodes of a server, which make their steps again, in one order.
+#[derive(Drop)]
+pub struct Follower<B: Remade> {
+    nodes: Vec<FollowedNode<B>>,
+    pending: Pending,
+}
+
+impl<B: Remade> Model for Follower<B> {
+    ghost use Rattle.kx_follow.specs.Following.{Following};
+
+    ghost Value = { Following B B.Machine };
+
+    ghost view = { λ f. record { nodes = f.nodes.items; pending = f.pending } };
+}
+
+// Whether one of these nodes has this name.
+fn has_name<B: Remade>(nodes: &[FollowedNode<B>], name: NodeId) -> bool
+    ensures { IsFalse result → IsNewName B.making name nodes.now }
+{
+    for node in nodes {
+        if node.name() == name {
+            return true;
+        }
+    }
+    false
+}
+
+// Puts a node after the others.
+fn add<B: Remade>(nodes: &mut Vec<FollowedNode<B>>, node: FollowedNode<B>) -> Result<(), AllocError>
+    ensures { OnOk result (nodes.new.items ≡ nodes.old.items ++ node ∷ []) }
+{
+    nodes.push(node)?;
+    Ok(())
+}
+
+// The nodes that were made so, no two of one name.
+fn make_all<B: Remade>(alloc: Global, made: Vec<B>) -> Result<Vec<FollowedNode<B>>, FollowFault>
+    ensures makings { IfOk result (λ nodes. makings_of nodes.items ≡ made.items) }
+    ensures fresh { IfOk result (λ nodes. AreFresh B.making B.Machine.stands nodes.items) }
+{
+    let mut nodes = Vec::new(alloc);
+    for making in made {
+        let node = FollowedNode::new(alloc, making)?;
+        if has_name(nodes.as_slice(), node.name()) {
+            return Err(FollowFault::Twins);
+        }
+        add(&mut nodes, node)?;
+    }
+    Ok(nodes)
+}
+
+impl<B: Remade> Follower<B> {
+    /// Nodes that were made so, and have taken nothing yet.
+    ///
+    /// # Errors
+    ///
+    /// `Twins` where two of them have one name; `Memory` where memory runs out.
+    pub fn new(alloc: Global, made: Vec<B>) -> Result<Follower<B>, FollowFault>
+        ensures makings { IfOk result (λ f. makings_of f.nodes ≡ made.items) }
+        ensures made { IfOk result (HasMade B.making B.Machine.stands []) }
+    {
+        let nodes = make_all(alloc, made)?;
+        Ok(Follower {
+            nodes,
+            pending: Pending::new(alloc),
+        })
+    }
+
+    // Whether the input may come now: a message only if it is a client's request, or was sent by a
+    // step before. Such a message is taken out of those that wait.
+    fn may_take(&mut self, input: &Input) -> Result<bool, AllocError>
+        ensures nodes { self.new.nodes ≡ self.old.nodes }
+        ensures left { OnOk result ((sent : List Message) → AreSent sent self.old.pending
+            → AreSent sent self.new.pending) }
+        ensures fit { All IsRequest (requested input.now) }
+        ensures comes { IfOk result (λ may. IsTrue may → (sent : List Message)
+            → AreSent sent self.old.pending
+            → WasHandedOut (requested input.now ++ sent) input.now) }
+    {
+        let Input::Deliver(message) = input else {
+            return Ok(true);
+        };
+        if can_arrive(message) {
+            request_fits(message);
+            return Ok(true);
+        }
+        let was_sent = self.pending.take_out(message)?;
+        Ok(was_sent)
+    }
+
+    /// Makes one more step: the node of this number, counted from 0 as they were given, takes the
+    /// input, and its store does as `mode` says. None where it is a message that is no client's
+    /// request and that no step before it sent, or that was taken as often as it was sent, or where
+    /// there is no such node; then there was no step.
+    ///
+    /// # Errors
+    ///
+    /// Only where memory runs out. Then the steps can't be followed any further.
+    pub fn take(
+        &mut self,
+        node: usize,
+        input: &Input,
+        mode: StoreMode,
+    ) -> Result<Option<Taken>, AllocError>
+        ensures stays { IfOk result (λ o. IfNone o (self.new.nodes ≡ self.old.nodes)) }
+        ensures made { (history : List Passed) → HasMade B.making B.Machine.stands history self.old
+            → IfOk result (λ o. MatchOption o
+            (HasMade B.making B.Machine.stands history self.new)
+            (λ taken. MakesOneMore B.making B.Machine.stands node input.now taken history self.old
+            self.new)) }
+    {
+        input_fits(input);
+        if node >= self.nodes.len() {
+            return Ok(None);
+        }
+        if !self.may_take(input)? {
+            return Ok(None);
+        }
+        let taken = self.nodes[node].take(input, mode)?;
+        self.pending.add_all(taken.messages.as_slice())?;
+        Ok(Some(taken))
+    }
+
+    /// The machine of the node of this number, borrowed.
+    pub fn machine(&self, node: usize) -> Option<&B::Machine>
+        ensures { (n : Followed B B.Machine) → slice_get self.now.nodes node ≡ Some n
+            → IfSome result (λ machine. machine.now ≡ n.machine) }
+    {
+        Some(self.nodes.get(node)?.machine())
+    }
+
+    /// What the steps that were made are: an open schedule of the whole system, in which each
+    /// request of a client that a step took in had arrived from outside. It keeps the promises that
+    /// need no trust in clients, and leads to the nodes for which the machines stand. This does
+    /// nothing when it runs.
+    pub fn steps_are_an_open_schedule(&self)
+        ensures { (history : List Passed) → HasMade B.making B.Machine.stands history self.now
+            → (s : System) × IsWholeRun B.making B.Machine.stands history self.now s }
+    {
+        joined_traces_are_an_open_schedule();
+    }
+}

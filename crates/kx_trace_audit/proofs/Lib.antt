@@ -1,0 +1,3 @@
+pub mod Telling
+pub mod Texts
+pub mod Traces

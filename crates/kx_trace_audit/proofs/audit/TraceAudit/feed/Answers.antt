@@ -1,0 +1,35 @@
+use Rattle.std.proofs.Common.{◌≡◌, ◌≤◌, ◌<◌, ◌∙◌, List, Some, ap, arith, length, refl, subst, sym}
+use Rattle.std.specs.Prelude.{ℕ, slice_get}
+use Rattle.std.proofs.lemmas.Option.{slice_get_read}
+use Rattle.kx_trace_audit.specs.Auditing.{Auditing, HasAudited, fed}
+use Rattle.kx_trace_audit.proofs.Texts.{nothing_fed}
+use Rattle.kx_trace_audit.proofs.Traces.{feeds}
+use Rattle.kx_trace_audit.proofs.audit.TraceAudit.feed.Goals as goal
+
+pub returns-then-trace-len : goal.returns-then-trace-len
+returns-then-trace-len g c = λ texts history has.
+    let making = g.B.Tells.making in
+    let stands = g.B.Machine.Machine.stands in
+    let seen = ap (λ (a : Auditing _ _). length a.traces) c.self.view_is in
+    let past : length texts ≤ c.args.trace =
+    omega (arith, c.if-trace-len.true, c.len.ensures, seen, has.count) in
+    subst (λ (l : List (List ℕ)). HasAudited making stands l history c.args.self.now)
+    (sym (nothing_fed texts c.args.trace c.args.bytes.now past)) has
+
+pub returns : goal.returns
+returns g c = λ texts history has.
+    let making = g.B.Tells.making in
+    let stands = g.B.Machine.Machine.stands in
+    let k = c.args.trace in
+    let r = c.index_mut.result.now in
+    let inside : Auditing _ _ = record {
+      following = c.self.inside.follower;
+      traces = c.self.inside.traces.items;
+    } in
+    let within : k < length inside.traces = omega (arith, c.if-trace-len.false, c.len.ensures) in
+    let at = slice_get_read inside.traces (length inside.traces) k r refl within
+    c.index_mut.ensures.value in
+    let old = subst (λ (a : Auditing _ _). HasAudited making stands texts history a)
+    (sym c.self.view_is) has in
+    feeds making stands texts history inside k r old at c.args.bytes.now c.read_on.new.reading
+    c.read_on.ensures.node c.in_ok-read_on.ensures.unread

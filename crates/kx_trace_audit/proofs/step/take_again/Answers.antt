@@ -1,0 +1,17 @@
+use Rattle.kx_follow.specs.Following.{MakesOneMore}
+use Rattle.kx_machine.specs.declared.taken.Taken.{Taken}
+use Rattle.kx_trace_audit.proofs.Telling.{answered, when_some}
+use Rattle.kx_trace_audit.proofs.step.take_again.Goals as goal
+
+pub returns : goal.returns
+returns g c = λ history made.
+    let making = g.B.Tells.making in
+    let stands = g.B.Machine.Machine.stands in
+    let old = c.args.follower.now in
+    let new = c.take.new.self in
+    let input = c.args.input.now in
+    answered making stands c.args.node input history old new c.in-Some.taken c.args.mark
+    c.args.frames.now
+    (when_some _ (λ (taken : Taken). MakesOneMore making stands c.args.node input taken history old new)
+    c.in_ok-taken.field-0 c.in-Some.taken c.in-Some.is (c.in_ok-taken.ensures.made history made))
+    c.in_ok-judged.ensures.mark c.in_ok-judged.ensures.frames

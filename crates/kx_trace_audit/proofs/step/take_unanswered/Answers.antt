@@ -1,0 +1,15 @@
+use Rattle.kx_follow.specs.Following.{MakesOneMore}
+use Rattle.kx_machine.specs.declared.taken.Taken.{Taken}
+use Rattle.kx_trace_audit.proofs.Telling.{unanswered, when_some}
+use Rattle.kx_trace_audit.proofs.step.take_unanswered.Goals as goal
+
+pub returns : goal.returns
+returns g c = λ history made.
+    let making = g.B.Tells.making in
+    let stands = g.B.Machine.Machine.stands in
+    let old = c.args.follower.now in
+    let new = c.take.new.self in
+    let input = c.args.input.now in
+    unanswered making stands c.args.node input history old new c.in-Some.taken
+    (when_some _ (λ (taken : Taken). MakesOneMore making stands c.args.node input taken history old new)
+    c.in_ok-taken.field-0 c.in-Some.taken c.in-Some.is (c.in_ok-taken.ensures.made history made))

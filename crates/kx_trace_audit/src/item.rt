@@ -1,0 +1,157 @@
+//! What stands at the front of what is left of a trace.
+ghost use Rattle.std.specs.Prelude.{IfOk, IfSome};
+ghost use Rattle.kx_trace.specs.Records.{Took, record_of};
+ghost use Rattle.kx_trace_audit.specs.Items.{Begins, IsAfter, IsItem};
+ghost use Rattle.kx_varint.specs.Text.{IsBytes};
+
+use crate::refusal::TraceRefusal;
+use kx_machine::Input;
+use kx_nodes::Mark;
+use kx_trace::{Record, TraceFault, read_record, records_are_read};
+use std::alloc::Global;
+
+/// What a trace tells of one input.
+#[derive(Drop)]
+pub(crate) enum Telling<'a> {
+    /// It was taken, the node's store did this, and these are the frames of what was sent.
+    Answered {
+        input: Input,
+        mark: Mark,
+        frames: &'a [u8],
+    },
+    /// It was not taken.
+    Untaken(Input),
+    /// The process ended before it was answered.
+    Unanswered(Input),
+    /// The process had ended, and the node was opened again at this time.
+    Reopened {
+        now: u64,
+        log_len: u64,
+    },
+}
+
+/// What a trace tells next, and how many bytes tell it.
+#[derive(Drop)]
+pub(crate) struct Item<'a> {
+    pub(crate) told: Telling<'a>,
+    pub(crate) used: usize,
+}
+
+// Bytes fit their type. This does nothing when it runs.
+fn bytes_fit(bytes: &[u8])
+    ensures { IsBytes bytes.now }
+{}
+
+// Why bytes can't be read.
+fn refusal_of(fault: TraceFault) -> TraceRefusal {
+    match fault {
+        TraceFault::Memory => TraceRefusal::Memory,
+        _ => TraceRefusal::Bytes,
+    }
+}
+
+// The record at the front, and how many bytes it takes; None where it isn't whole.
+fn record_at(alloc: Global, bytes: &[u8]) -> Result<Option<(Record<'_>, usize)>, TraceRefusal>
+    ensures { IfOk result (λ o. IfSome o (λ x. Begins bytes.now (record_of x.0) x.1)) }
+{
+    bytes_fit(bytes);
+    records_are_read();
+    match read_record(alloc, bytes) {
+        Ok(found) => Ok(found),
+        Err(fault) => Err(refusal_of(fault)),
+    }
+}
+
+// What stands after an input.
+#[derive(Drop)]
+enum After<'a> {
+    // the step's answer, which takes so many bytes
+    Answer {
+        mark: Mark,
+        frames: &'a [u8],
+        len: usize,
+    },
+    // the input was not taken, which takes so many bytes to say
+    Untaken(usize),
+    // the process ended
+    End,
+    // it isn't known yet
+    Unknown,
+}
+
+// What stands at the front of these bytes, after an input.
+fn after_at(alloc: Global, bytes: &[u8], is_end: bool) -> Result<After<'_>, TraceRefusal>
+    ensures { IfOk result (IsAfter bytes.now) }
+{
+    let Some((record, len)) = record_at(alloc, bytes)? else {
+        return Ok(if is_end { After::End } else { After::Unknown });
+    };
+    match record {
+        Record::Answered { mark, frames } => Ok(After::Answer { mark, frames, len }),
+        Record::Untaken => Ok(After::Untaken(len)),
+        Record::Reopened { .. } => Ok(After::End),
+        Record::Took(_) => Err(TraceRefusal::Bytes),
+    }
+}
+
+// What is told of an input, whose record takes so many bytes.
+fn told_of_input(
+    alloc: Global,
+    input: Input,
+    bytes: &[u8],
+    len: usize,
+    is_end: bool,
+) -> Result<Option<Item<'_>>, TraceRefusal>
+    requires { Begins bytes.now (Took input) len }
+    ensures { IfOk result (λ o. IfSome o (IsItem bytes.now)) }
+{
+    let item = match after_at(alloc, &bytes[len..], is_end)? {
+        After::Answer {
+            mark,
+            frames,
+            len: more,
+        } => Item {
+            told: Telling::Answered {
+                input,
+                mark,
+                frames,
+            },
+            used: len + more,
+        },
+        After::Untaken(more) => Item {
+            told: Telling::Untaken(input),
+            used: len + more,
+        },
+        After::End => Item {
+            told: Telling::Unanswered(input),
+            used: len,
+        },
+        After::Unknown => return Ok(None),
+    };
+    Ok(Some(item))
+}
+
+/// What a trace tells next; None where more of its bytes are needed, if there are more.
+///
+/// # Errors
+///
+/// `Bytes` where no trace goes on so; `Memory` where memory runs out.
+pub(crate) fn item_at(
+    alloc: Global,
+    bytes: &[u8],
+    is_end: bool,
+) -> Result<Option<Item<'_>>, TraceRefusal>
+    ensures { IfOk result (λ o. IfSome o (IsItem bytes.now)) }
+{
+    let Some((record, len)) = record_at(alloc, bytes)? else {
+        return Ok(None);
+    };
+    match record {
+        Record::Took(input) => told_of_input(alloc, input, bytes, len, is_end),
+        Record::Reopened { now, log_len } => {
+            let told = Telling::Reopened { now, log_len };
+            Ok(Some(Item { told, used: len }))
+        }
+        _ => Err(TraceRefusal::Bytes),
+    }
+}
