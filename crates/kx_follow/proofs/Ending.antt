@@ -1,5 +1,5 @@
 -- What all steps that were made are: joined traces, and so an open schedule.
-use Rattle.std.proofs.Common.{◌≡◌, ℕ, All, Bool, true, false, cond, List, [], ◌∷◌, map, Some, refl}
+use Rattle.std.proofs.Common.{◌≡◌, ℕ, All, Bool, true, false, cond, List, [], ◌∷◌, Some, refl}
 use Rattle.std.proofs.Common.{sym, ap, ◌∙◌, subst}
 use Rattle.std.specs.Prelude.{slice_get}
 use Rattle.std.proofs.lemmas.List.Elements.{All-cons, All-head, All-tail}
@@ -15,7 +15,6 @@ use Rattle.kx_follow.specs.Whole.{IsWholeRun}
 use Rattle.kx_machine.specs.Meaning.{NodeState}
 use Rattle.kx_message.specs.declared.message.Message.{Message}
 use Rattle.kx_message.specs.declared.message.NodeId.{NodeId}
-use Rattle.kx_nodes.specs.declared.trace.Step.{Step}
 use Rattle.kx_outside.specs.Requests.{IsRequest}
 use Rattle.kx_system.specs.System.{System}
 

@@ -12,9 +12,8 @@ use Rattle.std.proofs.lemmas.List.Sorted.{list_any-IsPermutation}
 use Rattle.std.proofs.lemmas.Slice.Eq.{bytes_eq-Decides}
 use Rattle.kx_audit.specs.Sent.{IsRead}
 use Rattle.kx_follow.specs.Internal.{HasFrame, frames_of}
-use Rattle.kx_follow.specs.Pending.{AreSent, IsAmong}
+use Rattle.kx_follow.specs.Pending.{AreSent}
 use Rattle.kx_message.specs.Fields.{frame_text}
-use Rattle.kx_message.specs.Sizes.{FitsFrame}
 use Rattle.kx_message.specs.declared.message.Message.{Message}
 use Rattle.kx_wire.specs.Frames.{Whole, frame_at}
 

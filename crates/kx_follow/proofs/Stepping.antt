@@ -1,5 +1,5 @@
 -- One more step of a node, and so of all that is followed.
-use Rattle.std.proofs.Common.{◌≡◌, ◌≢◌, ◌++◌, ◌⊎◌, ℕ, All, List, [], ◌∷◌, Some, refl, sym, ap, ◌∙◌}
+use Rattle.std.proofs.Common.{◌≡◌, ◌≢◌, ◌++◌, ℕ, All, List, [], ◌∷◌, Some, refl, sym, ap, ◌∙◌}
 use Rattle.std.proofs.Common.{length, subst, ⊎_elim}
 use Rattle.std.specs.Prelude.{slice_get, slice_set}
 use Rattle.std.proofs.lemmas.List.{append_assoc, map-append}
@@ -20,11 +20,11 @@ use Rattle.kx_follow.specs.Internal.{Steps}
 use Rattle.kx_follow.specs.Pending.{AreSent}
 use Rattle.kx_machine.specs.Meaning.{NodeState}
 use Rattle.kx_machine.specs.declared.input.Input.{Input}
+use Rattle.kx_machine.specs.declared.machine.StoreMode.{StoreMode}
 use Rattle.kx_machine.specs.declared.taken.Taken.{Taken}
 use Rattle.kx_message.specs.declared.message.Message.{Message}
 use Rattle.kx_message.specs.declared.message.NodeId.{NodeId}
 use Rattle.kx_nodes.specs.Replay.{mark_of}
-use Rattle.kx_nodes.specs.declared.trace.Step.{Step}
 use Rattle.kx_outside.specs.Requests.{IsRequest}
 use Rattle.kx_follow.proofs.History.{arrived_push, at_push_other, at_push_own, handed_push}
 use Rattle.kx_follow.proofs.History.{order_push}
@@ -109,10 +109,11 @@ module _ {B M : Type 0} (making : B → NodeMaking) (stands : NodeState → M �
       }
 
   module _ (history : List Passed) (old : Following B M) (k : ℕ) (n : Followed B M)
-      (at : slice_get old.nodes k ≡ Some n) (input : Input) (taken : Taken) (next : Followed B M)
+      (at : slice_get old.nodes k ≡ Some n) (input : Input) (mode : StoreMode) (taken : Taken)
+      (next : Followed B M)
       (same : next.made ≡ n.made)
       (steps : Steps stands (led_to (node_of (making n.made)) (at_node (name n) history)) input
-      taken next.machine)
+      mode taken next.machine)
       (pending : List (List ℕ)) (made : HasMade making stands history old)
       (was : WasHandedOut (requested input ++ handed_out history) input)
       (requests : All IsRequest (requested input))
@@ -243,7 +244,7 @@ module _ {B M : Type 0} (making : B → NodeMaking) (stands : NodeState → M �
       pending = subst (λ (ms : List Message). AreSent ms pending) (sym (handed_push history p)) sent;
     }
 
-    pub one_more : IsStep p.step → MakesOneMore making stands k input taken history old then_all
+    pub one_more : IsStep p.step → MakesOneMore making stands k input mode taken history old then_all
     one_more fit = record {
       node = n;
       there = at;
@@ -252,6 +253,8 @@ module _ {B M : Type 0} (making : B → NodeMaking) (stands : NodeState → M �
       input_is = refl;
       mark_is = refl;
       taken_is = refl;
+      takes = steps.takes;
+      meets = steps.meets;
       makings = makings_stay;
       made = made_then (All-push IsStep [] p.step (All-nil IsStep) fit);
     }

@@ -9,10 +9,12 @@ use Rattle.kx_audit.specs.Schedule.{IsNodeMaking, IsStep}
 use Rattle.kx_follow.specs.Pending.{AreSent}
 use Rattle.kx_machine.specs.Meaning.{NodeState}
 use Rattle.kx_machine.specs.declared.input.Input.{Input}
+use Rattle.kx_machine.specs.declared.machine.StoreMode.{StoreMode}
 use Rattle.kx_machine.specs.declared.taken.Taken.{Taken}
 use Rattle.kx_message.specs.declared.message.Message.{Message}
 use Rattle.kx_message.specs.declared.message.NodeId.{NodeId}
-use Rattle.kx_nodes.specs.Replay.{mark_of}
+use Rattle.kx_nodes.specs.Again.{MayMeet}
+use Rattle.kx_nodes.specs.Replay.{Takes, mark_of}
 use Rattle.kx_outside.specs.Requests.{IsRequest}
 
 -- how a node was made, and its machine after the steps so far
@@ -75,9 +77,14 @@ module _ {B M : Type 0} (making : B → NodeMaking) where
       pub fits : All IsStep (steps_in history)
       pub pending : AreSent (handed_out history) f.pending
 
-    -- the node of this number makes one more step: it takes this input, and answers so
-    pub record MakesOneMore (number : ℕ) (input : Input) (taken : Taken) (history : List Passed)
-        (old new : Following B M) : Type 0 where
+    -- where the node's steps in this history lead
+    abbrev pub state_after : List Passed → Followed B M → NodeState
+    state_after history n = led_to (node_of (making n.made)) (at_node (name_of n) history)
+
+    -- the node of this number makes one more step: it takes this input, with a store that may meet
+    -- the mode, and answers so
+    pub record MakesOneMore (number : ℕ) (input : Input) (mode : StoreMode) (taken : Taken)
+        (history : List Passed) (old new : Following B M) : Type 0 where
       pub node : Followed B M
       pub there : slice_get old.nodes number ≡ Some node
       pub passed : Passed
@@ -85,5 +92,7 @@ module _ {B M : Type 0} (making : B → NodeMaking) where
       pub input_is : passed.step.input ≡ input
       pub mark_is : passed.step.mark ≡ mark_of taken
       pub taken_is : passed.taken ≡ taken
+      pub takes : Takes (state_after history node) passed.step passed.taken passed.after
+      pub meets : MayMeet (state_after history node) mode takes.store
       pub makings : makings_of new.nodes ≡ makings_of old.nodes
       pub made : HasMade (history ++ passed ∷ []) new

@@ -3,10 +3,12 @@ use Rattle.std.specs.Prelude.{◌≡◌, ℕ, List, Contains, map}
 use Rattle.kx_audit.specs.Sent.{IsRead}
 use Rattle.kx_machine.specs.Meaning.{NodeState}
 use Rattle.kx_machine.specs.declared.input.Input.{Input}
+use Rattle.kx_machine.specs.declared.machine.StoreMode.{StoreMode}
 use Rattle.kx_machine.specs.declared.taken.Taken.{Taken}
 use Rattle.kx_message.specs.Fields.{frame_text}
 use Rattle.kx_message.specs.Sizes.{FitsFrame}
 use Rattle.kx_message.specs.declared.message.Message.{Message}
+use Rattle.kx_nodes.specs.Again.{MayMeet}
 use Rattle.kx_nodes.specs.Replay.{Takes, mark_of}
 
 -- the frames that a map has as keys
@@ -18,9 +20,11 @@ abbrev pub HasFrame : List Message → List ℕ → Type 0
 HasFrame sent frame =
     (m : Message) → FitsFrame m → IsRead m → frame_text m ≡ frame → Contains sent m
 
--- the node takes the input, answers so, and comes to one for which the machine stands
+-- the node takes the input, with a store that may meet the mode, answers so, and comes to one for
+-- which the machine stands
 pub record Steps {M : Type 0} (stands : NodeState → M → Type 0) (node : NodeState) (input : Input)
-    (taken : Taken) (machine : M) : Type 0 where
+    (mode : StoreMode) (taken : Taken) (machine : M) : Type 0 where
   pub after : NodeState
   pub takes : Takes node (record { input = input; mark = mark_of taken }) taken after
+  pub meets : MayMeet node mode takes.store
   pub stands_so : stands after machine

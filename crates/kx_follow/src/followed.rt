@@ -60,10 +60,11 @@ impl<B: Remade> FollowedNode<B> {
         ensures made { self.new.made ≡ self.old.made }
         ensures steps { IfOk result (λ taken. (node : NodeState)
             → B.Machine.stands node self.old.machine
-            → Steps B.Machine.stands node input.now taken self.new.machine) }
+            → Steps B.Machine.stands node input.now mode taken self.new.machine) }
     {
         B::prepare(&mut self.machine, mode);
-        self.machine.take(input)
+        let taken = self.machine.take(input)?;
+        Ok(taken)
     }
 
     /// The machine, borrowed.

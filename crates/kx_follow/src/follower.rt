@@ -129,8 +129,8 @@ impl<B: Remade> Follower<B> {
         ensures made { (history : List Passed) → HasMade B.making B.Machine.stands history self.old
             → IfOk result (λ o. MatchOption o
             (HasMade B.making B.Machine.stands history self.new)
-            (λ taken. MakesOneMore B.making B.Machine.stands node input.now taken history self.old
-            self.new)) }
+            (λ taken. MakesOneMore B.making B.Machine.stands node input.now mode taken history
+            self.old self.new)) }
     {
         input_fits(input);
         if node >= self.nodes.len() {

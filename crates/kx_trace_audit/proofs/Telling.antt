@@ -7,10 +7,11 @@ use Rattle.std.specs.Bool.{MatchBool}
 use Rattle.std.specs.List.{flat_map}
 use Rattle.kx_audit.specs.Joined.{Passed}
 use Rattle.kx_audit.specs.Making.{NodeMaking}
-use Rattle.kx_follow.specs.Following.{Following, HasMade, MakesOneMore}
+use Rattle.kx_follow.specs.Following.{Following, MakesOneMore}
 use Rattle.kx_machine.specs.Meaning.{NodeState}
 use Rattle.kx_machine.specs.declared.input.Input.{Input}
 use Rattle.kx_machine.specs.declared.input.Input.TheVariants.{Restart}
+use Rattle.kx_machine.specs.declared.machine.StoreMode.{StoreMode}
 use Rattle.kx_machine.specs.declared.taken.Taken.{Taken}
 use Rattle.kx_message.specs.Fields.{frame_text}
 use Rattle.kx_nodes.specs.Replay.{mark_of}
@@ -24,10 +25,11 @@ when_some P Q None x e m = absurd cc
 when_some P Q (Some y) x e m = subst Q (same_Some y x e) m
 
 module _ {B M : Type 0} (making : B → NodeMaking) (stands : NodeState → M → Type 0)
-    (number : ℕ) (input : Input) (history : List Passed) (old new : Following B M) where
+    (number : ℕ) (input : Input) (mode : StoreMode) (history : List Passed)
+    (old new : Following B M) where
   -- it was answered so
   pub answered : (taken : Taken) (mark : Mark) (frames : List ℕ)
-      → MakesOneMore making stands number input taken history old new → mark_of taken ≡ mark
+      → MakesOneMore making stands number input mode taken history old new → mark_of taken ≡ mark
       → flat_map frame_text taken.messages ≡ frames
       → MakesTold making stands number (Answered input mark frames) history old new
   answered taken mark frames is mark_is frames_are = record {
@@ -45,7 +47,7 @@ module _ {B M : Type 0} (making : B → NodeMaking) (stands : NodeState → M �
   }
 
   -- it was never answered
-  pub unanswered : (taken : Taken) → MakesOneMore making stands number input taken history old new
+  pub unanswered : (taken : Taken) → MakesOneMore making stands number input mode taken history old new
       → MakesTold making stands number (Unanswered input) history old new
   unanswered taken is = record {
     node = is.node;

@@ -1,6 +1,6 @@
 -- The bytes of traces that are fed.
 use Rattle.std.proofs.Common.{◌≡◌, ◌≢◌, ◌⊎◌, ◌≤◌, ◌++◌, ℕ, zero, suc, List, [], ◌∷◌, Some, refl, sym}
-use Rattle.std.proofs.Common.{ap, ◌∙◌, inl, inr, ⊎_elim, length, arith}
+use Rattle.std.proofs.Common.{ap, inl, inr, ⊎_elim, length, arith}
 use Rattle.std.specs.Prelude.{slice_get}
 use Rattle.std.proofs.lemmas.Option.{same_Some}
 use Rattle.kx_trace_audit.specs.Auditing.{fed}

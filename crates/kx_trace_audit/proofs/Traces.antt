@@ -1,6 +1,6 @@
 -- Traces that are read further, and one more step of them.
-use Rattle.std.proofs.Common.{◌≡◌, ◌≢◌, ◌⊎◌, ◌≤◌, ◌++◌, ℕ, List, [], ◌∷◌, Some, map, length, drop}
-use Rattle.std.proofs.Common.{refl, sym, ap, ◌∙◌, subst, ⊎_elim, append-nil, arith}
+use Rattle.std.proofs.Common.{◌≡◌, ◌≢◌, ◌++◌, ℕ, List, [], ◌∷◌, Some, map, length, drop}
+use Rattle.std.proofs.Common.{refl, sym, ap, ◌∙◌, subst, ⊎_elim, append-nil}
 use Rattle.std.specs.Prelude.{slice_get, slice_set}
 use Rattle.std.specs.List.{flat_map}
 use Rattle.std.proofs.lemmas.Grind.{flat_map-append}
@@ -21,7 +21,7 @@ use Rattle.kx_trace.specs.declared.node.TracedNode.TheVariants as traced
 use Rattle.kx_trace_audit.specs.Auditing.{AreBegun, Auditing, HasAudited, TellsOfIts, fed}
 use Rattle.kx_trace_audit.specs.Servers as servers
 use Rattle.kx_trace_audit.specs.Stepping.{HasRead, HasStepped, HasTold, MakesTold, Stays, used_by}
-use Rattle.kx_trace_audit.specs.Told.{Answered, AreSteps, IsStepOf, NoneTold, NotTaken, OneMore}
+use Rattle.kx_trace_audit.specs.Told.{Answered, IsStepOf, NoneTold, NotTaken, OneMore}
 use Rattle.kx_trace_audit.specs.Told.{Reopened, TellsOf, Told, Unanswered, Untaken, told_text}
 use Rattle.kx_trace_audit.specs.declared.reading.Reading.{Reading}
 use Rattle.kx_trace_audit.specs.declared.step.Stepped.{Stepped}

@@ -1,5 +1,5 @@
 -- What the bytes of a node's trace tell, and the steps that it tells of.
-use Rattle.std.specs.Prelude.{◌≡◌, ℕ, List, [], ◌∷◌, ◌++◌, length, nat_lt}
+use Rattle.std.specs.Prelude.{◌≡◌, ℕ, List, [], ◌∷◌, ◌++◌}
 use Rattle.std.specs.List.{flat_map}
 use Rattle.kx_audit.specs.Joined.{Passed}
 use Rattle.kx_machine.specs.declared.input.Input.{Input}
@@ -7,7 +7,6 @@ use Rattle.kx_machine.specs.declared.input.Input.TheVariants.{Restart}
 use Rattle.kx_message.specs.Fields.{frame_text}
 use Rattle.kx_nodes.specs.declared.mark.Mark.{Mark}
 use Rattle.kx_trace.specs.Layout.{head_text, record_text}
-use Rattle.kx_trace.specs.Reading.{More, record_at}
 use Rattle.kx_trace.specs.Records as spelled
 use Rattle.kx_trace.specs.declared.node.TracedNode.{TracedNode}
 

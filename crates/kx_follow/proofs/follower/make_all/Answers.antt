@@ -1,6 +1,6 @@
 use Rattle.std.proofs.Common.{List, rules, subst}
 use Rattle.std.specs.Prelude.{IsFalse}
-use Rattle.kx_follow.specs.Following.{Followed, name_of}
+use Rattle.kx_follow.specs.Following.{Followed}
 use Rattle.kx_follow.specs.Fresh.{IsNewName}
 use Rattle.kx_message.specs.declared.message.NodeId.{NodeId}
 use Rattle.kx_follow.proofs.Stepping.{fresh_more, makings_more}

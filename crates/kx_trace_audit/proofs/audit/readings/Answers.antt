@@ -1,8 +1,7 @@
-use Rattle.std.proofs.Common.{◌≡◌, ◌+◌, ◌++◌, ◌∷◌, ◌∙◌, ℕ, List, [], ap, arith, refl, suc, subst, sym, take}
+use Rattle.std.proofs.Common.{◌≡◌, ◌+◌, ◌++◌, ◌∷◌, ◌∙◌, ℕ, List, [], ap, arith, suc, subst, sym, take}
 use Rattle.std.proofs.Math.Seq.{take-suc}
 use Rattle.kx_trace.specs.declared.node.TracedNode.{TracedNode}
 use Rattle.kx_trace_audit.specs.Auditing.{AreBegun}
-use Rattle.kx_trace_audit.specs.declared.reading.Reading.{Reading}
 use Rattle.kx_trace_audit.proofs.Traces.{begun_more}
 use Rattle.kx_trace_audit.proofs.audit.readings.Goals as goal
 

@@ -10,8 +10,8 @@ returns g c = λ history made.
     let old = c.args.follower.now in
     let new = c.take.new.self in
     let input = c.args.input.now in
-    answered making stands c.args.node input history old new c.in-Some.taken c.args.mark
+    answered making stands c.args.node input c.args.mode history old new c.in-Some.taken c.args.mark
     c.args.frames.now
-    (when_some _ (λ (taken : Taken). MakesOneMore making stands c.args.node input taken history old new)
+    (when_some _ (λ (taken : Taken). MakesOneMore making stands c.args.node input c.args.mode taken history old new)
     c.in_ok-taken.field-0 c.in-Some.taken c.in-Some.is (c.in_ok-taken.ensures.made history made))
     c.in_ok-judged.ensures.mark c.in_ok-judged.ensures.frames

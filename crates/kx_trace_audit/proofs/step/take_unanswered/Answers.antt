@@ -10,6 +10,6 @@ returns g c = λ history made.
     let old = c.args.follower.now in
     let new = c.take.new.self in
     let input = c.args.input.now in
-    unanswered making stands c.args.node input history old new c.in-Some.taken
-    (when_some _ (λ (taken : Taken). MakesOneMore making stands c.args.node input taken history old new)
+    unanswered making stands c.args.node input c.args.mode history old new c.in-Some.taken
+    (when_some _ (λ (taken : Taken). MakesOneMore making stands c.args.node input c.args.mode taken history old new)
     c.in_ok-taken.field-0 c.in-Some.taken c.in-Some.is (c.in_ok-taken.ensures.made history made))

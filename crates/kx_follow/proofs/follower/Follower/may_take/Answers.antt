@@ -1,8 +1,7 @@
-use Rattle.std.proofs.Common.{◌≡◌, ◌∙◌, List, ap, subst, sym}
+use Rattle.std.proofs.Common.{◌≡◌, ◌∙◌, subst, sym}
 use Rattle.std.specs.Prelude.{Contains}
 use Rattle.kx_follow.specs.Following.{Following}
 use Rattle.kx_follow.specs.Pending.{AreSent}
-use Rattle.kx_machine.specs.declared.input.Input.TheVariants.{Deliver}
 use Rattle.kx_message.specs.declared.message.Message.{Message}
 use Rattle.kx_follow.proofs.History.{was_sent}
 use Rattle.kx_follow.proofs.follower.Follower.may_take.Goals as goal

@@ -1,4 +1,4 @@
-use Rattle.std.proofs.Common.{◌≡◌, ◌<◌, ◌∙◌, ◌++◌, ℕ, List, Some, ap, arith, length, refl, rules, subst}
+use Rattle.std.proofs.Common.{◌≡◌, ◌<◌, ◌∙◌, ◌++◌, List, Some, ap, arith, length, refl, rules, subst}
 use Rattle.std.proofs.Common.{sym}
 use Rattle.std.specs.Prelude.{IsTrue, slice_get, slice_set}
 use Rattle.std.proofs.lemmas.Option.{slice_get_read}
@@ -41,9 +41,9 @@ returns-clause-made g c = λ history made.
     let sent = c.in_ok-add_all.ensures (handed_out history)
     (subst (λ (f : Following _ _). AreSent (handed_out history) f.pending) (sym c.self-2.view_is)
     left) in
-    subst (λ (l : List (Followed _ _)). MakesOneMore making stands k c.args.input.now taken history old
+    subst (λ (l : List (Followed _ _)). MakesOneMore making stands k c.args.input.now c.args.mode taken history old
     (record { nodes = slice_set l k c.take.new.self; pending = c.add_all.new.self })) (sym nodes)
-    (one_more making stands history old k n at c.args.input.now taken c.take.new.self
+    (one_more making stands history old k n at c.args.input.now c.args.mode taken c.take.new.self
     c.take.ensures.made
     (c.in_ok-taken.ensures.steps _ (made.led k n at).stands_so)
     c.add_all.new.self made

@@ -1,4 +1,4 @@
-use Rattle.std.proofs.Common.{◌++◌, ◌∷◌, [], ◌≡◌}
+use Rattle.std.proofs.Common.{◌++◌, ◌∷◌, []}
 use Rattle.kx_follow.proofs.Sending.{last_frame, sent_more}
 use Rattle.kx_follow.proofs.pending.Pending.add_short.Goals as goal
 

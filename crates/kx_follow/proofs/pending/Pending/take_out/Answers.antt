@@ -1,4 +1,4 @@
-use Rattle.std.proofs.Common.{◌≡◌, ◌∙◌, ℕ, List, rules, subst, sym}
+use Rattle.std.proofs.Common.{◌∙◌, ℕ, List, rules, subst, sym}
 use Rattle.kx_message.specs.Sizes.{FitsFrame}
 use Rattle.kx_follow.specs.Pending.{AreSent}
 use Rattle.kx_follow.proofs.Sending.{found_frame, removed}

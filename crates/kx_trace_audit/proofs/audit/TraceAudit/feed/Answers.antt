@@ -1,7 +1,7 @@
-use Rattle.std.proofs.Common.{◌≡◌, ◌≤◌, ◌<◌, ◌∙◌, List, Some, ap, arith, length, refl, subst, sym}
-use Rattle.std.specs.Prelude.{ℕ, slice_get}
+use Rattle.std.proofs.Common.{◌≤◌, ◌<◌, List, ap, arith, length, refl, subst, sym}
+use Rattle.std.specs.Prelude.{ℕ}
 use Rattle.std.proofs.lemmas.Option.{slice_get_read}
-use Rattle.kx_trace_audit.specs.Auditing.{Auditing, HasAudited, fed}
+use Rattle.kx_trace_audit.specs.Auditing.{Auditing, HasAudited}
 use Rattle.kx_trace_audit.proofs.Texts.{nothing_fed}
 use Rattle.kx_trace_audit.proofs.Traces.{feeds}
 use Rattle.kx_trace_audit.proofs.audit.TraceAudit.feed.Goals as goal

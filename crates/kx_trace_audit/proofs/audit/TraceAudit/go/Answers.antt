@@ -1,5 +1,5 @@
-use Rattle.std.proofs.Common.{◌≡◌, ◌<◌, List, Some, arith, length, refl, subst, sym}
-use Rattle.std.specs.Prelude.{ℕ, slice_get}
+use Rattle.std.proofs.Common.{◌<◌, List, arith, length, refl, subst, sym}
+use Rattle.std.specs.Prelude.{ℕ}
 use Rattle.std.proofs.lemmas.Option.{slice_get_read}
 use Rattle.kx_trace_audit.specs.Auditing.{Auditing, HasAudited}
 use Rattle.kx_trace_audit.specs.Stepping.{HasStepped}
