@@ -2,16 +2,13 @@
 ghost use Rattle.std.specs.Prelude.{◌≡◌, IfOk};
 ghost use Rattle.kx_machine.specs.Meaning.{made_as};
 ghost use Rattle.kx_machines.specs.Any.{any_stands};
-ghost use Rattle.kx_machines.specs.Brokers.{broker_stands};
 ghost use Rattle.kx_nodes.specs.Made.{made_processor};
 
 use kx_audit::{Remade, Tells};
 use kx_client_node::{AnyClient, ClientMachine, ProcessorMachine};
 use kx_machine::{Failing, Making, StoreMode};
-use kx_machines::{
-    AnyMachine, BrokerMachine, LocalStore, local_coordinator, local_offsets, local_partition,
-};
-use kx_message::{NodeId, PartitionId};
+use kx_machines::{AnyMachine, BrokerMachine, LocalStore, local_coordinator, local_server};
+use kx_message::NodeId;
 use kx_nodes::{Made, ProcessorMaking};
 use kx_processor::Process;
 use std::alloc::{AllocError, Global};
@@ -51,17 +48,6 @@ impl<F: Process> Tells for AnyMaking<F> {
     }
 }
 
-// The server of a partition, of whichever kind.
-fn server(alloc: Global, number: PartitionId) -> Result<BrokerMachine<LocalStore>, AllocError>
-    ensures { IfOk result (broker_stands (made_as (Making.Partition number))) }
-{
-    if number.is_data() {
-        Ok(BrokerMachine::Partition(local_partition(alloc, number)?))
-    } else {
-        Ok(BrokerMachine::Offsets(local_offsets(alloc)?))
-    }
-}
-
 // A node that isn't a processor, with an empty log in memory if it has one.
 fn plain<F: Process>(alloc: Global, making: Making) -> Result<AnyMachine<LocalStore, F>, AllocError>
     ensures { IfOk result (any_stands F.image_of (made_as making)) }
@@ -71,7 +57,7 @@ fn plain<F: Process>(alloc: Global, making: Making) -> Result<AnyMachine<LocalSt
             let machine = BrokerMachine::Coordinator(local_coordinator(alloc)?);
             Ok(AnyMachine::Broker(machine))
         }
-        Making::Partition(number) => Ok(AnyMachine::Broker(server(alloc, number)?)),
+        Making::Partition(number) => Ok(AnyMachine::Broker(local_server(alloc, number)?)),
         Making::Client {
             number,
             txn,

@@ -8,4 +8,4 @@ mod memory;
 
 pub use any::AnyMachine;
 pub use broker::BrokerMachine;
-pub use memory::{LocalStore, local_coordinator, local_offsets, local_partition};
+pub use memory::{LocalStore, local_coordinator, local_offsets, local_partition, local_server};

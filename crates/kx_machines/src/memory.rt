@@ -4,10 +4,12 @@ ghost use Rattle.kx_broker.specs.Offsets.{StandsForGroups};
 ghost use Rattle.kx_broker.specs.Serving.{StandsFor};
 ghost use Rattle.kx_coord_node.specs.Stands.{Stands};
 ghost use Rattle.kx_machine.specs.Meaning.{AtCoordinator, AtPartition};
+ghost use Rattle.kx_machines.specs.Brokers.{broker_stands};
 ghost use Rattle.kx_message.specs.Ranges.{offsets_partition};
 ghost use Rattle.kx_model.specs.CoordinatorNode.{new_coordinator};
 ghost use Rattle.kx_model.specs.PartitionNode.{empty_partition};
 
+use crate::broker::BrokerMachine;
 use kx_broker::{OffsetsMachine, PartitionMachine};
 use kx_coord_node::CoordinatorMachine;
 use kx_log::{FaultStore, MemStore};
@@ -68,5 +70,23 @@ pub fn local_offsets(alloc: Global) -> Result<OffsetsMachine<LocalStore>, AllocE
     match OffsetsMachine::new(alloc, empty_store(alloc)) {
         Ok(offsets) => Ok(offsets),
         Err(_) => Err(AllocError),
+    }
+}
+
+/// The server of a partition of either kind, as it is made, with an empty log in memory.
+///
+/// # Errors
+///
+/// Only where memory runs out.
+pub fn local_server(
+    alloc: Global,
+    number: PartitionId,
+) -> Result<BrokerMachine<LocalStore>, AllocError>
+    ensures { IfOk result (broker_stands (AtPartition number empty_partition)) }
+{
+    if number.is_data() {
+        Ok(BrokerMachine::Partition(local_partition(alloc, number)?))
+    } else {
+        Ok(BrokerMachine::Offsets(local_offsets(alloc)?))
     }
 }

@@ -1,5 +1,5 @@
 use Rattle.kx_machines.proofs.Numbers.{is_no_offsets}
-use Rattle.kx_cluster.proofs.making.server.Goals as goal
+use Rattle.kx_machines.proofs.memory.local_server.Goals as goal
 
 pub returns-in_ok-local_partition : goal.returns-in_ok-local_partition
 returns-in_ok-local_partition c =
