@@ -46,3 +46,17 @@ get_push [] y (suc k) x e = absurd cc
 get_push (z ∷ xs) y zero x e = inl e
 get_push (z ∷ xs) y (suc k) x e =
     ⊎_elim (λ t. inl t) (λ t. inr (ap suc t.0, t.1)) (get_push xs y k x e)
+
+-- where an element was, the changed one is
+pub set_here : {A : Type 0} (xs : List A) (k : ℕ) (y x : A) → slice_get xs k ≡ Some x
+    → slice_get (slice_set xs k y) k ≡ Some y
+set_here [] k y x e = absurd cc
+set_here (z ∷ xs) zero y x e = refl
+set_here (z ∷ xs) (suc k) y x e = set_here xs k y x e
+
+-- an element that is put in its own place
+pub set_same : {A : Type 0} (xs : List A) (k : ℕ) (x : A) → slice_get xs k ≡ Some x
+    → slice_set xs k x ≡ xs
+set_same [] k x e = absurd cc
+set_same {A} (z ∷ xs) zero x e = ap (λ (y : A). y ∷ xs) (sym (same_Some z x e))
+set_same {A} (z ∷ xs) (suc k) x e = ap (λ (l : List A). z ∷ l) (set_same xs k x e)

@@ -12,7 +12,7 @@ use Rattle.std.proofs.lemmas.List.Sorted.{list_any-IsPermutation}
 use Rattle.std.proofs.lemmas.Slice.Eq.{bytes_eq-Decides}
 use Rattle.kx_audit.specs.Sent.{IsRead}
 use Rattle.kx_follow.specs.Internal.{HasFrame, frames_of}
-use Rattle.kx_follow.specs.Pending.{AreSent}
+use Rattle.kx_follow.specs.Pending.{AreSent, IsAmong}
 use Rattle.kx_message.specs.Fields.{frame_text}
 use Rattle.kx_message.specs.declared.message.Message.{Message}
 use Rattle.kx_wire.specs.Frames.{Whole, frame_at}
@@ -130,7 +130,27 @@ module _ {K : Type 0} (bytes : K → List ℕ) where
       by true rest e = refl
       by false rest e = rest e
 
-  -- so a message whose frame is found was sent
+  missing : (test : K → Bool) (entries : List (K × ℕ)) → lookup test entries ≡ None
+      → list_any (λ e. test e.0) entries ≡ false
+  missing test [] e = refl
+  missing test (x ∷ entries) e = by (test x.0) (missing test entries) e
+    where
+      by : (b : Bool) → (lookup test entries ≡ None → list_any (λ e. test e.0) entries ≡ false)
+          → cond b (Some x.1) (lookup test entries) ≡ None
+          → b || list_any (λ e. test e.0) entries ≡ false
+      by true rest e = absurd cc
+      by false rest e = rest e
+
+  -- a key that isn't found is no frame of them
+  pub no_frame : (m : Message) (entries : List (K × ℕ)) (frame : List ℕ) → frame ≡ frame_text m
+      → lookup (λ k. bytes_eq frame (bytes k)) entries ≡ None → IsAmong (frames entries) m → ⊥
+  no_frame m entries frame is none among =
+      let other = missing (λ k. bytes_eq frame (bytes k)) entries none in
+      let same = ap (λ (text : List ℕ). list_any (λ e. bytes_eq text (bytes e.0)) entries) is in
+      let clash : true ≡ false = sym among ∙ among_is m entries ∙ sym same ∙ other in
+      cc
+
+  -- a message whose frame is found was sent
   pub found_frame : (sent : List Message) (entries : List (K × ℕ)) (frame : List ℕ) (v : ℕ)
       → lookup (λ k. bytes_eq frame (bytes k)) entries ≡ Some v → AreSent sent (frames entries)
       → HasFrame sent frame

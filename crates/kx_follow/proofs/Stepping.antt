@@ -28,7 +28,7 @@ use Rattle.kx_nodes.specs.Replay.{mark_of}
 use Rattle.kx_outside.specs.Requests.{IsRequest}
 use Rattle.kx_follow.proofs.History.{arrived_push, at_push_other, at_push_own, handed_push}
 use Rattle.kx_follow.proofs.History.{order_push}
-use Rattle.kx_follow.proofs.Lists.{get_push, get_set, map_set, set_there}
+use Rattle.kx_follow.proofs.Lists.{get_push, get_set, map_set, set_here, set_there}
 
 module _ {B M : Type 0} (making : B → NodeMaking) (stands : NodeState → M → Type 0) where
   abbrev name : Followed B M → NodeId
@@ -255,6 +255,9 @@ module _ {B M : Type 0} (making : B → NodeMaking) (stands : NodeState → M �
       taken_is = refl;
       takes = steps.takes;
       meets = steps.meets;
+      next = next;
+      there_then = set_here old.nodes k next n at;
+      stands_so = steps.stands_so;
       makings = makings_stay;
       made = made_then (All-push IsStep [] p.step (All-nil IsStep) fit);
     }

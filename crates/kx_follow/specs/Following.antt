@@ -82,7 +82,7 @@ module _ {B M : Type 0} (making : B → NodeMaking) where
     state_after history n = led_to (node_of (making n.made)) (at_node (name_of n) history)
 
     -- the node of this number makes one more step: it takes this input, with a store that may meet
-    -- the mode, and answers so
+    -- the mode, gives this answer, and comes to one for which its machine then stands
     pub record MakesOneMore (number : ℕ) (input : Input) (mode : StoreMode) (taken : Taken)
         (history : List Passed) (old new : Following B M) : Type 0 where
       pub node : Followed B M
@@ -94,5 +94,8 @@ module _ {B M : Type 0} (making : B → NodeMaking) where
       pub taken_is : passed.taken ≡ taken
       pub takes : Takes (state_after history node) passed.step passed.taken passed.after
       pub meets : MayMeet (state_after history node) mode takes.store
+      pub next : Followed B M
+      pub there_then : slice_get new.nodes number ≡ Some next
+      pub stands_so : stands passed.after next.machine
       pub makings : makings_of new.nodes ≡ makings_of old.nodes
       pub made : HasMade (history ++ passed ∷ []) new

@@ -1,4 +1,4 @@
--- What stands behind the contracts of this crate and in none of its public calls.
+-- What this crate's own functions ensure; no contract of a public call names it.
 use Rattle.std.specs.Prelude.{◌≡◌, ℕ, List, Contains, map}
 use Rattle.kx_audit.specs.Sent.{IsRead}
 use Rattle.kx_machine.specs.Meaning.{NodeState}
@@ -20,8 +20,8 @@ abbrev pub HasFrame : List Message → List ℕ → Type 0
 HasFrame sent frame =
     (m : Message) → FitsFrame m → IsRead m → frame_text m ≡ frame → Contains sent m
 
--- the node takes the input, with a store that may meet the mode, answers so, and comes to one for
--- which the machine stands
+-- the node takes the input, with a store that may meet the mode, gives this answer, and comes to one
+-- for which the machine stands
 pub record Steps {M : Type 0} (stands : NodeState → M → Type 0) (node : NodeState) (input : Input)
     (mode : StoreMode) (taken : Taken) (machine : M) : Type 0 where
   pub after : NodeState

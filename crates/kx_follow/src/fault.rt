@@ -11,14 +11,14 @@ use thiserror::Error;
 pub enum FollowFault {
     /// Two of the nodes have one name.
     #[error("two nodes have one name")]
-    Twins = 1,
+    DuplicateNode = 1,
     /// Memory ran out.
     #[error("out of memory")]
     Memory = 2,
 }
 
 impl FollowFault {
-    /// The number of the fault: `Twins` 1, `Memory` 2.
+    /// The number of the fault: `DuplicateNode` 1, `Memory` 2.
     pub fn number(self) -> u8
         ensures { result ≡ follow_number self }
     {

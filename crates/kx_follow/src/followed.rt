@@ -27,7 +27,7 @@ impl<B: Remade> Model for FollowedNode<B> {
 }
 
 impl<B: Remade> FollowedNode<B> {
-    /// A node that was made so, and has taken nothing yet.
+    /// A node that is made as `made` says, and has taken nothing yet.
     ///
     /// # Errors
     ///
@@ -51,7 +51,7 @@ impl<B: Remade> FollowedNode<B> {
         self.made.name()
     }
 
-    /// The machine takes an input once more, on a store that does so.
+    /// The machine takes one more input, on a store that does as `mode` says.
     ///
     /// # Errors
     ///
@@ -65,6 +65,13 @@ impl<B: Remade> FollowedNode<B> {
         B::prepare(&mut self.machine, mode);
         let taken = self.machine.take(input)?;
         Ok(taken)
+    }
+
+    /// The machine, taken out.
+    pub(crate) fn into_machine(self) -> B::Machine
+        ensures { result ≡ self.machine }
+    {
+        self.machine
     }
 
     /// The machine, borrowed.

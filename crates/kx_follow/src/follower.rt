@@ -1,11 +1,11 @@
 //! Nodes of a server whose steps are made again.
-ghost use Rattle.std.specs.Prelude.{◌≡◌, ◌++◌, ◌∷◌, [], All, IfNone, IfOk, IfSome, IsTrue, List, MatchOption, OnOk};
-ghost use Rattle.std.specs.Prelude.{IsFalse, slice_get, Some};
+ghost use Rattle.std.specs.Prelude.{◌≡◌, ◌≤◌, ◌⊎◌, ◌++◌, ◌∷◌, [], All, IfNone, IfOk, IsFalse, IsTrue};
+ghost use Rattle.std.specs.Prelude.{List, MatchOption, None, OnOk, Some, length, map, slice_get};
 ghost use Rattle.kx_audit.specs.Arrivals.{requested};
 ghost use Rattle.kx_audit.specs.Joined.{Passed, WasHandedOut};
 ghost use Rattle.kx_follow.specs.Following.{Followed, HasMade, MakesOneMore, makings_of};
 ghost use Rattle.kx_follow.specs.Fresh.{AreFresh, IsNewName};
-ghost use Rattle.kx_follow.specs.Pending.{AreSent};
+ghost use Rattle.kx_follow.specs.Pending.{AreSent, MustWait};
 ghost use Rattle.kx_follow.specs.Whole.{IsWholeRun};
 ghost use Rattle.kx_message.specs.declared.message.Message.{Message};
 ghost use Rattle.kx_outside.specs.Requests.{IsRequest};
@@ -56,7 +56,7 @@ fn add<B: Remade>(nodes: &mut Vec<FollowedNode<B>>, node: FollowedNode<B>) -> Re
     Ok(())
 }
 
-// The nodes that were made so, no two of one name.
+// The nodes that are made as these say, no two of one name.
 fn make_all<B: Remade>(alloc: Global, made: Vec<B>) -> Result<Vec<FollowedNode<B>>, FollowFault>
     ensures makings { IfOk result (λ nodes. makings_of nodes.items ≡ made.items) }
     ensures fresh { IfOk result (λ nodes. AreFresh B.making B.Machine.stands nodes.items) }
@@ -65,19 +65,30 @@ fn make_all<B: Remade>(alloc: Global, made: Vec<B>) -> Result<Vec<FollowedNode<B
     for making in made {
         let node = FollowedNode::new(alloc, making)?;
         if has_name(nodes.as_slice(), node.name()) {
-            return Err(FollowFault::Twins);
+            return Err(FollowFault::DuplicateNode);
         }
         add(&mut nodes, node)?;
     }
     Ok(nodes)
 }
 
+// The machines of these nodes, taken out.
+fn machines_of<B: Remade>(nodes: Vec<FollowedNode<B>>) -> Result<Vec<B::Machine>, AllocError>
+    ensures { IfOk result (λ machines. machines.items ≡ map (λ n. n.machine) nodes.items) }
+{
+    let mut machines = Vec::new(*nodes.allocator());
+    for node in nodes {
+        machines.push(node.into_machine())?;
+    }
+    Ok(machines)
+}
+
 impl<B: Remade> Follower<B> {
-    /// Nodes that were made so, and have taken nothing yet.
+    /// Nodes that are made as these say, and have taken nothing yet.
     ///
     /// # Errors
     ///
-    /// `Twins` where two of them have one name; `Memory` where memory runs out.
+    /// `DuplicateNode` where two of them have one name; `Memory` where memory runs out.
     pub fn new(alloc: Global, made: Vec<B>) -> Result<Follower<B>, FollowFault>
         ensures makings { IfOk result (λ f. makings_of f.nodes ≡ made.items) }
         ensures made { IfOk result (HasMade B.making B.Machine.stands []) }
@@ -89,8 +100,8 @@ impl<B: Remade> Follower<B> {
         })
     }
 
-    // Whether the input may come now: a message only if it is a client's request, or was sent by a
-    // step before. Such a message is taken out of those that wait.
+    // Whether the node may take the input now: a message only if it is a client's request, or was
+    // sent by a step before. A message that was sent is taken out of those that wait.
     fn may_take(&mut self, input: &Input) -> Result<bool, AllocError>
         ensures nodes { self.new.nodes ≡ self.old.nodes }
         ensures left { OnOk result ((sent : List Message) → AreSent sent self.old.pending
@@ -99,6 +110,9 @@ impl<B: Remade> Follower<B> {
         ensures comes { IfOk result (λ may. IsTrue may → (sent : List Message)
             → AreSent sent self.old.pending
             → WasHandedOut (requested input.now ++ sent) input.now) }
+        ensures stays { IfOk result (λ may. IsFalse may → self.new ≡ self.old) }
+        ensures waits { IfOk result (λ may. IsFalse may
+            → MustWait self.old.pending input.now) }
     {
         let Input::Deliver(message) = input else {
             return Ok(true);
@@ -114,7 +128,7 @@ impl<B: Remade> Follower<B> {
     /// Makes one more step: the node of this number, counted from 0 as they were given, takes the
     /// input, and its store does as `mode` says. None where it is a message that is no client's
     /// request and that no step before it sent, or that was taken as often as it was sent, or where
-    /// there is no such node; then there was no step.
+    /// there is no such node; then there was no step, and nothing changed.
     ///
     /// # Errors
     ///
@@ -125,7 +139,9 @@ impl<B: Remade> Follower<B> {
         input: &Input,
         mode: StoreMode,
     ) -> Result<Option<Taken>, AllocError>
-        ensures stays { IfOk result (λ o. IfNone o (self.new.nodes ≡ self.old.nodes)) }
+        ensures stays { IfOk result (λ o. IfNone o (self.new ≡ self.old)) }
+        ensures waits { IfOk result (λ o. IfNone o ((length self.old.nodes ≤ node)
+            ⊎ MustWait self.old.pending input.now)) }
         ensures made { (history : List Passed) → HasMade B.making B.Machine.stands history self.old
             → IfOk result (λ o. MatchOption o
             (HasMade B.making B.Machine.stands history self.new)
@@ -144,12 +160,24 @@ impl<B: Remade> Follower<B> {
         Ok(Some(taken))
     }
 
-    /// The machine of the node of this number, borrowed.
+    /// The machine of the node of this number, borrowed; None where there is no such node.
     pub fn machine(&self, node: usize) -> Option<&B::Machine>
-        ensures { (n : Followed B B.Machine) → slice_get self.now.nodes node ≡ Some n
-            → IfSome result (λ machine. machine.now ≡ n.machine) }
+        ensures { MatchOption result (slice_get self.now.nodes node ≡ None)
+            (λ machine. (n : Followed B B.Machine) × (slice_get self.now.nodes node ≡ Some n)
+            × (machine.now ≡ n.machine)) }
     {
         Some(self.nodes.get(node)?.machine())
+    }
+
+    /// The machines of the nodes, in order, taken out.
+    ///
+    /// # Errors
+    ///
+    /// Only where memory runs out.
+    pub fn into_machines(self) -> Result<Vec<B::Machine>, AllocError>
+        ensures { IfOk result (λ machines. machines.items ≡ map (λ n. n.machine) self.nodes) }
+    {
+        machines_of(self.nodes)
     }
 
     /// What the steps that were made are: an open schedule of the whole system, in which each

@@ -1,7 +1,7 @@
 //! The messages that were sent to nodes and not taken yet.
-ghost use Rattle.std.specs.Prelude.{◌≡◌, ◌++◌, ◌∷◌, [], Contains, IfOk, IsTrue, List, OnOk};
+ghost use Rattle.std.specs.Prelude.{◌≡◌, ◌++◌, ◌∷◌, [], Contains, IfOk, IsFalse, IsTrue, List, OnOk};
 ghost use Rattle.kx_follow.specs.Internal.{HasFrame};
-ghost use Rattle.kx_follow.specs.Pending.{AreSent};
+ghost use Rattle.kx_follow.specs.Pending.{AreSent, IsAmong};
 ghost use Rattle.kx_message.specs.Sizes.{FitsFrame};
 ghost use Rattle.kx_message.specs.declared.message.Message.{Message};
 
@@ -39,7 +39,7 @@ impl Pending {
         }
     }
 
-    // Counts a frame so often.
+    // Counts a frame this often.
     fn set(&mut self, frame: Vec<u8>, count: u64) -> Result<(), AllocError>
         ensures { OnOk result ((sent : List Message) → AreSent sent self.old
             → HasFrame sent frame.items → AreSent sent self.new) }
@@ -97,6 +97,9 @@ impl Pending {
             → AreSent sent self.new) }
         ensures was_sent { IfOk result (λ found. IsTrue found → (sent : List Message)
             → AreSent sent self.old → Contains sent message.now) }
+        ensures stays { IfOk result (λ found. IsFalse found → self.new ≡ self.old) }
+        ensures none { IfOk result (λ found. IsFalse found → FitsFrame message.now
+            → IsAmong self.old message.now → ⊥) }
     {
         if !message.fits() {
             return Ok(false);

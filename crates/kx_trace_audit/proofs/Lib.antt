@@ -1,3 +1,5 @@
+pub mod Ahead
+pub mod Records
 pub mod Telling
 pub mod Texts
 pub mod Traces

@@ -1,39 +1,43 @@
--- Traces that are read further, and one more step of them.
-use Rattle.std.proofs.Common.{◌≡◌, ◌≢◌, ◌++◌, ℕ, List, [], ◌∷◌, Some, map, length, drop}
-use Rattle.std.proofs.Common.{refl, sym, ap, ◌∙◌, subst, ⊎_elim, append-nil}
+-- Traces that are read further, and one more item of them.
+use Rattle.std.proofs.Common.{◌≡◌, ◌≢◌, ◌<◌, ◌≤◌, ◌++◌, ℕ, List, [], ◌∷◌, Some, map, length, drop}
+use Rattle.std.proofs.Common.{refl, sym, ap, arith, ◌∙◌, subst, ⊎_elim, append-nil}
 use Rattle.std.specs.Prelude.{slice_get, slice_set}
 use Rattle.std.specs.List.{flat_map}
 use Rattle.std.proofs.lemmas.Grind.{flat_map-append}
-use Rattle.std.proofs.lemmas.List.{append_assoc, length-map, length-set, map-append}
-use Rattle.std.proofs.lemmas.Option.{same_Some}
+use Rattle.std.proofs.lemmas.List.{append_assoc, length-map, length-set}
+use Rattle.std.proofs.lemmas.Option.{same_Some, slice_get_within}
 use Rattle.kx_audit.specs.Joined.{Passed, at_node}
 use Rattle.kx_audit.specs.Making.{NodeMaking, named}
-use Rattle.kx_audit.proofs.Places.{from_map, get_more, to_map}
+use Rattle.kx_audit.proofs.Places.{from_map, to_map}
 use Rattle.kx_follow.specs.Following.{Followed, Following, HasMade, makings_of, name_of}
+use Rattle.kx_follow.specs.Pending.{MustWait}
 use Rattle.kx_follow.proofs.History.{at_push_other, at_push_own}
-use Rattle.kx_follow.proofs.Lists.{get_set, map_set}
+use Rattle.kx_follow.proofs.Lists.{get_set, map_set, set_same}
 use Rattle.kx_machine.specs.Meaning.{NodeState}
 use Rattle.kx_machine.specs.declared.input.Input.{Input}
 use Rattle.kx_message.specs.declared.message.NodeId.{NodeId}
 use Rattle.kx_trace.specs.Layout.{head_text}
 use Rattle.kx_trace.specs.declared.node.TracedNode.{TracedNode}
 use Rattle.kx_trace.specs.declared.node.TracedNode.TheVariants as traced
-use Rattle.kx_trace_audit.specs.Auditing.{AreBegun, Auditing, HasAudited, TellsOfIts, fed}
+use Rattle.kx_trace_audit.specs.Auditing.{Auditing, HasAudited, HasGone, MakesNext, OfTrace}
+use Rattle.kx_trace_audit.specs.Auditing.{PassesOver, TellsOfIts, WaitsAt, fed}
+use Rattle.kx_trace_audit.specs.Items.{BeginsTold}
+use Rattle.kx_trace_audit.specs.Readings.{Reading, advanced, begun, ending_of, fed_on}
 use Rattle.kx_trace_audit.specs.Servers as servers
-use Rattle.kx_trace_audit.specs.Stepping.{HasRead, HasStepped, HasTold, MakesTold, Stays, used_by}
-use Rattle.kx_trace_audit.specs.Told.{Answered, IsStepOf, NoneTold, NotTaken, OneMore}
-use Rattle.kx_trace_audit.specs.Told.{Reopened, TellsOf, Told, Unanswered, Untaken, told_text}
-use Rattle.kx_trace_audit.specs.declared.reading.Reading.{Reading}
-use Rattle.kx_trace_audit.specs.declared.step.Stepped.{Stepped}
-use Rattle.kx_trace_audit.specs.declared.step.Stepped.TheVariants as stepped
+use Rattle.kx_trace_audit.specs.Stepping.{HasStepped, MakesTold, Reads}
+use Rattle.kx_trace_audit.specs.Told.{IsStepOf, NoneTold, NotTaken, OneMore, TellsOf, Told, Untaken}
+use Rattle.kx_trace_audit.specs.Told.{input_in, told_text}
+use Rattle.kx_trace_audit.specs.declared.progress.Progress.{Progress}
+use Rattle.kx_trace_audit.specs.declared.progress.Progress.TheVariants as progress
+use Rattle.kx_trace_audit.specs.declared.servers.TraceOf.{TraceOf}
 use Rattle.kx_trace_audit.proofs.Texts.{IsFed, get_fed, length_fed}
 
-makings_are : (traces : List Reading)
-    → map servers.making_of (map (λ (r : Reading). r.node) traces)
-    ≡ map (λ (r : Reading). servers.making_of r.node) traces
+makings_are : (of : List TraceOf)
+    → map (λ (r : Reading). servers.making_of r.node) (map begun of)
+    ≡ map (λ (t : TraceOf). servers.making_of t.node) of
 makings_are [] = refl
-makings_are (r ∷ traces) =
-    ap (λ (l : List NodeMaking). servers.making_of r.node ∷ l) (makings_are traces)
+makings_are (t ∷ of) =
+    ap (λ (l : List NodeMaking). servers.making_of t.node ∷ l) (makings_are of)
 
 named_so : (n : TracedNode) → named (servers.making_of n) ≡ servers.name_of n
 named_so traced.Coordinator = refl
@@ -105,54 +109,48 @@ module _ {B M : Type 0} (making : B → NodeMaking) (stands : NodeState → M �
   Has texts history a = HasAudited making stands texts history a
 
   -- nothing was read but the heads
-  pub begins : (nodes : List TracedNode) (f : Following B M) (traces : List Reading) (made : List B)
+  pub begins : (of : List TraceOf) (f : Following B M) (made : List B)
       → HasMade making stands [] f → makings_of f.nodes ≡ made
-      → map making made ≡ map servers.making_of nodes → AreBegun nodes traces
-      → Has (map head_text nodes) [] (record { following = f; traces = traces })
-  begins nodes f traces made has made_are makings begun = record {
+      → map making made ≡ map (λ (t : TraceOf). servers.making_of t.node) of
+      → Has (map (λ (t : TraceOf). head_text t.node) of) []
+      (record { following = f; traces = map begun of })
+  begins of f made has made_are makings = record {
     made = has;
-    nodes_are = ap (λ (l : List B). map making l) made_are ∙ makings
-        ∙ ap (λ (l : List TracedNode). map servers.making_of l) (sym begun.nodes_are)
-        ∙ makings_are traces;
-    count = length-map nodes head_text
-        ∙ sym (ap (λ (l : List TracedNode). length l) begun.nodes_are)
-        ∙ length-map traces (λ (r : Reading). r.node);
+    nodes_are = ap (λ (l : List B). map making l) made_are ∙ makings ∙ sym (makings_are of);
+    count = length-map of (λ (t : TraceOf). head_text t.node) ∙ sym (length-map of begun);
     tells = λ k text r text_at at.
-        let is = from_map head_text nodes k text text_at in
-        let same : is.0 ≡ r.node = same_Some is.0 r.node (sym is.1
-        ∙ ap (λ (l : List TracedNode). slice_get l k) (sym begun.nodes_are)
-        ∙ to_map (λ (x : Reading). x.node) traces k r at) in
-        subst (λ (t : List ℕ). TellsOf r.node t r.unread.items [])
-        (sym (ap head_text same) ∙ is.2)
-        (tells_nothing r.node r.unread.items (begun.unread k r at));
+        let head = from_map (λ (t : TraceOf). head_text t.node) of k text text_at in
+        let read = from_map begun of k r at in
+        let same : head.0 ≡ read.0 = same_Some head.0 read.0 (sym head.1 ∙ read.1) in
+        subst (λ (x : Reading). TellsOf x.node text x.unread (at_node (servers.name_of x.node) []))
+        read.2
+        (subst (λ (t : List ℕ). TellsOf read.0.node t [] [])
+        (ap (λ (t : TraceOf). head_text t.node) (sym same) ∙ head.2)
+        (tells_nothing read.0.node [] refl));
   }
 
   module _ (texts : List (List ℕ)) (history : List Passed) (old : Auditing B M) (k : ℕ) (r : Reading)
       (has : Has texts history old) (at : slice_get old.traces k ≡ Some r) where
     -- a trace is read further
-    pub feeds : (bytes : List ℕ) (next : Reading) → next.node ≡ r.node
-        → next.unread.items ≡ r.unread.items ++ bytes
-        → Has (fed texts k bytes) history
-        (record { following = old.following; traces = slice_set old.traces k next })
-    feeds bytes next node_is unread_is = record {
+    pub feeds : (bytes : List ℕ) → Has (fed texts k bytes) history
+        (record { following = old.following; traces = slice_set old.traces k (fed_on bytes r) })
+    feeds bytes = record {
       made = has.made;
       nodes_are = has.nodes_are
-          ∙ sym (map_set (λ (x : Reading). servers.making_of x.node) old.traces k r next at
-          (ap servers.making_of node_is));
+          ∙ sym (map_set (λ (x : Reading). servers.making_of x.node) old.traces k r
+          (fed_on bytes r) at refl);
       count = length_fed texts k bytes ∙ has.count
-          ∙ sym (length-set old.traces k next);
+          ∙ sym (length-set old.traces k (fed_on bytes r));
       tells = λ j text q text_at qat.
           ⊎_elim
-          (λ (a : (j ≡ k) × (next ≡ q)).
+          (λ (a : (j ≡ k) × (fed_on bytes r ≡ q)).
           ⊎_elim
           (λ (b : (j ≡ k) × IsFed texts j bytes text).
           let here = ap (λ i. slice_get old.traces i) a.0 ∙ at in
           let tells = has.tells j b.1.before r b.1.there here in
           subst (λ (x : Reading). TellsOfIts history text x) a.1
-          (subst (λ (n : TracedNode). TellsOf n text next.unread.items
-          (at_node (servers.name_of n) history)) (sym node_is)
-          (tells_on r.node b.1.before r.unread.items bytes text next.unread.items
-          (at_node (servers.name_of r.node) history) tells b.1.text_is unread_is)))
+          (tells_on r.node b.1.before r.unread bytes text (r.unread ++ bytes)
+          (at_node (servers.name_of r.node) history) tells b.1.text_is refl))
           (λ (b : (j ≢ k) × (slice_get texts j ≡ Some text)). absurd (b.0 a.0))
           (get_fed texts k bytes j text text_at))
           (λ (a : (j ≢ k) × (slice_get old.traces j ≡ Some q)).
@@ -160,11 +158,34 @@ module _ {B M : Type 0} (making : B → NodeMaking) (stands : NodeState → M �
           (λ (b : (j ≡ k) × IsFed texts j bytes text). absurd (a.0 b.0))
           (λ (b : (j ≢ k) × (slice_get texts j ≡ Some text)). has.tells j text q b.1 a.1)
           (get_fed texts k bytes j text text_at))
-          (get_set old.traces k next j q qat);
+          (get_set old.traces k (fed_on bytes r) j q qat);
     }
 
-    module _ (f : Following B M) (used : ℕ) (next : Reading) (node_is : next.node ≡ r.node)
-        (unread_is : next.unread.items ≡ drop used r.unread.items) where
+    -- the node that is followed has the name of its trace's node
+    pub record IsFollowed (j : ℕ) (q : Reading) : Type 0 where
+      pub node : Followed B M
+      pub there : slice_get old.following.nodes j ≡ Some node
+      pub name_is : name_of making node ≡ servers.name_of q.node
+
+    pub followed : (j : ℕ) (q : Reading) → slice_get old.traces j ≡ Some q → IsFollowed j q
+    followed j q qat =
+        let made_at = from_map making (makings_of old.following.nodes) j
+        (servers.making_of q.node)
+        (ap (λ (l : List NodeMaking). slice_get l j) has.nodes_are
+        ∙ to_map (λ (x : Reading). servers.making_of x.node) old.traces j q qat) in
+        let node_at = from_map (λ (n : Followed B M). n.made) old.following.nodes j made_at.0
+        made_at.1 in
+        record {
+          node = node_at.0;
+          there = node_at.1;
+          name_is = ap (λ (b : B). named (making b)) node_at.2 ∙ ap named made_at.2
+              ∙ named_so q.node;
+        }
+
+    module _ (f : Following B M) (used : ℕ) where
+      abbrev next : Reading
+      next = advanced used r
+
       abbrev new : Auditing B M
       new = record { following = f; traces = slice_set old.traces k next }
 
@@ -172,15 +193,14 @@ module _ {B M : Type 0} (making : B → NodeMaking) (stands : NodeState → M �
           → map making (makings_of f.nodes) ≡ map (λ (x : Reading). servers.making_of x.node)
           (slice_set old.traces k next)
       nodes_then e = ap (λ (l : List B). map making l) e ∙ has.nodes_are
-          ∙ sym (map_set (λ (x : Reading). servers.making_of x.node) old.traces k r next at
-          (ap servers.making_of node_is))
+          ∙ sym (map_set (λ (x : Reading). servers.making_of x.node) old.traces k r next at refl)
 
       -- of the trace that went on this is told, and the others are as before
       has_then : (more : List Passed) → HasMade making stands (history ++ more) f
           → makings_of f.nodes ≡ makings_of old.following.nodes
           → ((text : List ℕ) → slice_get texts k ≡ Some text → TellsOf r.node text
-          r.unread.items (at_node (servers.name_of r.node) history)
-          → TellsOf r.node text (drop used r.unread.items)
+          r.unread (at_node (servers.name_of r.node) history)
+          → TellsOf r.node text (drop used r.unread)
           (at_node (servers.name_of r.node) (history ++ more)))
           → ((j : ℕ) (q : Reading) → j ≢ k → slice_get old.traces j ≡ Some q
           → at_node (servers.name_of q.node) (history ++ more)
@@ -195,44 +215,18 @@ module _ {B M : Type 0} (making : B → NodeMaking) (stands : NodeState → M �
             (λ (a : (j ≡ k) × (next ≡ q)).
             let there = ap (λ i. slice_get texts i) (sym a.0) ∙ text_at in
             let now = own text there (has.tells k text r there at) in
-            subst (λ (x : Reading). TellsOfIts (history ++ more) text x) a.1
-            (subst (λ (n : TracedNode). TellsOf n text next.unread.items
-            (at_node (servers.name_of n) (history ++ more))) (sym node_is)
-            (subst (λ (l : List ℕ). TellsOf r.node text l
-            (at_node (servers.name_of r.node) (history ++ more))) (sym unread_is) now)))
+            subst (λ (x : Reading). TellsOfIts (history ++ more) text x) a.1 now)
             (λ (a : (j ≢ k) × (slice_get old.traces j ≡ Some q)).
-            subst (TellsOf q.node text q.unread.items) (sym (others j q a.0 a.1))
+            subst (TellsOf q.node text q.unread) (sym (others j q a.0 a.1))
             (has.tells j text q text_at a.1))
             (get_set old.traces k next j q qat);
       }
 
-      -- the name of a trace's node is that of the node that is followed
-      record IsFollowed (j : ℕ) (q : Reading) : Type 0 where
-        node : Followed B M
-        there : slice_get old.following.nodes j ≡ Some node
-        name_is : name_of making node ≡ servers.name_of q.node
-
-      followed : (j : ℕ) (q : Reading) → slice_get old.traces j ≡ Some q → IsFollowed j q
-      followed j q qat =
-          let made_at = from_map making (makings_of old.following.nodes) j
-          (servers.making_of q.node)
-          (ap (λ (l : List NodeMaking). slice_get l j) has.nodes_are
-          ∙ to_map (λ (x : Reading). servers.making_of x.node) old.traces j q qat) in
-          let node_at = from_map (λ (n : Followed B M). n.made) old.following.nodes j made_at.0
-          made_at.1 in
-          record {
-            node = node_at.0;
-            there = node_at.1;
-            name_is = ap (λ (b : B). named (making b)) node_at.2 ∙ ap named made_at.2
-                ∙ named_so q.node;
-          }
-
       -- a step that is told was made
-      pub made_told : (told : Told)
-          → MakesTold making stands k told history old.following f
-          → r.unread.items ≡ told_text told ++ drop used r.unread.items
-          → (more : List Passed) × Has texts (history ++ more) new
-      made_told told is text_is =
+      pub made_told : (told : Told) (sent : ℕ)
+          → MakesTold making stands k told sent history old.following f
+          → BeginsTold r.unread told used → MakesNext making stands texts history k sent old new
+      made_told told sent is start =
           let p = is.passed in
           let mine = followed k r at in
           let same : mine.node ≡ is.node = same_Some mine.node is.node (sym mine.there ∙ is.there) in
@@ -241,92 +235,118 @@ module _ {B M : Type 0} (making : B → NodeMaking) (stands : NodeState → M �
           let own : at_node (servers.name_of r.node) (history ++ p ∷ [])
           ≡ at_node (servers.name_of r.node) history ++ p ∷ [] =
           subst (λ (n : NodeId). at_node n (history ++ p ∷ []) ≡ at_node n history ++ p ∷ [])
-          name_is (at_push_own history p) in (
-            p ∷ [],
-            has_then (p ∷ []) is.made is.makings
-                (λ text there tells. subst (TellsOf r.node text (drop used r.unread.items)) (sym own)
-                (tells_step r.node text r.unread.items (drop used r.unread.items)
-                (at_node (servers.name_of r.node) history) told p tells text_is is.is))
+          name_is (at_push_own history p) in
+          record {
+            told = told;
+            reads = record {
+              reading = r;
+              there = at;
+              len = used;
+              begins = start;
+              traces_are = refl;
+            };
+            passed = p;
+            is = is.is;
+            sent_is = is.sent_is;
+            audited = has_then (p ∷ []) is.made is.makings
+                (λ text there tells. subst (TellsOf r.node text (drop used r.unread)) (sym own)
+                (tells_step r.node text r.unread (drop used r.unread)
+                (at_node (servers.name_of r.node) history) told p tells start.text_is is.is))
                 (λ j q other qat.
                 let theirs = followed j q qat in
                 at_push_other (servers.name_of q.node) history p
-                (λ e. other (old_apart j theirs.node mine.node theirs.there mine.there
-                (theirs.name_is ∙ e ∙ name_is ∙ sym mine.name_is)))),
-          )
-        where
-          old_apart : (j : ℕ) (n m : Followed B M) → slice_get old.following.nodes j ≡ Some n
-              → slice_get old.following.nodes k ≡ Some m → name_of making n ≡ name_of making m
-              → j ≡ k
-          old_apart j n m nat mat e = has.made.apart j k n m nat mat e
+                (λ e. other (has.made.apart j k theirs.node mine.node theirs.there mine.there
+                (theirs.name_is ∙ e ∙ name_is ∙ sym mine.name_is))));
+          }
 
       -- an input that is told was not taken
-      pub untaken_told : (input : Input) → Stays making stands history old.following f
-          → r.unread.items ≡ told_text (Untaken input) ++ drop used r.unread.items
-          → (more : List Passed) × Has texts (history ++ more) new
-      untaken_told input is text_is =
-          let same = append-nil history in (
-            [],
-            has_then [] (subst (λ (h : List Passed). HasMade making stands h f) (sym same) is.made)
-                (ap (λ (ns : List (Followed B M)). makings_of ns) is.nodes)
+      pub untaken_told : (input : Input) → f ≡ old.following
+          → BeginsTold r.unread (Untaken input) used
+          → PassesOver making stands texts history k old new
+      untaken_told input is start =
+          let same = append-nil history in
+          record {
+            input = input;
+            reads = record {
+              reading = r;
+              there = at;
+              len = used;
+              begins = start;
+              traces_are = refl;
+            };
+            following_is = is;
+            audited = subst (λ (h : List Passed). Has texts h new) same
+                (has_then []
+                (subst (λ (g : Following B M). HasMade making stands (history ++ []) g) (sym is)
+                (subst (λ (h : List Passed). HasMade making stands h old.following) (sym same)
+                has.made))
+                (ap (λ (g : Following B M). makings_of g.nodes) is)
                 (λ text there tells.
-                subst (λ (h : List Passed). TellsOf r.node text (drop used r.unread.items)
+                subst (λ (h : List Passed). TellsOf r.node text (drop used r.unread)
                 (at_node (servers.name_of r.node) h)) (sym same)
-                (tells_untaken r.node text r.unread.items (drop used r.unread.items)
-                (at_node (servers.name_of r.node) history) input tells text_is))
-                (λ j q other qat. ap (at_node (servers.name_of q.node)) same),
-          )
+                (tells_untaken r.node text r.unread (drop used r.unread)
+                (at_node (servers.name_of r.node) history) input tells start.text_is))
+                (λ j q other qat. ap (at_node (servers.name_of q.node)) same));
+          }
 
-      pub goes_on : HasRead making stands k r.unread.items history old.following f used
-          → (more : List Passed) × Has texts (history ++ more) new
-      goes_on is = by is.told is.text_is is.has
-        where
-          by : (told : Told) → r.unread.items ≡ told_text told ++ drop used r.unread.items
-              → HasTold making stands k told history old.following f
-              → (more : List Passed) × Has texts (history ++ more) new
-          by (Answered input mark frames) text_is made =
-              made_told (Answered input mark frames) made text_is
-          by (Untaken input) text_is stay = untaken_told input stay text_is
-          by (Unanswered input) text_is made = made_told (Unanswered input) made text_is
-          by (Reopened now log_len) text_is made = made_told (Reopened now log_len) made text_is
+    -- what became of the next item, where the node that is followed is there
+    waits_at : (f : Following B M) (used : ℕ)
+        → Reads making stands k r.unread history old.following f progress.Waits used
+        → WaitsAt making stands k old
+    waits_at f used is =
+        let mine = followed k r at in
+        record {
+          reading = r;
+          there = at;
+          told = is.told;
+          len = is.len;
+          begins = is.begins;
+          must = ⊎_elim
+              (λ (none : length old.following.nodes ≤ k).
+              let within = slice_get_within old.following.nodes k mine.node mine.there in
+              absurd (omega arith))
+              (λ (must : MustWait old.following.pending (input_in is.told)). must)
+              is.becomes.0;
+        }
 
-    stayed : (f : Following B M) (next : Reading) → next.node ≡ r.node
-        → next.unread.items ≡ r.unread.items → Stays making stands history old.following f
-        → (more : List Passed) × Has texts (history ++ more)
-        (record { following = f; traces = slice_set old.traces k next })
-    stayed f next node_is unread_is is =
-        let same = append-nil history in (
-          [],
-          has_then f 0 next node_is unread_is []
-              (subst (λ (h : List Passed). HasMade making stands h f) (sym same) is.made)
-              (ap (λ (ns : List (Followed B M)). makings_of ns) is.nodes)
-              (λ text there tells.
-              subst (λ (h : List Passed). TellsOf r.node text r.unread.items
-              (at_node (servers.name_of r.node) h)) (sym same) tells)
-              (λ j q other qat. ap (at_node (servers.name_of q.node)) same),
-        )
+    unchanged : (f : Following B M) → f ≡ old.following
+        → (record { following = f; traces = old.traces }) ≡ old
+    unchanged f is = ap (λ (g : Following B M). record { following = g; traces = old.traces }) is
 
-    -- what became of the next step
-    pub went_on : (f : Following B M) (stepped : Stepped) (next : Reading) → next.node ≡ r.node
-        → next.unread.items ≡ drop (used_by stepped) r.unread.items
-        → HasStepped making stands k r.unread.items history old.following f stepped
-        → (more : List Passed) × Has texts (history ++ more)
-        (record { following = f; traces = slice_set old.traces k next })
-    went_on f (stepped.Made used) next node_is unread_is is =
-        goes_on f used next node_is unread_is is
-    went_on f stepped.Waits next node_is unread_is is = stayed f next node_is unread_is is
-    went_on f stepped.Hungry next node_is unread_is is = stayed f next node_is unread_is is
+    -- bytes are done with
+    pub went_on : (f : Following B M) (became : Progress) (used : ℕ) → 0 < used
+        → HasStepped making stands k r.unread (ending_of r) history old.following f became used
+        → HasGone making stands texts history k old
+        (record { following = f; traces = slice_set old.traces k (advanced used r) }) became
+    went_on f (progress.Made sent) used some is =
+        made_told f used is.told sent is.becomes
+        (subst (BeginsTold r.unread is.told) (sym is.used_is) is.begins)
+    went_on f progress.NotTaken used some is =
+        untaken_told f used is.becomes.0.input is.becomes.1
+        (subst (λ (x : Told). BeginsTold r.unread x used) is.becomes.0.told_is
+        (subst (BeginsTold r.unread is.told) (sym is.used_is) is.begins))
+    went_on f progress.Waits used some is =
+        let none = is.used_is in
+        absurd (omega arith)
+    went_on f progress.NeedsMore used some is =
+        let none = is.2 in
+        absurd (omega arith)
 
------- traces that begin
-
-pub begun_none : AreBegun [] []
-begun_none = record { nodes_are = refl; unread = λ k r at. absurd cc }
-
-pub begun_more : (nodes : List TracedNode) (traces : List Reading) (r : Reading)
-    → AreBegun nodes traces → r.unread.items ≡ [] → AreBegun (nodes ++ r.node ∷ []) (traces ++ r ∷ [])
-begun_more nodes traces r begun none = record {
-  nodes_are = map-append (λ (x : Reading). x.node) traces (r ∷ [])
-      ∙ ap (λ (l : List TracedNode). l ++ r.node ∷ []) begun.nodes_are;
-  unread = λ k q at.
-      ⊎_elim (λ before. begun.unread k q before)
-      (λ same. ap (λ (x : Reading). x.unread.items) (sym same) ∙ none) (get_more traces r k q at);
-}
+    -- none are done with
+    pub stayed : (f : Following B M) (became : Progress)
+        → HasStepped making stands k r.unread (ending_of r) history old.following f became 0
+        → HasGone making stands texts history k old (record { following = f; traces = old.traces })
+        became
+    stayed f (progress.Made sent) is =
+        subst (λ (ts : List Reading). MakesNext making stands texts history k sent old
+        (record { following = f; traces = ts })) (set_same old.traces k r at)
+        (made_told f 0 is.told sent is.becomes
+        (subst (BeginsTold r.unread is.told) (sym is.used_is) is.begins))
+    stayed f progress.NotTaken is =
+        subst (λ (ts : List Reading). PassesOver making stands texts history k old
+        (record { following = f; traces = ts })) (set_same old.traces k r at)
+        (untaken_told f 0 is.becomes.0.input is.becomes.1
+        (subst (λ (x : Told). BeginsTold r.unread x 0) is.becomes.0.told_is
+        (subst (BeginsTold r.unread is.told) (sym is.used_is) is.begins)))
+    stayed f progress.Waits is = (waits_at f 0 is, unchanged f is.becomes.1)
+    stayed f progress.NeedsMore is = (OfTrace r at is.0, unchanged f is.1)

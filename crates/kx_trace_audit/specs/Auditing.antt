@@ -1,41 +1,50 @@
 -- Traces that are audited, and what a yes says.
-use Rattle.std.specs.Prelude.{◌≡◌, ◌++◌, ℕ, zero, suc, List, [], ◌∷◌, length, map, slice_get, Some}
+use Rattle.std.specs.Prelude.{◌≡◌, ◌<◌, ◌≤◌, ◌++◌, ℕ, zero, suc, List, [], ◌∷◌, length, map}
+use Rattle.std.specs.Prelude.{slice_get, slice_set, Some}
 use Rattle.kx_audit.specs.Joined.{Passed, at_node}
 use Rattle.kx_audit.specs.Making.{NodeMaking}
 use Rattle.kx_follow.specs.Following.{Following, HasMade, makings_of}
+use Rattle.kx_follow.specs.Pending.{MustWait}
 use Rattle.kx_follow.specs.Whole.{IsWholeRun}
 use Rattle.kx_machine.specs.Meaning.{NodeState}
+use Rattle.kx_machine.specs.declared.input.Input.{Input}
 use Rattle.kx_system.specs.System.{System}
 use Rattle.kx_trace.specs.Reading.{More, record_at}
-use Rattle.kx_trace.specs.declared.node.TracedNode.{TracedNode}
+use Rattle.kx_trace_audit.specs.Items.{BeginsTold}
+use Rattle.kx_trace_audit.specs.Readings.{Reading, advanced, ending_of}
 use Rattle.kx_trace_audit.specs.Servers.{making_of, name_of}
-use Rattle.kx_trace_audit.specs.Told.{TellsOf}
-use Rattle.kx_trace_audit.specs.declared.reading.Reading.{Reading}
+use Rattle.kx_trace_audit.specs.Stepping.{HasRefused, NeedsMore}
+use Rattle.kx_trace_audit.specs.Told.{IsStepOf, TellsOf, Told, Untaken, input_in}
+use Rattle.kx_trace_audit.specs.declared.progress.Progress.{Progress}
+use Rattle.kx_trace_audit.specs.declared.progress.Progress.TheVariants as progress
+use Rattle.kx_trace_audit.specs.declared.refusal.TraceRefusal.{TraceRefusal}
 
 -- the nodes that make their steps again, and the traces that are read
 pub record Auditing (B M : Type 0) : Type 0 where
   pub following : Following B M
   pub traces : List Reading
 
--- these bytes follow those of this trace
+-- these bytes follow those of this trace, which were fed before
 abbrev pub fed : List (List ℕ) → ℕ → List ℕ → List (List ℕ)
 fed [] trace bytes = []
 fed (text ∷ texts) zero bytes = (text ++ bytes) ∷ texts
 fed (text ∷ texts) (suc trace) bytes = text ∷ fed texts trace bytes
 
--- the traces of these nodes, of which nothing was read after their heads
-pub record AreBegun (nodes : List TracedNode) (traces : List Reading) : Type 0 where
-  pub nodes_are : map (λ r. r.node) traces ≡ nodes
-  pub unread : (k : ℕ) (r : Reading) → slice_get traces k ≡ Some r → r.unread.items ≡ []
-
 -- what was read of this trace tells of the node's steps in this history
 abbrev pub TellsOfIts : List Passed → List ℕ → Reading → Type 0
 TellsOfIts history text r =
-    TellsOf r.node text r.unread.items (at_node (name_of r.node) history)
+    TellsOf r.node text r.unread (at_node (name_of r.node) history)
 
 -- all of a trace was read, but for a record that was torn off
 abbrev pub IsRead : Reading → Type 0
-IsRead r = record_at r.unread.items ≡ More
+IsRead r = record_at r.unread ≡ More
+
+-- it is the first that was not read so
+pub record IsFirstLeft (traces : List Reading) (k : ℕ) : Type 0 where
+  pub reading : Reading
+  pub there : slice_get traces k ≡ Some reading
+  pub left : IsRead reading → ⊥
+  pub before : (j : ℕ) (r : Reading) → j < k → slice_get traces j ≡ Some r → IsRead r
 
 module _ {B M : Type 0} (making : B → NodeMaking) (stands : NodeState → M → Type 0) where
   -- the bytes that were fed of each trace tell of the steps that were made again
@@ -60,3 +69,64 @@ module _ {B M : Type 0} (making : B → NodeMaking) (stands : NodeState → M �
     pub audited : HasAudited texts history a
     pub read : AreRead a.traces
     pub run : IsWholeRun making stands history a.following system
+
+  ------ one more item of a trace
+
+  -- the trace of this number goes on by what is told, and the others stay
+  pub record ReadsOn (told : Told) (k : ℕ) (old new : Auditing B M) : Type 0 where
+    pub reading : Reading
+    pub there : slice_get old.traces k ≡ Some reading
+    pub len : ℕ
+    pub begins : BeginsTold reading.unread told len
+    pub traces_are : new.traces ≡ slice_set old.traces k (advanced len reading)
+
+  -- the node of this trace makes one more step, and sends this many messages
+  pub record MakesNext (texts : List (List ℕ)) (history : List Passed) (k sent : ℕ)
+      (old new : Auditing B M) : Type 0 where
+    pub told : Told
+    pub reads : ReadsOn told k old new
+    pub passed : Passed
+    pub is : IsStepOf told passed
+    pub sent_is : sent ≡ length passed.taken.messages
+    pub audited : HasAudited texts (history ++ passed ∷ []) new
+
+  -- the next input of this trace was not taken
+  pub record PassesOver (texts : List (List ℕ)) (history : List Passed) (k : ℕ)
+      (old new : Auditing B M) : Type 0 where
+    pub input : Input
+    pub reads : ReadsOn (Untaken input) k old new
+    pub following_is : new.following ≡ old.following
+    pub audited : HasAudited texts history new
+
+  -- the next step of this trace takes a message that no step sent, or that was taken as often as it
+  -- was sent
+  pub record WaitsAt (k : ℕ) (a : Auditing B M) : Type 0 where
+    pub reading : Reading
+    pub there : slice_get a.traces k ≡ Some reading
+    pub told : Told
+    pub len : ℕ
+    pub begins : BeginsTold reading.unread told len
+    pub must : MustWait a.following.pending (input_in told)
+
+  -- there is no such trace, or more of its bytes are needed
+  pub data NeedsBytes (history : List Passed) (k : ℕ) (a : Auditing B M) : Type 0 where
+    NoTrace : length a.traces ≤ k → NeedsBytes history k a
+    OfTrace : (reading : Reading) → slice_get a.traces k ≡ Some reading
+        → NeedsMore making stands k reading.unread (ending_of reading) history a.following
+        → NeedsBytes history k a
+
+  -- what became of the next item of this trace
+  abbrev pub HasGone : List (List ℕ) → List Passed → ℕ → Auditing B M → Auditing B M → Progress
+      → Type 0
+  HasGone texts history k old new (progress.Made sent) = MakesNext texts history k sent old new
+  HasGone texts history k old new progress.NotTaken = PassesOver texts history k old new
+  HasGone texts history k old new progress.Waits = WaitsAt k old × (new ≡ old)
+  HasGone texts history k old new progress.NeedsMore = NeedsBytes history k old × (new ≡ old)
+
+  -- why this trace is refused
+  pub record IsRefused (history : List Passed) (k : ℕ) (old new : Auditing B M) (why : TraceRefusal)
+      : Type 0 where
+    pub reading : Reading
+    pub there : slice_get old.traces k ≡ Some reading
+    pub refused : HasRefused making stands k reading.unread history old.following
+        new.following why

@@ -1,6 +1,10 @@
 pub mod Auditing
 pub mod Faults
+pub mod Internal
 pub mod Items
+pub mod Logs
+pub mod Lookahead
+pub mod Readings
 pub mod Servers
 pub mod Stepping
 pub mod Told

@@ -9,6 +9,7 @@ use Rattle.kx_nodes.specs.declared.mark.Mark.{Mark}
 use Rattle.kx_trace.specs.Layout.{head_text, record_text}
 use Rattle.kx_trace.specs.Records as spelled
 use Rattle.kx_trace.specs.declared.node.TracedNode.{TracedNode}
+use Rattle.kx_trace_audit.specs.Logs.{HasFound}
 
 pub data Told : Type 0 where
   -- the node took the input, its store did this, and it sent what has these frames
@@ -17,7 +18,7 @@ pub data Told : Type 0 where
   Untaken : (input : Input) → Told
   -- the process ended before the step was answered
   Unanswered : (input : Input) → Told
-  -- the node was opened again at this time, with a log of so many bytes
+  -- the node was opened again at this time, and found a log of this many bytes
   Reopened : (now log_len : ℕ) → Told
 
 abbrev pub told_text : Told → List ℕ
@@ -27,14 +28,21 @@ told_text (Untaken input) = record_text (spelled.Took input) ++ record_text spel
 told_text (Unanswered input) = record_text (spelled.Took input)
 told_text (Reopened now log_len) = record_text (spelled.Reopened now log_len)
 
+-- the input that it tells of; the end of a process is a restart
+abbrev pub input_in : Told → Input
+input_in (Answered input mark frames) = input
+input_in (Untaken input) = input
+input_in (Unanswered input) = input
+input_in (Reopened now log_len) = Restart now
+
 -- it tells of this step
 abbrev pub IsStepOf : Told → Passed → Type 0
 IsStepOf (Answered input mark frames) p =
     (p.step.input ≡ input) × (p.step.mark ≡ mark) × (flat_map frame_text p.taken.messages ≡ frames)
 IsStepOf (Untaken input) p = ⊥
 IsStepOf (Unanswered input) p = p.step.input ≡ input
--- the end of a process is a restart
-IsStepOf (Reopened now log_len) p = p.step.input ≡ Restart now
+-- the end of a process is a restart, which found that log
+IsStepOf (Reopened now log_len) p = (p.step.input ≡ Restart now) × HasFound p.after log_len
 
 -- what is told, one after the other, are these steps; an input that was not taken is none
 pub data AreSteps : List Told → List Passed → Type 0 where
@@ -44,7 +52,7 @@ pub data AreSteps : List Told → List Passed → Type 0 where
   NotTaken : (told : List Told) (steps : List Passed) (input : Input)
       → AreSteps told steps → AreSteps (told ++ Untaken input ∷ []) steps
 
--- the bytes of the node's trace tell of these steps, and others stand after what was read
+-- the bytes of the node's trace tell of these steps, and the rest follow what was read
 pub record TellsOf (node : TracedNode) (text rest : List ℕ) (steps : List Passed) : Type 0 where
   pub told : List Told
   pub text_is : text ≡ head_text node ++ flat_map told_text told ++ rest

@@ -1,31 +1,23 @@
 //! The audit of traces.
-ghost use Rattle.std.specs.Prelude.{◌≡◌, ◌≤◌, ◌++◌, ℕ, [], IfOk, IsTrue, List, OnOk, drop, length};
-ghost use Rattle.std.specs.Prelude.{map};
+ghost use Rattle.std.specs.Prelude.{◌≡◌, ◌↔◌, ◌++◌, ℕ, [], IfOk, IsTrue, List, MatchOption, MatchResult};
+ghost use Rattle.std.specs.Prelude.{None, OnErr, OnOk, Some, map, slice_get, slice_set};
 ghost use Rattle.kx_audit.specs.Joined.{Passed};
+ghost use Rattle.kx_follow.specs.Following.{Followed};
 ghost use Rattle.kx_trace.specs.Layout.{head_text};
-ghost use Rattle.kx_trace_audit.specs.Auditing.{AreBegun, HasAudited, IsRead, IsYes, fed};
+ghost use Rattle.kx_trace_audit.specs.Auditing.{HasAudited, HasGone, IsFirstLeft, IsRead, IsRefused};
+ghost use Rattle.kx_trace_audit.specs.Auditing.{IsYes, fed};
+ghost use Rattle.kx_trace_audit.specs.Readings.{begun, fed_on};
 ghost use Rattle.kx_trace_audit.specs.Servers.{making_of};
-ghost use Rattle.kx_trace_audit.specs.Stepping.{used_by};
 
+use crate::progress::Progress;
 use crate::reading::Reading;
 use crate::refusal::TraceRefusal;
-use crate::servers::Server;
-use crate::step::{Stepped, go_on};
+use crate::servers::{Server, TraceOf};
+use crate::step::go_on;
 use kx_follow::{FollowFault, Follower};
-use kx_trace::{TracedNode, read_record};
+use kx_trace::read_record;
 use std::alloc::{AllocError, Global};
 use std::marker::Model;
-
-/// How far a trace has come.
-#[derive(Clone, Copy, Debug, PartialEq, Eq)]
-pub enum Progress {
-    /// One more step was made again.
-    Made,
-    /// The next step takes a message that no step sent so far.
-    Waits,
-    /// More bytes of the trace are needed, or it is read to its end.
-    Hungry,
-}
 
 /// The traces of a server's nodes, as far as they were read, and the nodes, which make their steps
 /// again.
@@ -44,158 +36,146 @@ impl<B: Server> Model for TraceAudit<B> {
     ghost view = { λ a. record { following = a.follower; traces = a.traces.items } };
 }
 
-// Takes the first bytes out, so that what stands after them is left.
-fn drop_front(bytes: &mut Vec<u8>, used: usize)
-    requires { used ≤ length bytes.old.items }
-    ensures { bytes.new.items ≡ drop used bytes.old.items }
-{
-    let left = bytes.len() - used;
-    bytes.copy_within(used.., 0);
-    bytes.truncate(left);
-}
-
-// More bytes of a trace; none where it has no more.
-fn read_on(reading: &mut Reading, bytes: &[u8]) -> Result<(), AllocError>
-    ensures node { reading.new.node ≡ reading.old.node }
-    ensures unread { OnOk result
-        (reading.new.unread.items ≡ reading.old.unread.items ++ bytes.now) }
-{
-    reading.unread.extend_from_slice(bytes)?;
-    if bytes.is_empty() {
-        reading.is_end = true;
-    }
-    Ok(())
-}
-
-// Leaves the bytes after a step, if it was made.
-fn leave(reading: &mut Reading, stepped: Stepped) -> Progress
-    requires { used_by stepped ≤ length reading.old.unread.items }
-    ensures node { reading.new.node ≡ reading.old.node }
-    ensures unread { reading.new.unread.items
-        ≡ drop (used_by stepped) reading.old.unread.items }
-{
-    match stepped {
-        Stepped::Made(used) => {
-            drop_front(&mut reading.unread, used);
-            Progress::Made
-        }
-        Stepped::Waits => Progress::Waits,
-        Stepped::Hungry => Progress::Hungry,
-    }
-}
-
-// The traces of these nodes, of which nothing was read after their heads.
-fn readings(alloc: Global, nodes: &[TracedNode]) -> Result<Vec<Reading>, AllocError>
-    ensures { IfOk result (λ traces. AreBegun nodes.now traces.items) }
+// Traces of which nothing was read after their heads.
+fn readings(alloc: Global, of: &[TraceOf]) -> Result<Vec<Reading>, AllocError>
+    ensures { IfOk result (λ traces. traces.items ≡ map begun of.now) }
 {
     let mut traces = Vec::new(alloc);
-    for node in nodes {
-        traces.push(Reading {
-            node: *node,
-            unread: Vec::new(alloc),
-            is_end: false,
-        })?;
+    for one in of {
+        traces.push(Reading::new(alloc, *one))?;
     }
     Ok(traces)
 }
 
 // How these nodes are made.
-fn makings<B: Server>(alloc: Global, nodes: &[TracedNode]) -> Result<Vec<B>, AllocError>
-    ensures { IfOk result (λ made. map B.making made.items ≡ map making_of nodes.now) }
+fn makings<B: Server>(alloc: Global, of: &[TraceOf]) -> Result<Vec<B>, AllocError>
+    ensures { IfOk result (λ made. map B.making made.items ≡ map (λ t. making_of t.node) of.now) }
 {
     let mut made = Vec::new(alloc);
-    for node in nodes {
-        made.push(B::of(*node))?;
+    for one in of {
+        made.push(B::of(one.node))?;
     }
     Ok(made)
 }
 
 impl<B: Server> TraceAudit<B> {
-    /// The audit of traces whose heads name these nodes, and of which nothing more was read.
+    /// The audit of traces of which nothing was read after their heads.
     ///
     /// # Errors
     ///
-    /// `Twins` where two traces are of one node; `Memory` where memory runs out.
-    pub fn new(alloc: Global, nodes: &[TracedNode]) -> Result<TraceAudit<B>, TraceRefusal>
+    /// `DuplicateNode` where two traces are of one node; `Memory` where memory runs out.
+    pub fn new(alloc: Global, traces: &[TraceOf]) -> Result<TraceAudit<B>, TraceRefusal>
         ensures { IfOk result
-            (HasAudited B.making B.Machine.stands (map head_text nodes.now) []) }
+            (HasAudited B.making B.Machine.stands (map (λ t. head_text t.node) traces.now) []) }
     {
-        let made = makings::<B>(alloc, nodes)?;
-        let traces = readings(alloc, nodes)?;
+        let made = makings::<B>(alloc, traces)?;
+        let traces = readings(alloc, traces)?;
         match Follower::new(alloc, made) {
             Ok(follower) => Ok(TraceAudit {
                 alloc,
                 follower,
                 traces,
             }),
-            Err(FollowFault::Twins) => Err(TraceRefusal::Twins),
+            Err(FollowFault::DuplicateNode) => Err(TraceRefusal::DuplicateNode),
             Err(FollowFault::Memory) => Err(TraceRefusal::Memory),
         }
     }
 
-    /// The next bytes of the trace of this number, counted from 0 as the nodes were given; none
-    /// where it has no more. Where there is no such trace, nothing is done.
+    /// The next bytes of the trace of this number, counted from 0 in the order in which the traces
+    /// were given; no bytes where it has no more. Where there is no such trace, nothing is done.
     ///
     /// # Errors
     ///
     /// Only where memory runs out; then nothing was fed.
     pub fn feed(&mut self, trace: usize, bytes: &[u8]) -> Result<(), AllocError>
-        ensures { (texts : List (List ℕ)) (history : List Passed)
+        ensures ok { OnOk result (MatchOption (slice_get self.old.traces trace)
+            (self.new ≡ self.old)
+            (λ r. self.new ≡ record self.old {
+              traces = slice_set self.old.traces trace (fed_on bytes.now r);
+            })) }
+        ensures audited { (texts : List (List ℕ)) (history : List Passed)
             → HasAudited B.making B.Machine.stands texts history self.old → OnOk result
             (HasAudited B.making B.Machine.stands (fed texts trace bytes.now) history self.new) }
+        ensures err { OnErr result (self.new ≡ self.old) }
     {
         if trace >= self.traces.len() {
             return Ok(());
         }
-        read_on(&mut self.traces[trace], bytes)?;
+        self.traces[trace].feed(bytes)?;
         Ok(())
     }
 
-    /// Makes the next step of the trace of this number again, if it can be made now. `whole` says
-    /// whether the entry of an append stood that failed in it, or that was never answered.
+    /// Goes on by the next item of the trace of this number, if that can be done now: makes its step
+    /// again, or passes over an input that was not taken. Where the step leaves open whether an
+    /// entry stood, what follows it in the trace tells, and so must be fed before.
     ///
     /// # Errors
     ///
-    /// `Store` and `Answer` where the step comes to something else than the trace tells, `Bytes`
-    /// where no trace goes on so, `Memory` where memory runs out. Then the traces can't be audited
-    /// any further.
-    pub fn go(&mut self, trace: usize, whole: bool) -> Result<Progress, TraceRefusal>
+    /// `Store` and `Answer` where the step comes to something else than the trace tells, `Found`
+    /// where a restart finds another log, `Bytes` where no trace goes on with these bytes, `Memory`
+    /// where memory runs out. Then the traces can't be audited any further.
+    pub fn go(&mut self, trace: usize) -> Result<Progress, TraceRefusal>
         ensures { (texts : List (List ℕ)) (history : List Passed)
-            → HasAudited B.making B.Machine.stands texts history self.old → OnOk result
-            ((more : List Passed)
-            × HasAudited B.making B.Machine.stands texts (history ++ more) self.new) }
+            → HasAudited B.making B.Machine.stands texts history self.old → MatchResult result
+            (HasGone B.making B.Machine.stands texts history trace self.old self.new)
+            (IsRefused B.making B.Machine.stands history trace self.old self.new) }
     {
         if trace >= self.traces.len() {
-            return Ok(Progress::Hungry);
+            return Ok(Progress::NeedsMore);
         }
-        let reading = &mut self.traces[trace];
-        let unread = reading.unread.as_slice();
-        let end = reading.is_end;
-        let stepped = go_on(self.alloc, &mut self.follower, trace, unread, end, whole)?;
-        Ok(leave(reading, stepped))
+        let reading = &self.traces[trace];
+        let (unread, ending) = (reading.unread(), reading.ending());
+        let stepped = go_on(self.alloc, &mut self.follower, trace, unread, ending)?;
+        if stepped.used == 0 {
+            return Ok(stepped.progress);
+        }
+        self.traces[trace].advance(stepped.used);
+        Ok(stepped.progress)
+    }
+
+    /// The machines of the nodes, in the order of their traces, taken out.
+    ///
+    /// # Errors
+    ///
+    /// Only where memory runs out.
+    pub fn into_machines(self) -> Result<Vec<B::Machine>, AllocError>
+        ensures { IfOk result (λ machines.
+            machines.items ≡ map (λ n. n.machine) self.following.nodes) }
+    {
+        self.follower.into_machines()
+    }
+
+    /// The machine of the node of this trace, borrowed; None where there is no such trace.
+    pub fn machine(&self, trace: usize) -> Option<&B::Machine>
+        ensures { MatchOption result (slice_get self.now.following.nodes trace ≡ None)
+            (λ machine. (n : Followed B B.Machine)
+            × (slice_get self.now.following.nodes trace ≡ Some n) × (machine.now ≡ n.machine)) }
+    {
+        self.follower.machine(trace)
     }
 
     // Whether all of a trace was read, but for a record that was torn off.
     fn is_read(&self, reading: &Reading) -> bool
-        ensures { IsTrue result → IsRead reading.now }
+        ensures { IsTrue result ↔ IsRead reading.now }
     {
-        matches!(read_record(self.alloc, reading.unread.as_slice()), Ok(None))
+        matches!(read_record(self.alloc, reading.unread()), Ok(None))
     }
 
-    /// Whether all of each trace was read, but for records that were torn off. Then the audit says
-    /// yes: what the bytes of the traces tell is an open schedule, which keeps the promises that
-    /// need no trust in clients, and leads to the nodes for which the machines stand.
-    pub fn is_yes(&self) -> bool
+    /// The first trace of which a record is left that was not made again, by its number. None is the
+    /// audit's yes: all of each trace was made again, but for records that were torn off, and so what
+    /// the bytes of the traces tell is an open schedule, which keeps the promises that need no trust
+    /// in clients, and leads to the nodes for which the machines stand.
+    pub fn left_over(&self) -> Option<usize>
         ensures { (texts : List (List ℕ)) (history : List Passed)
-            → HasAudited B.making B.Machine.stands texts history self.now → IsTrue result
-            → IsYes B.making B.Machine.stands texts self.now }
+            → HasAudited B.making B.Machine.stands texts history self.now → MatchOption result
+            (IsYes B.making B.Machine.stands texts self.now) (IsFirstLeft self.now.traces) }
     {
         self.follower.steps_are_an_open_schedule();
-        for reading in &self.traces {
-            if !self.is_read(reading) {
-                return false;
+        for trace in 0..self.traces.len() {
+            if !self.is_read(&self.traces[trace]) {
+                return Some(trace);
             }
         }
-        true
+        None
     }
 }

@@ -1,9 +1,14 @@
 //! What stands at the front of what is left of a trace.
-ghost use Rattle.std.specs.Prelude.{IfOk, IfSome};
+ghost use Rattle.std.specs.Prelude.{◌≡◌, ◌≤◌, ℕ, IfErr, IfOk, List, MatchOption, MatchResult};
+ghost use Rattle.std.specs.Prelude.{length};
+ghost use Rattle.kx_trace.specs.Reading as reading;
+ghost use Rattle.kx_trace.specs.Reading.{More};
 ghost use Rattle.kx_trace.specs.Records.{Took, record_of};
-ghost use Rattle.kx_trace_audit.specs.Items.{Begins, IsAfter, IsItem};
+ghost use Rattle.kx_trace_audit.specs.Items.{AfterRefused, Begins, IsAfter, IsItem, ItemRefused};
+ghost use Rattle.kx_trace_audit.specs.Items.{NeedsItem, RecordRefused, refusal_of};
 ghost use Rattle.kx_varint.specs.Text.{IsBytes};
 
+use crate::ending::Ending;
 use crate::refusal::TraceRefusal;
 use kx_machine::Input;
 use kx_nodes::Mark;
@@ -43,16 +48,27 @@ fn bytes_fit(bytes: &[u8])
 {}
 
 // Why bytes can't be read.
-fn refusal_of(fault: TraceFault) -> TraceRefusal {
+fn refusal_of(fault: TraceFault) -> TraceRefusal
+    ensures { result ≡ refusal_of fault }
+{
     match fault {
         TraceFault::Memory => TraceRefusal::Memory,
         _ => TraceRefusal::Bytes,
     }
 }
 
-// The record at the front, and how many bytes it takes; None where it isn't whole.
-fn record_at(alloc: Global, bytes: &[u8]) -> Result<Option<(Record<'_>, usize)>, TraceRefusal>
-    ensures { IfOk result (λ o. IfSome o (λ x. Begins bytes.now (record_of x.0) x.1)) }
+/// The record at the front, and how many bytes it takes; None where it isn't whole.
+///
+/// # Errors
+///
+/// `Bytes` where no trace goes on with these bytes; `Memory` where memory runs out.
+pub(crate) fn record_at(
+    alloc: Global,
+    bytes: &[u8],
+) -> Result<Option<(Record<'_>, usize)>, TraceRefusal>
+    ensures read { IfOk result (λ o. MatchOption o (reading.record_at bytes.now ≡ More)
+        (λ x. Begins bytes.now (record_of x.0) x.1)) }
+    ensures refused { IfErr result (RecordRefused bytes.now) }
 {
     bytes_fit(bytes);
     records_are_read();
@@ -65,13 +81,13 @@ fn record_at(alloc: Global, bytes: &[u8]) -> Result<Option<(Record<'_>, usize)>,
 // What stands after an input.
 #[derive(Drop)]
 enum After<'a> {
-    // the step's answer, which takes so many bytes
+    // the step's answer, in a record of `len` bytes
     Answer {
         mark: Mark,
         frames: &'a [u8],
         len: usize,
     },
-    // the input was not taken, which takes so many bytes to say
+    // that the input was not taken, in a record of this length
     Untaken(usize),
     // the process ended
     End,
@@ -79,12 +95,23 @@ enum After<'a> {
     Unknown,
 }
 
+// What follows an input, where no whole record does.
+fn after_end<'a>(ending: Ending) -> After<'a>
+    ensures { (bytes : List ℕ) → reading.record_at bytes ≡ More → IsAfter bytes ending result }
+{
+    match ending {
+        Ending::Unknown => After::Unknown,
+        Ending::At { .. } => After::End,
+    }
+}
+
 // What stands at the front of these bytes, after an input.
-fn after_at(alloc: Global, bytes: &[u8], is_end: bool) -> Result<After<'_>, TraceRefusal>
-    ensures { IfOk result (IsAfter bytes.now) }
+fn after_at(alloc: Global, bytes: &[u8], ending: Ending) -> Result<After<'_>, TraceRefusal>
+    ensures after { IfOk result (IsAfter bytes.now ending) }
+    ensures refused { IfErr result (AfterRefused bytes.now) }
 {
     let Some((record, len)) = record_at(alloc, bytes)? else {
-        return Ok(if is_end { After::End } else { After::Unknown });
+        return Ok(after_end(ending));
     };
     match record {
         Record::Answered { mark, frames } => Ok(After::Answer { mark, frames, len }),
@@ -94,64 +121,68 @@ fn after_at(alloc: Global, bytes: &[u8], is_end: bool) -> Result<After<'_>, Trac
     }
 }
 
-// What is told of an input, whose record takes so many bytes.
+// What is told of an input, whose record takes `len` bytes.
 fn told_of_input(
     alloc: Global,
     input: Input,
     bytes: &[u8],
     len: usize,
-    is_end: bool,
+    ending: Ending,
 ) -> Result<Option<Item<'_>>, TraceRefusal>
-    requires { Begins bytes.now (Took input) len }
-    ensures { IfOk result (λ o. IfSome o (IsItem bytes.now)) }
+    requires { len ≤ length bytes.now }
+    ensures { Begins bytes.now (Took input) len → MatchResult result
+        (λ o. MatchOption o (NeedsItem bytes.now ending) (IsItem bytes.now))
+        (ItemRefused bytes.now) }
 {
-    let item = match after_at(alloc, &bytes[len..], is_end)? {
+    match after_at(alloc, &bytes[len..], ending)? {
         After::Answer {
             mark,
             frames,
             len: more,
-        } => Item {
+        } => Ok(Some(Item {
             told: Telling::Answered {
                 input,
                 mark,
                 frames,
             },
             used: len + more,
-        },
-        After::Untaken(more) => Item {
+        })),
+        After::Untaken(more) => Ok(Some(Item {
             told: Telling::Untaken(input),
             used: len + more,
-        },
-        After::End => Item {
+        })),
+        After::End => Ok(Some(Item {
             told: Telling::Unanswered(input),
             used: len,
-        },
-        After::Unknown => return Ok(None),
-    };
-    Ok(Some(item))
+        })),
+        After::Unknown => Ok(None),
+    }
 }
 
 /// What a trace tells next; None where more of its bytes are needed, if there are more.
 ///
 /// # Errors
 ///
-/// `Bytes` where no trace goes on so; `Memory` where memory runs out.
+/// `Bytes` where no trace goes on with these bytes; `Memory` where memory runs out.
 pub(crate) fn item_at(
     alloc: Global,
     bytes: &[u8],
-    is_end: bool,
+    ending: Ending,
 ) -> Result<Option<Item<'_>>, TraceRefusal>
-    ensures { IfOk result (λ o. IfSome o (IsItem bytes.now)) }
+    ensures { MatchResult result
+        (λ o. MatchOption o (NeedsItem bytes.now ending) (IsItem bytes.now))
+        (ItemRefused bytes.now) }
 {
     let Some((record, len)) = record_at(alloc, bytes)? else {
         return Ok(None);
     };
     match record {
-        Record::Took(input) => told_of_input(alloc, input, bytes, len, is_end),
+        Record::Took(input) => told_of_input(alloc, input, bytes, len, ending),
         Record::Reopened { now, log_len } => {
             let told = Telling::Reopened { now, log_len };
             Ok(Some(Item { told, used: len }))
         }
-        _ => Err(TraceRefusal::Bytes),
+        Record::Answered { .. } => Err(TraceRefusal::Bytes),
+        Record::Untaken => Err(TraceRefusal::Bytes),
     }
 }

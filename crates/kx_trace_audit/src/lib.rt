@@ -4,18 +4,26 @@
 //! the promises that need no trust in clients. What is kept is the nodes, what was sent and not
 //! taken yet, and what was read and not made again yet: so traces may be of any length.
 //!
-//! In `proofs/`: `Telling` (a step that was made again is the one of which is told), `Texts` (bytes
-//! that are fed), `Traces` (a trace is read further, and tells of one more step).
+//! A failed append leaves nothing or its whole entry, and so does one that was never answered: which
+//! of them, the trace tells later, and the audit looks ahead for it (`lookahead`). A wrong guess
+//! would be no danger: each restart is compared with the log that the node found.
+//!
+//! In `proofs/`: `Records` (what stands at the front of a trace's bytes), `Ahead` (what follows a
+//! step), `Telling` (what became of a step that is told), `Texts` (bytes that are fed), `Traces` (a
+//! trace is read further, and tells of one more item).
 #![tactic(auto)]
 
 mod audit;
+mod ending;
 mod item;
+mod lookahead;
+mod progress;
 mod reading;
 mod refusal;
 mod servers;
 mod step;
 
-pub use audit::{Progress, TraceAudit};
-pub use reading::Reading;
+pub use audit::TraceAudit;
+pub use progress::Progress;
 pub use refusal::TraceRefusal;
-pub use servers::Server;
+pub use servers::{Server, TraceOf};

@@ -2,12 +2,33 @@
 use kx_audit::Remade;
 use kx_trace::TracedNode;
 
+/// The node that a trace is of, and what is known of the node's log.
+#[derive(Clone, Copy, Debug, PartialEq, Eq)]
+pub struct TraceOf {
+    /// The node that the trace's head names.
+    pub node: TracedNode,
+    /// How many bytes of whole entries the node's log had when its trace ended, where that is known.
+    pub log_len: Option<u64>,
+}
+
 /// How a server's node is made again, with an empty log.
 pub trait Server: Remade {
-    ghost use Rattle.std.specs.Prelude.{◌≡◌};
+    ghost use Rattle.std.specs.Prelude.{◌≡◌, ◌↔◌, IsTrue};
+    ghost use Rattle.kx_machine.specs.Meaning.{NodeState};
+    ghost use Rattle.kx_trace_audit.specs.Logs.{HasFound, log_size};
     ghost use Rattle.kx_trace_audit.specs.Servers.{making_of};
 
     /// How the node that a trace names is made.
     fn of(node: TracedNode) -> Self
         ensures { Self.making result ≡ making_of node };
+
+    /// How many bytes the entries of its log have, or `u64::MAX` where they have more.
+    fn log_len(machine: &Self::Machine) -> u64
+        ensures { (state : NodeState) → Self.Machine.stands state machine.now
+            → result ≡ log_size state };
+
+    /// Whether a restart that the machine has just made found a log of this many bytes.
+    fn has_found(machine: &Self::Machine, log_len: u64) -> bool
+        ensures { (state : NodeState) → Self.Machine.stands state machine.now
+            → (IsTrue result ↔ HasFound state log_len) };
 }

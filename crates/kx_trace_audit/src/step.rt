@@ -1,91 +1,147 @@
 //! One more step of a trace.
-ghost use Rattle.std.specs.Prelude.{◌≡◌, ◌≤◌, ◌++◌, IfOk, IsTrue, List, OnOk, length};
+ghost use Rattle.std.specs.Prelude.{◌≡◌, ◌≤◌, ◌↔◌, IfOk, IsTrue, List, MatchOption, MatchResult};
+ghost use Rattle.std.specs.Prelude.{ℕ, drop, length, slice_get, Some};
 ghost use Rattle.std.specs.Bool.{MatchBool};
 ghost use Rattle.std.specs.List.{flat_map};
 ghost use Rattle.kx_audit.specs.Joined.{Passed};
-ghost use Rattle.kx_follow.specs.Following.{HasMade};
+ghost use Rattle.kx_follow.specs.Following.{Followed, HasMade, state_after};
+ghost use Rattle.kx_machine.specs.Meaning.{NodeState};
 ghost use Rattle.kx_message.specs.Fields.{frame_text};
+ghost use Rattle.kx_nodes.specs.Again.{mode_by};
 ghost use Rattle.kx_nodes.specs.Replay.{mark_of};
-ghost use Rattle.kx_trace_audit.specs.Items.{told_of};
-ghost use Rattle.kx_trace_audit.specs.Stepping.{HasStepped, HasTold, MakesTold, Stays, used_by};
+ghost use Rattle.kx_trace_audit.specs.Items.{IsItem, RestRefused, told_of};
+ghost use Rattle.kx_trace_audit.specs.Logs.{HasFound, log_size};
+ghost use Rattle.kx_trace_audit.specs.Lookahead as lookahead;
+ghost use Rattle.kx_trace_audit.specs.Lookahead.{IsDecided};
+ghost use Rattle.kx_trace_audit.specs.Stepping as stepping;
+ghost use Rattle.kx_trace_audit.specs.Stepping.{Becomes, Differs, HasRefused, HasStepped};
+ghost use Rattle.kx_trace_audit.specs.Stepping.{Refuses};
 ghost use Rattle.kx_trace_audit.specs.Told.{Answered, Reopened, Unanswered};
 
+use crate::ending::Ending;
 use crate::item::{Item, Telling, item_at};
+use crate::lookahead::{entry_stood, epoch_stood};
+use crate::progress::Progress;
 use crate::refusal::TraceRefusal;
-use kx_audit::Remade;
+use crate::servers::Server;
 use kx_batch::BATCH_LIMIT;
 use kx_follow::Follower;
 use kx_machine::{Input, StoreMode, Taken};
-use kx_message::Message;
 use kx_nodes::Mark;
-use kx_wire::put_frame;
+use kx_trace::{TraceFault, put_frames};
 use std::alloc::{AllocError, Global};
 
-/// What became of the next step of a trace.
+/// What became of the next item of a trace, and how many bytes told it, which are done with.
 #[derive(Clone, Copy, Debug, PartialEq, Eq)]
-pub(crate) enum Stepped {
-    /// It was made again, or there was none, and the trace goes on after so many bytes.
-    Made(usize),
-    /// It takes a message that no step sent so far.
-    Waits,
-    /// More bytes of the trace are needed.
-    Hungry,
+pub(crate) struct Stepped {
+    pub(crate) progress: Progress,
+    pub(crate) used: usize,
 }
 
 // A store on which an append fails, and leaves its whole entry or nothing.
-fn failing(whole: bool) -> StoreMode {
+fn failing(whole: bool) -> StoreMode
+    ensures { result ≡ mode_by Mark.Failed whole }
+{
     let keep = if whole { BATCH_LIMIT } else { 0 };
     StoreMode::Fails { keep: keep as u64 }
 }
 
-// What the store did in a step of this mark.
-fn mode_of(mark: Mark, whole: bool) -> StoreMode {
+// What the store did in a step of this mark, where `stood` says whether the entry of an append that
+// failed stood.
+fn mode_of(mark: Mark, stood: bool) -> StoreMode
+    ensures { result ≡ mode_by mark stood }
+{
     match mark {
         Mark::Unread => StoreMode::CannotLoad,
-        Mark::Failed | Mark::Unwritten { .. } => failing(whole),
+        Mark::Failed | Mark::Unwritten { .. } => failing(stood),
         _ => StoreMode::Works,
     }
 }
 
-// What the store did in a step that was never answered.
-fn unanswered_mode(whole: bool) -> StoreMode {
-    if whole {
+// What the store did in a step that was never answered, whose entry stood or not.
+fn unanswered_mode(stood: bool) -> StoreMode
+    ensures { result ≡ lookahead.unanswered_mode stood }
+{
+    if stood {
         StoreMode::Works
     } else {
         failing(false)
     }
 }
 
-// Appends the frames of messages; none where one is too long for a frame.
-fn put_frames(text: &mut Vec<u8>, messages: &[Message]) -> Result<bool, AllocError>
-    ensures { IfOk result (λ all. IsTrue all
-        → text.new.items ≡ text.old.items ++ flat_map frame_text messages.now) }
+// What the store did in the step that is told, whose entry stood or not.
+fn mode_for(told: &Telling<'_>, stood: bool) -> StoreMode
+    ensures { result ≡ lookahead.mode_for (told_of told.now) stood }
 {
-    for message in messages {
-        if !message.fits() {
-            return Ok(false);
-        }
-        put_frame(text, message)?;
+    match told {
+        Telling::Answered { mark, .. } => mode_of(*mark, stood),
+        Telling::Untaken(_) => StoreMode::Works,
+        Telling::Unanswered(_) | Telling::Reopened { .. } => unanswered_mode(stood),
     }
-    Ok(true)
+}
+
+// How many bytes the entries of a node's log have.
+fn log_len<B: Server>(follower: &Follower<B>, node: usize) -> u64
+    ensures { (n : Followed B B.Machine) → slice_get follower.now.nodes node ≡ Some n
+        → (state : NodeState) → B.Machine.stands state n.machine → result ≡ log_size state }
+{
+    match follower.machine(node) {
+        Some(machine) => B::log_len(machine),
+        None => 0,
+    }
+}
+
+// Whether a step of this mark leaves open whether an entry stood.
+fn is_open(mark: Mark) -> bool
+    ensures { result ≡ lookahead.is_open mark }
+{
+    matches!(mark, Mark::Failed | Mark::Unwritten { .. })
+}
+
+// Whether the entry of what is told stood, by the bytes that follow it, if that was left open; None
+// where more of them are needed.
+fn has_stood<B: Server>(
+    alloc: Global,
+    follower: &Follower<B>,
+    node: usize,
+    told: &Telling<'_>,
+    rest: &[u8],
+    ending: Ending,
+) -> Result<Option<bool>, TraceRefusal>
+    ensures { (n : Followed B B.Machine) → slice_get follower.now.nodes node ≡ Some n
+        → (state : NodeState) → B.Machine.stands state n.machine → MatchResult result
+        (IsDecided (told_of told.now) (log_size state) ending rest.now) (RestRefused rest.now) }
+{
+    match told {
+        Telling::Answered { mark, .. } if is_open(*mark) => {
+            entry_stood(alloc, rest, ending, log_len(follower, node))
+        }
+        Telling::Answered { .. } | Telling::Untaken(_) => Ok(Some(false)),
+        Telling::Unanswered(_) => entry_stood(alloc, rest, ending, log_len(follower, node)),
+        Telling::Reopened { log_len: found, .. } => epoch_stood(alloc, rest, ending, *found),
+    }
 }
 
 // Whether these are the frames of what was sent.
 fn sends(alloc: Global, taken: &Taken, frames: &[u8]) -> Result<bool, AllocError>
-    ensures { IfOk result (λ b. IsTrue b → flat_map frame_text taken.now.messages ≡ frames.now) }
+    ensures { IfOk result (λ same. MatchBool same
+        (flat_map frame_text taken.now.messages ≡ frames.now)
+        (Differs TraceRefusal.Answer taken.now Mark.Worked frames.now)) }
 {
     let mut text = Vec::new(alloc);
     text.reserve(frames.len())?;
-    if !put_frames(&mut text, taken.messages.as_slice())? {
-        return Ok(false);
+    match put_frames(&mut text, taken.messages.as_slice()) {
+        Ok(()) => Ok(text.as_slice() == frames),
+        Err(TraceFault::Memory) => Err(AllocError),
+        Err(_) => Ok(false),
     }
-    Ok(text.as_slice() == frames)
 }
 
 // Sees that a step shows this of its store, and sends what has these frames.
 fn judge(alloc: Global, taken: &Taken, mark: Mark, frames: &[u8]) -> Result<(), TraceRefusal>
-    ensures mark { OnOk result (mark_of taken.now ≡ mark) }
-    ensures frames { OnOk result (flat_map frame_text taken.now.messages ≡ frames.now) }
+    ensures { MatchResult result
+        (λ _. (mark_of taken.now ≡ mark) × (flat_map frame_text taken.now.messages ≡ frames.now))
+        (λ refusal. Differs refusal taken.now mark frames.now) }
 {
     if Mark::of(taken) != mark {
         return Err(TraceRefusal::Store);
@@ -96,8 +152,8 @@ fn judge(alloc: Global, taken: &Taken, mark: Mark, frames: &[u8]) -> Result<(), 
     Ok(())
 }
 
-// A node takes an input again that was answered so; false where it waits for the message.
-fn take_again<B: Remade>(
+// A node takes an input again that has this answer.
+fn take_again<B: Server>(
     alloc: Global,
     follower: &mut Follower<B>,
     node: usize,
@@ -105,124 +161,187 @@ fn take_again<B: Remade>(
     mark: Mark,
     frames: &[u8],
     mode: StoreMode,
-) -> Result<bool, TraceRefusal>
+) -> Result<Progress, TraceRefusal>
     ensures { (history : List Passed) → HasMade B.making B.Machine.stands history follower.old
-        → IfOk result (λ made. MatchBool made
-        (MakesTold B.making B.Machine.stands node (Answered input.now mark frames.now) history
+        → MatchResult result
+        (Becomes B.making B.Machine.stands node (Answered input.now mark frames.now) history
         follower.old follower.new)
-        (Stays B.making B.Machine.stands history follower.old follower.new)) }
+        (Refuses B.making B.Machine.stands node (Answered input.now mark frames.now) history
+        follower.old follower.new) }
 {
     let Some(taken) = follower.take(node, input, mode)? else {
-        return Ok(false);
+        return Ok(Progress::Waits);
     };
     let judged = judge(alloc, &taken, mark, frames);
+    let sent = taken.messages.as_slice().len();
     drop(taken);
     judged?;
-    Ok(true)
+    Ok(Progress::Made { sent })
 }
 
-// A node takes an input again that was never answered; false where it waits for the message.
-fn take_unanswered<B: Remade>(
+// A node takes an input again that was never answered.
+fn take_unanswered<B: Server>(
     follower: &mut Follower<B>,
     node: usize,
     input: &Input,
     mode: StoreMode,
-) -> Result<bool, TraceRefusal>
+) -> Result<Progress, TraceRefusal>
     ensures { (history : List Passed) → HasMade B.making B.Machine.stands history follower.old
-        → IfOk result (λ made. MatchBool made
-        (MakesTold B.making B.Machine.stands node (Unanswered input.now) history follower.old
-        follower.new)
-        (Stays B.making B.Machine.stands history follower.old follower.new)) }
+        → MatchResult result
+        (Becomes B.making B.Machine.stands node (Unanswered input.now) history
+        follower.old follower.new)
+        (Refuses B.making B.Machine.stands node (Unanswered input.now) history
+        follower.old follower.new) }
 {
     let Some(taken) = follower.take(node, input, mode)? else {
-        return Ok(false);
+        return Ok(Progress::Waits);
     };
+    let sent = taken.messages.as_slice().len();
     drop(taken);
-    Ok(true)
+    Ok(Progress::Made { sent })
 }
 
-// A node is opened again at this time.
-fn reopen<B: Remade>(
+// Whether the node's last step, a restart, found a log of this many bytes.
+fn has_found<B: Server>(follower: &Follower<B>, node: usize, log_len: u64) -> bool
+    ensures { (n : Followed B B.Machine) → slice_get follower.now.nodes node ≡ Some n
+        → (state : NodeState) → B.Machine.stands state n.machine
+        → (IsTrue result ↔ HasFound state log_len) }
+{
+    match follower.machine(node) {
+        Some(machine) => B::has_found(machine, log_len),
+        None => false,
+    }
+}
+
+// A node is opened again at this time, and finds a log of this many bytes.
+fn reopen<B: Server>(
     follower: &mut Follower<B>,
     node: usize,
     now: u64,
     log_len: u64,
-) -> Result<bool, TraceRefusal>
+    mode: StoreMode,
+) -> Result<Progress, TraceRefusal>
     ensures { (history : List Passed) → HasMade B.making B.Machine.stands history follower.old
-        → IfOk result (λ made. MatchBool made
-        (MakesTold B.making B.Machine.stands node (Reopened now log_len) history follower.old
-        follower.new)
-        (Stays B.making B.Machine.stands history follower.old follower.new)) }
+        → MatchResult result
+        (Becomes B.making B.Machine.stands node (Reopened now log_len) history
+        follower.old follower.new)
+        (Refuses B.making B.Machine.stands node (Reopened now log_len) history
+        follower.old follower.new) }
 {
     let restart = Input::Restart(now);
-    let made = take_unanswered(follower, node, &restart, StoreMode::Works)?;
+    let taken = follower.take(node, &restart, mode);
     drop(restart);
-    Ok(made)
+    let Some(taken) = taken? else {
+        return Ok(Progress::Waits);
+    };
+    let sent = taken.messages.as_slice().len();
+    drop(taken);
+    if !has_found(follower, node, log_len) {
+        return Err(TraceRefusal::Found);
+    }
+    Ok(Progress::Made { sent })
 }
 
-// A node takes again what a trace tells of; false where it waits for the message.
-fn take_told<B: Remade>(
+// A node takes again what a trace tells of, with a store that does as `mode` says.
+fn take_told<B: Server>(
     alloc: Global,
     follower: &mut Follower<B>,
     node: usize,
     told: &Telling<'_>,
-    whole: bool,
-) -> Result<bool, TraceRefusal>
+    mode: StoreMode,
+) -> Result<Progress, TraceRefusal>
     ensures { (history : List Passed) → HasMade B.making B.Machine.stands history follower.old
-        → IfOk result (λ made. MatchBool made
-        (HasTold B.making B.Machine.stands node (told_of told.now) history follower.old
-        follower.new)
-        (Stays B.making B.Machine.stands history follower.old follower.new)) }
+        → MatchResult result
+        (Becomes B.making B.Machine.stands node (told_of told.now) history
+        follower.old follower.new)
+        (Refuses B.making B.Machine.stands node (told_of told.now) history
+        follower.old follower.new) }
 {
     match told {
         Telling::Answered {
             input,
             mark,
             frames,
-        } => take_again(
-            alloc,
-            follower,
-            node,
-            input,
-            *mark,
-            frames,
-            mode_of(*mark, whole),
-        ),
-        Telling::Untaken(_) => Ok(true),
-        Telling::Unanswered(input) => {
-            take_unanswered(follower, node, input, unanswered_mode(whole))
-        }
-        Telling::Reopened { now, log_len } => reopen(follower, node, *now, *log_len),
+        } => take_again(alloc, follower, node, input, *mark, frames, mode),
+        Telling::Untaken(_) => Ok(Progress::NotTaken),
+        Telling::Unanswered(input) => take_unanswered(follower, node, input, mode),
+        Telling::Reopened { now, log_len } => reopen(follower, node, *now, *log_len, mode),
     }
 }
 
+// How many bytes are done with after this.
+fn used_by(progress: Progress, len: usize) -> usize
+    ensures { result ≡ stepping.used_by progress len }
+{
+    match progress {
+        Progress::Made { .. } | Progress::NotTaken => len,
+        Progress::Waits | Progress::NeedsMore => 0,
+    }
+}
+
+// More bytes of the trace are needed.
+fn needs_more() -> Stepped
+    ensures { result ≡ record { progress = Progress.NeedsMore; used = 0 } }
+{
+    Stepped {
+        progress: Progress::NeedsMore,
+        used: 0,
+    }
+}
+
+// A node takes again what a trace tells of, which these bytes follow in the trace.
+fn take_item<B: Server>(
+    alloc: Global,
+    follower: &mut Follower<B>,
+    node: usize,
+    item: &Item<'_>,
+    rest: &[u8],
+    ending: Ending,
+) -> Result<Stepped, TraceRefusal>
+    ensures within { IfOk result (λ stepped. stepped.used ≤ item.now.used) }
+    ensures steps { (bytes : List ℕ) → IsItem bytes item.now → rest.now ≡ drop item.now.used bytes
+        → (history : List Passed) → HasMade B.making B.Machine.stands history follower.old
+        → (n : Followed B B.Machine) → slice_get follower.old.nodes node ≡ Some n
+        → MatchResult result
+        (λ stepped. HasStepped B.making B.Machine.stands node bytes ending history follower.old
+        follower.new stepped.progress stepped.used)
+        (HasRefused B.making B.Machine.stands node bytes history follower.old follower.new) }
+{
+    let Some(stood) = has_stood(alloc, follower, node, &item.told, rest, ending)? else {
+        return Ok(needs_more());
+    };
+    let mode = mode_for(&item.told, stood);
+    let progress = take_told(alloc, follower, node, &item.told, mode)?;
+    let used = used_by(progress, item.used);
+    Ok(Stepped { progress, used })
+}
+
 /// One more step of the node of this number, by what is left of its trace: made again on a store
-/// that does what the trace tells, where `whole` says whether the entry of an append that failed, or
-/// was never answered, stood.
+/// that does what the trace tells. What the store left of an entry, where the step leaves that open,
+/// is looked up in the bytes that follow the step.
 ///
 /// # Errors
 ///
-/// `Store` and `Answer` where the step comes to something else than the trace tells, `Bytes` where
-/// no trace goes on so, `Memory` where memory runs out.
-pub(crate) fn go_on<B: Remade>(
+/// `Store` and `Answer` where the step comes to something else than the trace tells, `Found` where a
+/// restart finds another log, `Bytes` where no trace goes on with these bytes, `Memory` where memory
+/// runs out.
+pub(crate) fn go_on<B: Server>(
     alloc: Global,
     follower: &mut Follower<B>,
     node: usize,
     unread: &[u8],
-    is_end: bool,
-    whole: bool,
+    ending: Ending,
 ) -> Result<Stepped, TraceRefusal>
-    ensures within { IfOk result (λ stepped. used_by stepped ≤ length unread.now) }
-    ensures made { (history : List Passed) → HasMade B.making B.Machine.stands history follower.old
-        → IfOk result (HasStepped B.making B.Machine.stands node unread.now history follower.old
-        follower.new) }
+    ensures within { IfOk result (λ stepped. stepped.used ≤ length unread.now) }
+    ensures steps { (history : List Passed) → HasMade B.making B.Machine.stands history follower.old
+        → (n : Followed B B.Machine) → slice_get follower.old.nodes node ≡ Some n
+        → MatchResult result
+        (λ stepped. HasStepped B.making B.Machine.stands node unread.now ending history follower.old
+        follower.new stepped.progress stepped.used)
+        (HasRefused B.making B.Machine.stands node unread.now history follower.old follower.new) }
 {
-    let Some(item) = item_at(alloc, unread, is_end)? else {
-        return Ok(Stepped::Hungry);
+    let Some(item) = item_at(alloc, unread, ending)? else {
+        return Ok(needs_more());
     };
-    if take_told(alloc, follower, node, &item.told, whole)? {
-        Ok(Stepped::Made(item.used))
-    } else {
-        Ok(Stepped::Waits)
-    }
+    take_item(alloc, follower, node, &item, &unread[item.used..], ending)
 }

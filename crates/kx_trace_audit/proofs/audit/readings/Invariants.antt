@@ -1,9 +1,9 @@
-use Rattle.std.proofs.Common.{take}
-use Rattle.kx_trace_audit.specs.Auditing.{AreBegun}
+use Rattle.std.proofs.Common.{◌≡◌, map, take}
+use Rattle.kx_trace_audit.specs.Readings.{begun}
 use Rattle.kx_trace_audit.proofs.audit.readings.Given as goal
 
-abbrev pub invariant-loop-node : goal.invariant-loop-node
-invariant-loop-node l =
+abbrev pub invariant-loop-one : goal.invariant-loop-one
+invariant-loop-one l =
     record {
-      begun : AreBegun (take l.node-index l.nodes) l.traces.items;
+      traces : l.traces.items ≡ map begun (take l.one-index l.of);
     }

@@ -1,6 +1,9 @@
+use Rattle.std.proofs.Common.{List, ap, length}
 use Rattle.kx_follow.specs.Following.{MakesOneMore}
 use Rattle.kx_machine.specs.declared.taken.Taken.{Taken}
-use Rattle.kx_trace_audit.proofs.Telling.{answered, when_some}
+use Rattle.kx_message.specs.declared.message.Message.{Message}
+use Rattle.kx_trace_audit.proofs.Records.{refused_so}
+use Rattle.kx_trace_audit.proofs.Telling.{answered, differs, when_some}
 use Rattle.kx_trace_audit.proofs.step.take_again.Goals as goal
 
 pub returns : goal.returns
@@ -10,8 +13,24 @@ returns g c = λ history made.
     let old = c.args.follower.now in
     let new = c.take.new.self in
     let input = c.args.input.now in
-    answered making stands c.args.node input c.args.mode history old new c.in-Some.taken c.args.mark
-    c.args.frames.now
-    (when_some _ (λ (taken : Taken). MakesOneMore making stands c.args.node input c.args.mode taken history old new)
-    c.in_ok-taken.field-0 c.in-Some.taken c.in-Some.is (c.in_ok-taken.ensures.made history made))
-    c.in_ok-judged.ensures.mark c.in_ok-judged.ensures.frames
+    let is = when_some _ (λ (taken : Taken). MakesOneMore making stands c.args.node input c.args.mode taken history old new)
+    c.in_ok-taken.field-0 c.in-Some.taken c.in-Some.is (c.in_ok-taken.ensures.made history made) in
+    let j = c.in_ok-judged.ensures in
+    answered making stands c.args.node history old new input c.args.mode c.in-Some.taken is
+    (length c.as_slice-sent.result.now)
+    (ap (λ (l : List Message). length l) c.as_slice-sent.ensures) c.args.mark c.args.frames.now
+    j.0 j.1
+
+pub returns-in_err-judged : goal.returns-in_err-judged
+returns-in_err-judged g c = λ history made.
+    let making = g.B.Tells.making in
+    let stands = g.B.Machine.Machine.stands in
+    let old = c.args.follower.now in
+    let new = c.take.new.self in
+    let input = c.args.input.now in
+    let is = when_some _ (λ (taken : Taken). MakesOneMore making stands c.args.node input c.args.mode taken history old new)
+    c.in_ok-taken.field-0 c.in-Some.taken c.in-Some.is (c.in_ok-taken.ensures.made history made) in
+    let why = c.in_err-judged.field-0.0 in
+    refused_so c.from_residual-in_err-judged.result why c.from_residual-in_err-judged.ensures.1 _ _
+    (differs making stands c.args.node history old new input c.args.mode c.in-Some.taken c.args.mark
+    c.args.frames.now is why c.in_err-judged.ensures)

@@ -1,13 +1,14 @@
 use Rattle.std.proofs.Common.{◌≤◌, ◌<◌, List, ap, arith, length, refl, subst, sym}
-use Rattle.std.specs.Prelude.{ℕ}
+use Rattle.std.specs.Prelude.{ℕ, slice_set}
 use Rattle.std.proofs.lemmas.Option.{slice_get_read}
-use Rattle.kx_trace_audit.specs.Auditing.{Auditing, HasAudited}
+use Rattle.kx_trace_audit.specs.Auditing.{Auditing, HasAudited, fed}
+use Rattle.kx_trace_audit.specs.Readings.{Reading}
 use Rattle.kx_trace_audit.proofs.Texts.{nothing_fed}
 use Rattle.kx_trace_audit.proofs.Traces.{feeds}
 use Rattle.kx_trace_audit.proofs.audit.TraceAudit.feed.Goals as goal
 
-pub returns-then-trace-len : goal.returns-then-trace-len
-returns-then-trace-len g c = λ texts history has.
+pub returns-then-trace-len-clause-audited : goal.returns-then-trace-len-clause-audited
+returns-then-trace-len-clause-audited g c = λ texts history has.
     let making = g.B.Tells.making in
     let stands = g.B.Machine.Machine.stands in
     let seen = ap (λ (a : Auditing _ _). length a.traces) c.self.view_is in
@@ -16,8 +17,8 @@ returns-then-trace-len g c = λ texts history has.
     subst (λ (l : List (List ℕ)). HasAudited making stands l history c.args.self.now)
     (sym (nothing_fed texts c.args.trace c.args.bytes.now past)) has
 
-pub returns : goal.returns
-returns g c = λ texts history has.
+pub returns-clause-audited : goal.returns-clause-audited
+returns-clause-audited g c = λ texts history has.
     let making = g.B.Tells.making in
     let stands = g.B.Machine.Machine.stands in
     let k = c.args.trace in
@@ -31,5 +32,7 @@ returns g c = λ texts history has.
     c.index_mut.ensures.value in
     let old = subst (λ (a : Auditing _ _). HasAudited making stands texts history a)
     (sym c.self.view_is) has in
-    feeds making stands texts history inside k r old at c.args.bytes.now c.read_on.new.reading
-    c.read_on.ensures.node c.in_ok-read_on.ensures.unread
+    subst (λ (q : Reading). HasAudited making stands (fed texts k c.args.bytes.now) history
+    (record { following = inside.following; traces = slice_set inside.traces k q }))
+    (sym c.in_ok-feed.ensures.ok)
+    (feeds making stands texts history inside k r old at c.args.bytes.now)
