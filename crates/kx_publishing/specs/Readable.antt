@@ -5,6 +5,7 @@ use Rattle.kx_machine.specs.Meaning.{NodeState}
 use Rattle.kx_model.specs.Log.{Stored}
 use Rattle.kx_nodes.specs.Replay.{Recorded, RunsAs}
 use Rattle.kx_nodes.specs.Taking.{Alone}
+use Rattle.kx_recording.specs.Recorded as recording
 
 -- a machine's log is that of each node for which it stands
 abbrev pub TellsLog : {M : Type 0} → (NodeState → M → Type 0) → (M → List Stored) → Type 0
@@ -21,3 +22,8 @@ pub traced_log_is : {B M : Type 0} {Stands : NodeState → M → Type 0} {log : 
     (state : NodeState) → RunsAs made_as Stands traced state
     → log traced.machine ≡ batches_of state
 traced_log_is made_as is traced state runs = is traced.machine state runs.stands
+
+pub recorded_log_is : {M : Type 0} {Stands : NodeState → M → Type 0} {log : M → List Stored}
+    → TellsLog Stands log → (r : recording.Recorded M) (state : NodeState)
+    → Stands state r.machine → log r.machine ≡ batches_of state
+recorded_log_is is r state stands = is r.machine state stands
