@@ -1,0 +1,92 @@
+-- What was read of the sources of traces, a piece more at a time.
+use Rattle.std.proofs.Common.{◌≡◌, ◌∙◌, ◌++◌, ℕ, zero, suc, List, [], ◌∷◌, Option, ap, append-nil}
+use Rattle.std.proofs.Common.{All, append_assoc, arith, false, get_or, length, map, refl, slice_set}
+use Rattle.std.proofs.Common.{subst, sym, true}
+use Rattle.std.proofs.lemmas.Bool.{false≢true}
+use Rattle.std.proofs.lemmas.List.Elements.{All-head, All-tail}
+use Rattle.std.specs.Io.KnownBytes.{Consumes}
+use Rattle.std.proofs.KnownBytes.{Consumes-all, Consumes-nil, Consumes-trans}
+use Rattle.kx_server_audit.specs.Reads.{AreAllOf, AreReadOf, IsAllOf, IsEnded, IsReadOf, Origin}
+use Rattle.kx_server_audit.specs.Reads.{origins_of}
+use Rattle.kx_server_audit.specs.declared.sources.Source.{Source}
+use Rattle.kx_trace.specs.Layout.{head_text}
+use Rattle.kx_trace_audit.specs.Auditing.{fed}
+use Rattle.kx_trace_audit.specs.declared.servers.TraceOf.{TraceOf}
+
+pub fed-nil : (texts : List (List ℕ)) (k : ℕ) → fed texts k [] ≡ texts
+fed-nil [] k = refl
+fed-nil (text ∷ texts) zero = ap (λ (t : List ℕ). t ∷ texts) (append-nil text)
+fed-nil (text ∷ texts) (suc k) = ap (λ (ts : List (List ℕ)). text ∷ ts) (fed-nil texts k)
+
+pub fed-fed : (texts : List (List ℕ)) (k : ℕ) (a b : List ℕ)
+    → fed (fed texts k a) k b ≡ fed texts k (a ++ b)
+fed-fed [] k a b = refl
+fed-fed (text ∷ texts) zero a b = ap (λ (t : List ℕ). t ∷ texts) (append_assoc text a b)
+fed-fed (text ∷ texts) (suc k) a b =
+    ap (λ (ts : List (List ℕ)). text ∷ ts) (fed-fed texts k a b)
+
+module _ {I : Type 0} (remaining : I → Option (List ℕ)) where
+  -- more was read of a source
+  read_more : (o : Origin) (text : List ℕ) (s t : Source I) (read : List ℕ)
+      → Consumes (remaining s.reader) (remaining t.reader) read
+      → (IsEnded remaining s → IsEnded remaining t)
+      → IsReadOf remaining o text s → IsReadOf remaining o (text ++ read) t
+  read_more o text s t read consumed ended r = record {
+    read = r.read ++ read;
+    text_is = ap (λ (x : List ℕ). x ++ read) r.text_is ∙ append_assoc o.head r.read read;
+    consumed = Consumes-trans o.rest (remaining s.reader) (remaining t.reader) r.read read r.consumed consumed;
+    ended = ended r.ended;
+  }
+
+  -- a source that is read to its end gave all that it had
+  all_read : (o : Origin) (text : List ℕ) (s : Source I) → s.is_ended ≡ true
+      → IsReadOf remaining o text s → IsAllOf o text
+  all_read o text s e r =
+      Consumes-all o.rest (remaining s.reader) r.read o.head text r.consumed (r.ended e) r.text_is
+
+  -- more was read of one of the sources
+  pub read_at : (os : List Origin) (ts : List (List ℕ)) (ss : List (Source I)) (k : ℕ) (s t : Source I)
+      (read : List ℕ) → s ≡ get_or ss k s → Consumes (remaining s.reader) (remaining t.reader) read
+      → (IsEnded remaining s → IsEnded remaining t) → AreReadOf remaining os ts ss
+      → AreReadOf remaining os (fed ts k read) (slice_set ss k t)
+  read_at [] [] [] k s t read e consumed ended r = r
+  read_at [] [] (x ∷ ss) k s t read e consumed ended r = absurd r
+  read_at [] (text ∷ ts) ss k s t read e consumed ended r = absurd r
+  read_at (o ∷ os) [] ss k s t read e consumed ended r = absurd r
+  read_at (o ∷ os) (text ∷ ts) [] k s t read e consumed ended r = absurd r
+  read_at (o ∷ os) (text ∷ ts) (x ∷ ss) zero s t read e consumed ended r =
+      (read_more o text s t read consumed ended (subst (IsReadOf remaining o text) (sym e) r.0), r.1)
+  read_at (o ∷ os) (text ∷ ts) (x ∷ ss) (suc k) s t read e consumed ended r =
+      (r.0, read_at os ts ss k s t read e consumed ended r.1)
+
+  -- sources that are read to their end gave all that they had
+  pub all_are_read : (os : List Origin) (ts : List (List ℕ)) (ss : List (Source I))
+      → All (λ s. s.is_ended ≡ true) ss → AreReadOf remaining os ts ss → AreAllOf os ts
+  all_are_read [] [] [] ended r = tt
+  all_are_read [] [] (s ∷ ss) ended r = absurd r
+  all_are_read [] (text ∷ ts) ss ended r = absurd r
+  all_are_read (o ∷ os) [] ss ended r = absurd r
+  all_are_read (o ∷ os) (text ∷ ts) [] ended r = absurd r
+  all_are_read (o ∷ os) (text ∷ ts) (s ∷ ss) ended r = (
+    all_read o text s (All-head (λ (x : Source I). x.is_ended ≡ true) s ss ended) r.0,
+    all_are_read os ts ss (All-tail (λ (x : Source I). x.is_ended ≡ true) s ss ended) r.1,
+  )
+
+  -- nothing was read yet
+  pub begun : (traces : List TraceOf) (ss : List (Source I)) → length traces ≡ length ss
+      → All (λ s. s.is_ended ≡ false) ss
+      → AreReadOf remaining (origins_of remaining traces ss)
+      (map (λ t. head_text t.node) traces) ss
+  begun [] [] e unread = tt
+  begun [] (s ∷ ss) e unread = absurd (omega arith)
+  begun (t ∷ traces) [] e unread = absurd (omega arith)
+  begun (t ∷ traces) (s ∷ ss) e unread = (
+    record {
+      read = [];
+      text_is = sym (append-nil (head_text t.node));
+      consumed = Consumes-nil (remaining s.reader);
+      ended = λ ended. absurd (false≢true
+          (sym (All-head (λ (x : Source I). x.is_ended ≡ false) s ss unread) ∙ ended));
+    },
+    begun traces ss (omega arith) (All-tail (λ (x : Source I). x.is_ended ≡ false) s ss unread),
+  )

@@ -1,0 +1,9 @@
+use Rattle.std.proofs.Common.{List}
+use Rattle.kx_server_audit.specs.Driving.{IsUnderWay}
+use Rattle.kx_server_audit.specs.Reads.{Origin}
+use Rattle.kx_server_audit.proofs.auditing.ServerAudit.go_all.Given as goal
+
+abbrev pub invariant-loop : goal.invariant-loop
+invariant-loop g l = (origins : List Origin)
+    → IsUnderWay g.I.Read.remaining origins l.fn.self l.fn.sources.items
+    → IsUnderWay g.I.Read.remaining origins l.self l.sources.items

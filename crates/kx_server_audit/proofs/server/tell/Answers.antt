@@ -1,0 +1,18 @@
+use Rattle.std.proofs.Common.{subst}
+use Rattle.kx_server_audit.specs.Telling.{IsFoundBy, TellsNo, TellsYes}
+use Rattle.kx_server_audit.specs.Telling as telling
+use Rattle.kx_server_audit.proofs.server.tell.Goals as goal
+
+pub returns-in-None : goal.returns-in-None
+returns-in-None g c = λ compares are.
+    let f = c.args.findings in
+    let written = c.in-Ok.ensures in
+    TellsYes f written.0 c.in-None.is (subst (λ d. IsFoundBy compares f d) c.in-None.is are) written.1
+
+pub returns-in-Some : goal.returns-in-Some
+returns-in-Some g c = λ compares are.
+    let written = c.in-Ok.ensures in
+    TellsNo c.args.findings written.0 _ c.in-Some.is written.1
+
+pub returns-in-Err : goal.returns-in-Err
+returns-in-Err g c = λ compares are. telling.Fails _

@@ -1,0 +1,10 @@
+pub mod Counting
+pub mod Denials
+pub mod Driving
+pub mod Faults
+pub mod Files
+pub mod Finding
+pub mod Lines
+pub mod Logs
+pub mod Reads
+pub mod Telling

@@ -1,0 +1,50 @@
+-- What was read of the sources of traces.
+use Rattle.std.specs.Prelude.{◌≡◌, ◌++◌, ℕ, List, [], ◌∷◌, true, IfSome, Option}
+use Rattle.std.specs.Io.KnownBytes.{Consumes, IsAtEnd}
+use Rattle.kx_server_audit.specs.declared.sources.Source.{Source}
+use Rattle.kx_trace.specs.Layout.{head_text}
+use Rattle.kx_trace_audit.specs.declared.servers.TraceOf.{TraceOf}
+
+-- what the text of a trace begins with, and what its source has to give after that, where it is known
+pub record Origin : Type 0 where
+  pub head : List ℕ
+  pub rest : Option (List ℕ)
+
+module _ {I : Type 0} (remaining : I → Option (List ℕ)) where
+  -- all of the source was read where it says so
+  abbrev pub IsEnded : Source I → Type 0
+  IsEnded s = s.is_ended ≡ true → IsAtEnd (remaining s.reader)
+
+  -- the text is the head, and what was read of the source
+  pub record IsReadOf (origin : Origin) (text : List ℕ) (s : Source I) : Type 0 where
+    pub read : List ℕ
+    pub text_is : text ≡ origin.head ++ read
+    pub consumed : Consumes origin.rest (remaining s.reader) read
+    pub ended : IsEnded s
+
+  abbrev pub AreReadOf : List Origin → List (List ℕ) → List (Source I) → Type 0
+  AreReadOf [] [] [] = Unit {0}
+  AreReadOf (o ∷ os) (t ∷ ts) (s ∷ ss) = IsReadOf o t s × AreReadOf os ts ss
+  AreReadOf [] [] (s ∷ ss) = ⊥
+  AreReadOf [] (t ∷ ts) ss = ⊥
+  AreReadOf (o ∷ os) [] ss = ⊥
+  AreReadOf (o ∷ os) (t ∷ ts) [] = ⊥
+
+-- each trace begins with its head, and goes on with what its source has to give
+abbrev pub origins_of : {I : Type 0} → (I → Option (List ℕ)) → List TraceOf → List (Source I)
+    → List Origin
+origins_of remaining [] sources = []
+origins_of remaining (t ∷ traces) [] = []
+origins_of remaining (t ∷ traces) (s ∷ sources) =
+    record { head = head_text t.node; rest = remaining s.reader }
+    ∷ origins_of remaining traces sources
+
+-- the text is the head, and all that the source had to give
+abbrev pub IsAllOf : Origin → List ℕ → Type 0
+IsAllOf origin text = IfSome origin.rest (λ rest. text ≡ origin.head ++ rest)
+
+abbrev pub AreAllOf : List Origin → List (List ℕ) → Type 0
+AreAllOf [] [] = Unit {0}
+AreAllOf (o ∷ os) (t ∷ ts) = IsAllOf o t × AreAllOf os ts
+AreAllOf [] (t ∷ ts) = ⊥
+AreAllOf (o ∷ os) [] = ⊥

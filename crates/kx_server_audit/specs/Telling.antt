@@ -1,0 +1,51 @@
+-- What an audit of a server finds, and what it prints.
+use Rattle.std.specs.Prelude.{◌≡◌, ℕ, All, Bool, IsTrue, List, Option, Some, None, map}
+use Rattle.std.specs.Prelude.{true, false, Result, Ok, Err}
+use Rattle.std.specs.Io.KnownBytes.{Appends}
+use Rattle.kx_log.specs.Store.{StoreState}
+use Rattle.kx_machine.specs.Meaning.{NodeState}
+use Rattle.kx_machines.specs.Brokers.{broker_stands}
+use Rattle.kx_machines.specs.declared.broker.BrokerMachine.{BrokerMachine}
+use Rattle.kx_server_audit.specs.Counting.{decided_in}
+use Rattle.kx_server_audit.specs.Driving.{SaysYes}
+use Rattle.kx_server_audit.specs.Lines.{findings_text}
+use Rattle.kx_server_audit.specs.Logs.{LogIs}
+use Rattle.kx_server_audit.specs.Reads.{Origin}
+use Rattle.kx_server_audit.specs.declared.auditing.ServerAudit.{ServerAudit}
+use Rattle.kx_server_audit.specs.declared.denial.Denial.{Denial}
+use Rattle.kx_server_audit.specs.declared.fault.AuditFault.{AuditFault}
+use Rattle.kx_server_audit.specs.declared.findings.Findings.{Findings}
+
+-- the machines of the nodes, in the order of their traces
+abbrev pub machines_in : ServerAudit → List (BrokerMachine StoreState)
+machines_in a = map (λ n. n.machine) a.audit.following.nodes
+
+-- a file was read, and it is the log of each node for which the machine stands
+abbrev pub HasLog : BrokerMachine StoreState → Type 0
+HasLog m = (bytes : List ℕ) × ((state : NodeState) → broker_stands state m → LogIs state bytes)
+
+-- all that the sources of some traces had to give is audited, what was counted is counted in its
+-- steps, and the logs are those to which the traces lead, if they were compared
+pub record IsYesOf (compares : Bool) (f : Findings) : Type 0 where
+  pub origins : List Origin
+  pub audit : ServerAudit
+  pub says : SaysYes origins audit
+  pub counts_are : f.counts ≡ audit.counts
+  pub transactions_are : f.transactions ≡ decided_in (machines_in audit)
+  pub logs : IsTrue compares → All HasLog (machines_in audit)
+
+-- what was found
+abbrev pub IsFoundBy : Bool → Findings → Option Denial → Type 0
+IsFoundBy compares f None = IsYesOf compares f
+IsFoundBy compares f (Some denial) = Unit {0}
+
+abbrev pub AreFindings : Bool → Findings → Type 0
+AreFindings compares f = IsFoundBy compares f f.denial
+
+-- what is printed of an audit that ended so
+pub data Tells (compares : Bool) (old new : Option (List ℕ)) : Result Bool AuditFault → Type 0 where
+  TellsYes : (f : Findings) (words : List ℕ) → f.denial ≡ None → IsYesOf compares f
+      → Appends old new (findings_text f words) → Tells compares old new (Ok true)
+  TellsNo : (f : Findings) (words : List ℕ) (denial : Denial) → f.denial ≡ Some denial
+      → Appends old new (findings_text f words) → Tells compares old new (Ok false)
+  Fails : (why : AuditFault) → Tells compares old new (Err why)

@@ -1,0 +1,307 @@
+//! The audit of the traces of a server, which are read as far as they are needed.
+ghost use Rattle.std.specs.Prelude.{◌≡◌, ◌++◌, ℕ, [], All, IfOk, List, OnOk, map, true};
+ghost use Rattle.kx_audit.specs.Joined.{Passed};
+ghost use Rattle.kx_server_audit.specs.Counting.{AreCounts, decided_in};
+ghost use Rattle.kx_server_audit.specs.Driving.{Advances, AreAudited, IsUnderWay, SaysYes};
+ghost use Rattle.kx_server_audit.specs.Finding.{AreBegun};
+ghost use Rattle.kx_server_audit.specs.Reads.{Origin, origins_of};
+ghost use Rattle.kx_server_audit.specs.Telling.{machines_in};
+ghost use Rattle.kx_trace.specs.Layout.{head_text};
+ghost use Rattle.kx_trace_audit.specs.Auditing.{fed};
+
+use crate::counts::{Counts, transactions};
+use crate::server_node::ServerNode;
+use crate::sources::{Source, SourceFault};
+use kx_machines::{BrokerMachine, LocalStore};
+use kx_trace_audit::{Progress, TraceAudit, TraceOf, TraceRefusal};
+use std::alloc::{AllocError, Global};
+use std::io::Read;
+
+// After how many steps it is told how far an audit is.
+const STEPS_TOLD: u64 = 1 << 20;
+
+/// Where an audit refuses, and why.
+#[derive(Clone, Copy, Debug)]
+pub struct Refused {
+    /// The number of the trace, counted from 0.
+    pub trace: usize,
+    /// The number of the item in it, counted from 1.
+    pub item: u64,
+    pub why: TraceRefusal,
+}
+
+/// How an audit ends that isn't a yes.
+#[derive(Clone, Copy, Debug)]
+pub enum Ending {
+    /// The audit refuses.
+    Refused(Refused),
+    /// The source of the trace of this number can't be read.
+    Read(usize),
+    /// Memory ran out.
+    Memory,
+}
+
+/// Out of memory.
+impl From<AllocError> for Ending {
+    fn from(_: AllocError) -> Self {
+        Ending::Memory
+    }
+}
+
+/// The audit of a server's traces, as far as it has come.
+#[derive(Drop)]
+pub struct ServerAudit {
+    pub(crate) audit: TraceAudit<ServerNode>,
+    pub(crate) counts: Counts,
+    piece: Vec<u8>,
+    tells_progress: bool,
+}
+
+// How an audit ends that refuses at a trace.
+fn refused_at<I: Read + Drop>(trace: usize, source: &Source<I>, why: TraceRefusal) -> Ending {
+    match why {
+        TraceRefusal::Memory => Ending::Memory,
+        why => Ending::Refused(Refused {
+            trace,
+            item: source.items.saturating_add(1),
+            why,
+        }),
+    }
+}
+
+// How an audit ends that has an item of this trace left, whose step takes what no step sent.
+fn unsent<I: Read + Drop>(trace: usize, sources: &[Source<I>]) -> Ending {
+    match sources.get(trace) {
+        Some(source) => refused_at(trace, source, TraceRefusal::Unsent),
+        None => Ending::Read(trace),
+    }
+}
+
+// Whether each source was read to its end. Else the first that wasn't can't be read.
+fn all_ended<I: Read + Drop>(sources: &[Source<I>]) -> Result<(), Ending>
+    ensures { OnOk result (All (λ s. s.is_ended ≡ true) sources.now) }
+{
+    match sources.iter().position(|source| !source.is_ended) {
+        None => Ok(()),
+        Some(trace) => Err(Ending::Read(trace)),
+    }
+}
+
+// Feeds the next bytes of a trace to the audit; no bytes where it has no more.
+fn feed(audit: &mut TraceAudit<ServerNode>, trace: usize, bytes: &[u8]) -> Result<(), AllocError>
+    ensures { (texts : List (List ℕ)) (history : List Passed) → AreAudited texts history audit.old
+        → OnOk result (AreAudited (fed texts trace bytes.now) history audit.new) }
+{
+    audit.feed(trace, bytes)
+}
+
+impl ServerAudit {
+    // The audit of traces of which nothing was read after their heads.
+    fn new(
+        alloc: Global,
+        traces: &[TraceOf],
+        tells_progress: bool,
+    ) -> Result<ServerAudit, TraceRefusal>
+        ensures audited { IfOk result (λ a.
+            AreAudited (map (λ t. head_text t.node) traces.now) [] a.audit) }
+        ensures counted { IfOk result (λ a. AreCounts [] a.counts) }
+    {
+        Ok(ServerAudit {
+            audit: TraceAudit::new(alloc, traces)?,
+            counts: Counts::NONE,
+            piece: Vec::new(alloc),
+            tells_progress,
+        })
+    }
+
+    /// What was counted so far.
+    pub fn counts(&self) -> Counts
+        ensures { result ≡ self.now.counts }
+    {
+        self.counts
+    }
+
+    /// How many transactions were decided in the log of the first trace's node, which is the
+    /// coordinator if its trace is among them.
+    pub fn transactions(&self) -> usize
+        ensures { result ≡ decided_in (machines_in self.now) }
+    {
+        match self.audit.machine(0) {
+            Some(machine) => transactions(machine),
+            None => 0,
+        }
+    }
+
+    /// The machines of the nodes, in the order of their traces.
+    ///
+    /// # Errors
+    ///
+    /// Only where memory runs out.
+    pub fn into_machines(self) -> Result<Vec<BrokerMachine<LocalStore>>, AllocError>
+        ensures { IfOk result (λ machines. machines.items ≡ machines_in self) }
+    {
+        self.audit.into_machines()
+    }
+
+    // Tells how far the audit is, now and then. Nobody may watch.
+    fn tell<R: Eprint>(&self, rt: &R) {
+        let steps = self.counts.steps;
+        if self.tells_progress && steps % STEPS_TOLD == 0 {
+            let _ = eprintln!(rt; "{steps} steps");
+        }
+    }
+
+    // Reads on in a trace, up to its end.
+    fn read_on<I: Read + Drop>(
+        &mut self,
+        trace: usize,
+        source: &mut Source<I>,
+    ) -> Result<(), Ending>
+        ensures { (texts : List (List ℕ)) (history : List Passed)
+            → AreAudited texts history self.old.audit → OnOk result
+            (Advances I.remaining texts history trace self.old self.new source.old
+            source.new) }
+    {
+        match source.read(&mut self.piece) {
+            Ok(count) => {
+                feed(&mut self.audit, trace, &self.piece[..count])?;
+                Ok(())
+            }
+            Err(SourceFault::Read) => Err(Ending::Read(trace)),
+            Err(SourceFault::Memory) => Err(Ending::Memory),
+        }
+    }
+
+    // Goes on by one item of a trace, or reads on where it needs that; says whether it did.
+    fn go_on<R: Eprint, I: Read + Drop>(
+        &mut self,
+        rt: &R,
+        trace: usize,
+        source: &mut Source<I>,
+    ) -> Result<bool, Ending>
+        ensures { (texts : List (List ℕ)) (history : List Passed)
+            → AreAudited texts history self.old.audit → OnOk result
+            (Advances I.remaining texts history trace self.old self.new source.old
+            source.new) }
+    {
+        match self.audit.go(trace) {
+            Ok(Progress::Made { sent }) => {
+                source.pass();
+                self.counts.add(sent);
+                self.tell(rt);
+                Ok(true)
+            }
+            Ok(Progress::NotTaken) => {
+                source.pass();
+                Ok(true)
+            }
+            Ok(Progress::Waits) => Ok(false),
+            Ok(Progress::NeedsMore) => {
+                if source.is_ended {
+                    return Ok(false);
+                }
+                self.read_on(trace, source)?;
+                Ok(true)
+            }
+            Err(why) => Err(refused_at(trace, source, why)),
+        }
+    }
+
+    // Goes on in one trace as far as possible now; says whether that was at all.
+    fn go_far<R: Eprint, I: Read + Drop>(
+        &mut self,
+        rt: &R,
+        trace: usize,
+        source: &mut Source<I>,
+    ) -> Result<bool, Ending>
+        ensures { (texts : List (List ℕ)) (history : List Passed)
+            → AreAudited texts history self.old.audit → OnOk result
+            (Advances I.remaining texts history trace self.old self.new source.old
+            source.new) }
+    {
+        for done in 0..u64::MAX {
+            if !self.go_on(rt, trace, source)? {
+                return Ok(done != 0);
+            }
+        }
+        Ok(true)
+    }
+
+    // Goes on in each trace, one after the other; says whether it went on in any.
+    fn go_round<R: Eprint, I: Read + Drop>(
+        &mut self,
+        rt: &R,
+        sources: &mut Vec<Source<I>>,
+    ) -> Result<bool, Ending>
+        ensures { (origins : List Origin)
+            → IsUnderWay I.remaining origins self.old sources.old.items → OnOk result
+            (IsUnderWay I.remaining origins self.new sources.new.items) }
+    {
+        let mut went_on = false;
+        for trace in 0..sources.len() {
+            if self.go_far(rt, trace, &mut sources[trace])? {
+                went_on = true;
+            }
+        }
+        Ok(went_on)
+    }
+
+    // Goes on until no trace goes on any more.
+    fn go_all<R: Eprint, I: Read + Drop>(
+        &mut self,
+        rt: &R,
+        sources: &mut Vec<Source<I>>,
+    ) -> Result<(), Ending>
+        ensures { (origins : List Origin)
+            → IsUnderWay I.remaining origins self.old sources.old.items → OnOk result
+            (IsUnderWay I.remaining origins self.new sources.new.items) }
+    {
+        for _ in 0..u64::MAX {
+            if !self.go_round(rt, sources)? {
+                break;
+            }
+        }
+        Ok(())
+    }
+
+    // Audits all that the sources give, the source of each trace at its number. Ok is a yes.
+    fn run<R: Eprint, I: Read + Drop>(
+        &mut self,
+        rt: &R,
+        sources: &mut Vec<Source<I>>,
+    ) -> Result<(), Ending>
+        ensures { (origins : List Origin)
+            → IsUnderWay I.remaining origins self.old sources.old.items → OnOk result
+            (SaysYes origins self.new) }
+    {
+        self.go_all(rt, sources)?;
+        match self.audit.left_over() {
+            Some(trace) => Err(unsent(trace, sources.as_slice())),
+            None => all_ended(sources.as_slice()),
+        }
+    }
+}
+
+/// Audits traces, of which nothing was read after the heads, as far as their sources give them; the
+/// source of each trace is at its number. Answers the audit, and how it ended: Ok is a yes. Then what
+/// the heads and all bytes of the sources tell is an open schedule, which keeps the promises that
+/// need no trust in clients.
+///
+/// # Errors
+///
+/// `DuplicateNode` where two traces are of one node; `Memory` where memory runs out at once.
+pub fn audit_traces<R: Eprint, I: Read + Drop>(
+    rt: &R,
+    alloc: Global,
+    traces: &[TraceOf],
+    sources: &mut Vec<Source<I>>,
+    tells_progress: bool,
+) -> Result<(ServerAudit, Result<(), Ending>), TraceRefusal>
+    requires { AreBegun traces.now sources.old.items }
+    ensures { IfOk result (λ x. OnOk x.1
+        (SaysYes (origins_of I.remaining traces.now sources.old.items) x.0)) }
+{
+    let mut audit = ServerAudit::new(alloc, traces, tells_progress)?;
+    let ended = audit.run(rt, sources);
+    Ok((audit, ended))
+}

@@ -1,0 +1,39 @@
+//! Whether a server that ran was exactly-once: its traces are audited as streams, its nodes are made
+//! again with empty logs, and the logs that it left are compared with those to which its traces
+//! lead.
+//!
+//! `batches` and `entries` read and compare logs of one kind, `lengths` and `logs` those of machines;
+//! `sources` are traces that are read in pieces, which `auditing` audits; `traces` and `folder` have
+//! what a server left in its folders, `server` audits it, and `report` prints what was found.
+//!
+//! In `proofs/`: `Texts` (texts of batches and of entries, by which logs are compared), `Restarting`
+//! (a log before and after a restart), `Reading` (sources are read in pieces), `Advancing` (the audit
+//! goes on in one trace, and then in another).
+#![tactic(auto)]
+
+mod auditing;
+mod batches;
+mod counts;
+mod denial;
+mod entries;
+mod fault;
+mod file;
+mod findings;
+mod folder;
+mod lengths;
+mod logs;
+mod report;
+mod server;
+mod server_node;
+mod sources;
+mod traces;
+
+pub use auditing::{Ending, Refused, ServerAudit, audit_traces};
+pub use counts::{Counts, transactions};
+pub use denial::Denial;
+pub use fault::AuditFault;
+pub use file::AuditFile;
+pub use logs::{log_is, whole_len};
+pub use server::{AuditOptions, audit_server};
+pub use server_node::ServerNode;
+pub use sources::Source;
