@@ -8,15 +8,25 @@ import tempfile
 
 
 class Server:
-    """PROGRAM kafka, on a port that is free, in a folder or in memory."""
+    """PROGRAM kafka, on a port that is free, in a folder or in memory. When it ends it is audited by the
+    traces that it wrote."""
+
+    # what the audits said
+    audits = []
 
     def __init__(self, program, *words, folder=None):
         self.program, self.words, self.folder, self.process, self.port = program, words, folder, None, 0
+        # beside the logs, so that the next server in the folder goes on in the same traces
+        self.traces = os.path.join(folder, "traces") if folder else None
 
     def start(self):
         words = [self.program, "kafka", "--port", str(self.port), *self.words]
         if self.folder:
             words += ["--dir", self.folder]
+        else:
+            # logs in memory end with the process, and so do their traces
+            self.traces = tempfile.mkdtemp(prefix="kx-traces-")
+        words += ["--trace", self.traces]
         self.process = subprocess.Popen(words, stdout=subprocess.PIPE, text=True)
         line = self.process.stdout.readline().split()
         if len(line) != 2 or line[0] != "listening":
@@ -27,6 +37,14 @@ class Server:
     def kill(self, how=signal.SIGKILL):
         self.process.send_signal(how)
         self.process.wait()
+
+    def audit(self):
+        """Whether all that the nodes of this server did was one schedule, which leads to its logs."""
+        words = [self.program, "audit", self.traces, *(["--dir", self.folder] if self.folder else [])]
+        ran = subprocess.run(words, capture_output=True, text=True, check=False)
+        Server.audits.append((ran.returncode, ran.stdout.strip().replace("\n", ", ") + ran.stderr))
+        if not self.folder:
+            shutil.rmtree(self.traces)
 
     def seconds_of_processor(self):
         """User and system time that the server has taken."""
@@ -43,6 +61,7 @@ class Server:
 
     def __exit__(self, *_):
         self.kill()
+        self.audit()
 
 
 class Trial:
@@ -60,6 +79,8 @@ class Trial:
             print(f"FAILED {what}: found {found!r:.300}, wanted {wanted!r:.300}")
 
     def end(self):
+        for status, said in Server.audits:
+            self.look(f"audit: {said}", (status, said.endswith("audit yes")), (0, True))
         print(f"{self.passed} passed, {self.failed} failed")
         raise SystemExit(1 if self.failed else 0)
 

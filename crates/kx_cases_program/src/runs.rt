@@ -1,7 +1,8 @@
 //! Runs of the program. The lines of a file of runs:
 //!
 //! - `bytes NAME = BYTES` gives bytes a name, as in files of cases;
-//! - `file PATH BYTES` puts bytes into a file; `clear FOLDER` removes a folder and what is in it;
+//! - `file PATH BYTES` puts bytes into a file; `folder FOLDER` makes a folder, and `clear FOLDER`
+//!   removes it and what is in it;
 //! - `there PATH` tells whether there is a file of this path, and `trace PATH` of how many
 //!   partitions the logs are shown in the trace of a demonstration that it holds;
 //! - `input FILE` is what standard input has from here on, and `input FILE N` the same, where a
@@ -14,8 +15,9 @@
 //!   status, and what it wrote on standard error: of wrong arguments only that there are words, of
 //!   anything else each line after `! `. The word `""` is an empty one; in their place `TAKEN` is a
 //!   port on which another listens;
-//! - `help WORDS` is the same, but of standard output it tells only that there are words, and
-//!   `count WORDS` the same, but of standard error it tells only how many lines there are;
+//! - `help WORDS` is the same, but of standard output it tells only that there are words,
+//!   `verdict WORDS` the same, but it tells only its lines from the one that begins with `audit `
+//!   on, and `count WORDS` the same, but of standard error it tells only how many lines there are;
 //! - `no_words KIND` runs it where its words can't be had: `text` where one isn't text, `memory`
 //!   where memory ran out.
 use crate::happened::Happened;
@@ -53,6 +55,8 @@ enum Telling {
     Text,
     // of standard output only that there are words
     Words,
+    // of standard output only the verdict of an audit
+    Verdict,
     // of standard error only how many lines there are
     Lines,
 }
@@ -65,10 +69,25 @@ fn tell_words(told: &mut String, text: &str) -> Result<(), AllocError> {
     writeln!(told, "words")
 }
 
+// Tells the verdict of an audit, which ends what was written.
+fn tell_verdict(told: &mut String, text: &str) -> Result<(), AllocError> {
+    let mut is_there = false;
+    for line in text.lines() {
+        is_there = is_there || line.starts_with("audit ");
+        if is_there {
+            writeln!(told, "{line}")?;
+        }
+    }
+    Ok(())
+}
+
 // Tells what was written on standard output; a port may be any.
 fn tell_output(told: &mut String, text: &str, telling: Telling) -> Result<(), AllocError> {
     if telling == Telling::Words {
         return tell_words(told, text);
+    }
+    if telling == Telling::Verdict {
+        return tell_verdict(told, text);
     }
     for line in text.lines() {
         if line.starts_with("listening ") {
@@ -233,6 +252,9 @@ impl<
         match words {
             ["bytes", name, "=", bytes] => self.texts.name(name, bytes)?,
             ["file", path, bytes] => self.put(path, bytes)?,
+            ["folder", folder] => {
+                fs::create_dir_all(&self.rt, *folder).map_err(|_| StepFault::Unknown)?;
+            }
             ["clear", folder] => {
                 let _is_gone = fs::remove_dir_all(&self.rt, *folder);
             }
@@ -254,6 +276,7 @@ impl<
             ["run"] => self.run_words(&[], Telling::Text),
             ["run", given @ ..] => self.run_words(given, Telling::Text),
             ["help", given @ ..] => self.run_words(given, Telling::Words),
+            ["verdict", given @ ..] => self.run_words(given, Telling::Verdict),
             ["count", given @ ..] => self.run_words(given, Telling::Lines),
             ["no_words", kind] => self.run_without(kind),
             _ => self.prepare(words),

@@ -2,8 +2,9 @@
 use crate::lines::{Lines, next_line};
 use crossbeam_channel::Receiver;
 use kx_cases::{StepFault, value};
-use kx_kafka_server::{KafkaOptions, KafkaServeFault, Topics, serve_kafka, topics_asked};
-use kx_server::{Connections, Partitions, ServeFault, ServeOptions, Until, serve};
+use kx_kafka_server::{Topics, topics_asked};
+use kx_serve::{KafkaOptions, ServeFault, ServeOptions, serve, serve_kafka};
+use kx_server::{Connections, Partitions, Until};
 use std::alloc::{AllocError, Global};
 use std::fs::{File, Files};
 use std::net::{Net, TcpListener, TcpStream};
@@ -49,6 +50,7 @@ impl Wanted {
             connections: self.connections,
             port: 0,
             dir: self.dir.as_deref(),
+            traces: None,
             expires: self.expires,
             session_timeout: None,
             tells_progress: false,
@@ -95,6 +97,7 @@ impl Stock {
             makes_topics: self.makes_topics,
             port: 0,
             dir: self.dir.as_deref(),
+            traces: None,
             connections: self.connections,
             until: Until::Served,
             tells_progress: false,
@@ -103,13 +106,7 @@ impl Stock {
 }
 
 /// How a server ended.
-#[derive(Drop)]
-pub(crate) enum Ended {
-    /// One of the project's own protocol.
-    Own(Result<(), ServeFault>),
-    /// One of stock clients.
-    Stock(Result<(), KafkaServeFault>),
-}
+pub(crate) type Ended = Result<(), ServeFault>;
 
 /// A server on a thread of its own.
 #[derive(Drop)]
@@ -149,7 +146,7 @@ impl Running {
         R::Dir: Send,
     {
         let (mut out, lines) = Lines::new(rt, alloc)?;
-        let run = move || Ended::Own(serve(rt, &wanted.options(), &mut out));
+        let run = move || serve(rt, &wanted.options(), &mut out);
         let Ok(server) = thread::spawn(&rt, run) else {
             return Err(AllocError);
         };
@@ -175,7 +172,7 @@ impl Running {
         R::Dir: Send,
     {
         let (mut out, lines) = Lines::new(rt, alloc)?;
-        let run = move || Ended::Stock(serve_kafka(rt, &wanted.options(), &mut out));
+        let run = move || serve_kafka(rt, &wanted.options(), &mut out);
         let Ok(server) = thread::spawn(&rt, run) else {
             return Err(AllocError);
         };
@@ -208,11 +205,10 @@ impl Running {
     }
 }
 
-/// Tells the number, where it has one, and the words of the fault of a server, if there is one.
+/// Tells the number and the words of the fault of a server, if there is one.
 pub(crate) fn tell_end(told: &mut String, ended: Ended) -> Result<(), AllocError> {
     match ended {
-        Ended::Own(Ok(())) | Ended::Stock(Ok(())) => Ok(()),
-        Ended::Own(Err(fault)) => writeln!(told, "fault {} {fault}", fault.number()),
-        Ended::Stock(Err(fault)) => writeln!(told, "fault {fault}"),
+        Ok(()) => Ok(()),
+        Err(fault) => writeln!(told, "fault {} {fault}", fault.number()),
     }
 }

@@ -29,10 +29,10 @@
 //!   and how often it was told that it waits.
 use crate::clients::Clients;
 use crate::folder::{append, clear, rename, shorten, tell_there};
-use crate::running::{Ended, Running, Stock, Wanted, tell_end};
+use crate::running::{Running, Stock, Wanted, tell_end};
 use crate::waiting::tell_patience;
 use kx_cases::{StepFault, Texts, value};
-use kx_server::serve;
+use kx_serve::serve;
 use std::alloc::{AllocError, Global};
 use std::fs::{File, Files};
 use std::net::{Net, TcpListener, TcpStream};
@@ -124,7 +124,7 @@ where
     fn rival(&mut self, dir: &str) -> Result<(), StepFault> {
         let wanted = Wanted::new(self.alloc, "1", "1", Some(dir), false)?;
         let mut out = Vec::new(self.alloc);
-        let ended = Ended::Own(serve(self.rt, &wanted.options(), &mut out));
+        let ended = serve(self.rt, &wanted.options(), &mut out);
         Ok(tell_end(&mut self.told, ended)?)
     }
 

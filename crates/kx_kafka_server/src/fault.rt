@@ -1,5 +1,4 @@
-//! Why a server doesn't serve stock clients.
-use kx_server::ServeFault;
+//! Why stock clients aren't served.
 use std::alloc::AllocError;
 use std::fmt;
 use std::fmt::{Display, Formatter};
@@ -23,12 +22,13 @@ impl Display for GatewayFile {
     }
 }
 
-/// Why a server doesn't serve stock clients. Nothing was served.
+/// Why stock clients aren't served. A file of the gateway may have lost a torn last line, and may
+/// have topics that were asked for.
 #[derive(Clone, Copy, Debug, PartialEq, Eq, Error)]
-pub enum KafkaServeFault {
-    /// As with the project's own protocol.
-    #[error("{0}")]
-    Serve(ServeFault),
+pub enum GatewayFault {
+    /// Memory ran out.
+    #[error("out of memory")]
+    Memory,
     /// A line of a file, counted from 1, isn't what the gateway writes.
     #[error("{file}: line {line} is damaged")]
     Damaged {
@@ -52,14 +52,8 @@ pub enum KafkaServeFault {
 }
 
 /// Memory ran out.
-impl From<AllocError> for KafkaServeFault {
+impl From<AllocError> for GatewayFault {
     fn from(_: AllocError) -> Self {
-        KafkaServeFault::Serve(ServeFault::Memory)
-    }
-}
-
-impl From<ServeFault> for KafkaServeFault {
-    fn from(fault: ServeFault) -> Self {
-        KafkaServeFault::Serve(fault)
+        GatewayFault::Memory
     }
 }

@@ -18,11 +18,11 @@ mod numbers;
 mod producers;
 mod protocol;
 mod replies;
-mod serving;
 mod table;
 mod transacting;
 
 pub use asked::{AskFault, topics_asked};
-pub use fault::{GatewayFile, KafkaServeFault};
+pub use fault::{GatewayFault, GatewayFile};
 pub use kx_gateway::{TopicFault, Topics};
-pub use serving::{KafkaOptions, serve_kafka};
+pub use link::StockLink;
+pub use protocol::{GatewayOptions, Kafka};

@@ -13,7 +13,7 @@ const PIECE: usize = 65_536;
 /// A connection: what is read from it waits in its inbox, and one thread takes each request when the
 /// one before was answered, so that responses are in order.
 #[derive(Drop)]
-pub(crate) struct StockLink {
+pub struct StockLink {
     pub(crate) shared: Arc<Shared>,
     pub(crate) peer: Arc<Peer>,
     pub(crate) inbox: Inbox,

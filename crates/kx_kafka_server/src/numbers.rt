@@ -2,7 +2,7 @@
 //! of a server in the same folder neither: they are reserved in blocks, each by a byte of a file.
 ghost use Rattle.std.specs.Prelude.{◌≡◌, ◌<◌, ◌+◌, MatchBool, MatchOption};
 
-use crate::fault::{GatewayFile, KafkaServeFault};
+use crate::fault::{GatewayFault, GatewayFile};
 use crate::kept::Lines;
 use kx_message::ClientId;
 use kx_txnlog::Entry;
@@ -84,7 +84,7 @@ impl Numbers {
         alloc: Global,
         mut lines: Lines,
         entries: &[Entry],
-    ) -> Result<Numbers, KafkaServeFault> {
+    ) -> Result<Numbers, GatewayFault> {
         let kept = lines.load(alloc)?.len();
         let blocks = kept.max(blocks_of(owners_end(entries)));
         if blocks > kept {
@@ -96,7 +96,7 @@ impl Numbers {
             .and_then(|blocks| blocks.checked_mul(BLOCK));
         let Some(used) = used else {
             let file = GatewayFile::Clients;
-            return Err(KafkaServeFault::Device { file });
+            return Err(GatewayFault::Device { file });
         };
         Ok(Numbers {
             free: Mutex::new(Free {

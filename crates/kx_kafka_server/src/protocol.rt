@@ -1,14 +1,19 @@
 //! Kafka's protocol, as a server's connections speak it.
 use crate::answering::Session;
+use crate::fault::{GatewayFault, GatewayFile};
 use crate::groups::Groups;
+use crate::kept::Lines;
 use crate::link::StockLink;
 use crate::numbers::Numbers;
 use crate::producers::Producers;
 use crate::table::Table;
+use kx_gateway::Topics;
 use kx_published::book::Naming;
 use kx_publishing::Readable;
 use kx_server::{Hub, Link, Peer, Protocol};
+use kx_txnlog::Entry;
 use std::alloc::{AllocError, Global};
+use std::fs::{File, Files};
 use std::sync::{Arc, Wait};
 use std::time::{Clock, Instant};
 
@@ -25,10 +30,52 @@ pub(crate) struct Shared {
     pub(crate) makes_topics: bool,
 }
 
+/// What stock clients find from the start.
+#[derive(Clone, Copy)]
+pub struct GatewayOptions<'a> {
+    /// The topics that are asked for.
+    pub topics: &'a Topics,
+    /// Whether a topic is made, with one partition, when a client first asks for it.
+    pub makes_topics: bool,
+    /// The folder of the tables of topics and client numbers, which is there; None keeps them in
+    /// memory.
+    pub dir: Option<&'a str>,
+}
+
 /// The protocol of stock clients.
 #[derive(Drop)]
-pub(crate) struct Kafka {
-    pub(crate) shared: Arc<Shared>,
+pub struct Kafka {
+    shared: Arc<Shared>,
+}
+
+impl Kafka {
+    /// The protocol over the tables of a folder, with what the coordinator's log says of
+    /// transactional ids.
+    ///
+    /// # Errors
+    ///
+    /// As [`GatewayFault`] has them.
+    pub fn open<R: Files<File = File> + AllocGlobal + Clock>(
+        rt: &R,
+        options: &GatewayOptions<'_>,
+        entries: &[Entry],
+    ) -> Result<Kafka, GatewayFault> {
+        let alloc = rt.alloc();
+        let topics = Lines::open(rt, options.dir, GatewayFile::Topics)?;
+        let clients = Lines::open(rt, options.dir, GatewayFile::Clients)?;
+        let shared = Shared {
+            table: Table::open(alloc, topics, options.topics)?,
+            numbers: Numbers::open(alloc, clients, entries)?,
+            producers: Producers::open(alloc, entries)?,
+            groups: Groups::new(alloc),
+            begun: Instant::now(rt).ok(),
+            makes_topics: options.makes_topics,
+        };
+        match Arc::new(alloc, shared) {
+            Ok(shared) => Ok(Kafka { shared }),
+            Err(_) => Err(GatewayFault::Memory),
+        }
+    }
 }
 
 impl Protocol for Kafka {

@@ -1,7 +1,7 @@
 //! The table of topics, which threads share and which outlives the server.
 ghost use Rattle.std.specs.Prelude.{◌≡◌, ◌++◌, ◌∷◌, [], OnErr, OnOk};
 
-use crate::fault::{GatewayFile, KafkaServeFault};
+use crate::fault::{GatewayFault, GatewayFile};
 use crate::kept::Lines;
 use kx_gateway::{Topic, TopicFault, Topics, TopicsFault, read_topics, topic_line};
 use std::alloc::{AllocError, Global};
@@ -49,17 +49,17 @@ impl Kept {
     }
 
     // A topic that is asked for at the start: it is there, or is made.
-    fn begin_with(&mut self, alloc: Global, topic: &Topic) -> Result<(), KafkaServeFault> {
+    fn begin_with(&mut self, alloc: Global, topic: &Topic) -> Result<(), GatewayFault> {
         match self.topics.count_of(topic.name()) {
             Some(count) if count == topic.count() => return Ok(()),
-            Some(_) => return Err(KafkaServeFault::Differs),
+            Some(_) => return Err(GatewayFault::Differs),
             None => {}
         }
         match self.make(alloc, topic.name(), topic.count()) {
             Ok(()) => Ok(()),
             Err(MakeFault::Refused(TopicFault::Memory)) => Err(AllocError.into()),
-            Err(MakeFault::Refused(_)) => Err(KafkaServeFault::Full),
-            Err(MakeFault::Device) => Err(KafkaServeFault::Device {
+            Err(MakeFault::Refused(_)) => Err(GatewayFault::Full),
+            Err(MakeFault::Device) => Err(GatewayFault::Device {
                 file: GatewayFile::Topics,
             }),
         }
@@ -78,14 +78,14 @@ impl Table {
         alloc: Global,
         mut lines: Lines,
         asked: &Topics,
-    ) -> Result<Table, KafkaServeFault> {
+    ) -> Result<Table, GatewayFault> {
         let text = lines.load(alloc)?;
         let (topics, len) = match read_topics(alloc, text.as_slice()) {
             Ok(read) => read,
             Err(TopicsFault::Memory) => return Err(AllocError.into()),
             Err(TopicsFault::Damaged { line }) => {
                 let file = GatewayFile::Topics;
-                return Err(KafkaServeFault::Damaged { file, line });
+                return Err(GatewayFault::Damaged { file, line });
             }
         };
         lines.cut(len)?;

@@ -2,7 +2,7 @@
 ghost use Rattle.std.specs.Prelude.{◌≡◌};
 
 use kx_nodes::NodeFault;
-use kx_server::ServeFault;
+use kx_server::ServerFault;
 use std::alloc::{AllocError, AllocFailed};
 use thiserror::Error;
 
@@ -54,10 +54,10 @@ impl From<NodeFault> for PlayFault {
 }
 
 /// A server that serves no more: since the network fails, or memory or threads ran out.
-impl From<ServeFault> for PlayFault {
-    fn from(fault: ServeFault) -> Self {
+impl From<ServerFault> for PlayFault {
+    fn from(fault: ServerFault) -> Self {
         match fault {
-            ServeFault::Net { .. } => PlayFault::Net,
+            ServerFault::Net { .. } => PlayFault::Net,
             _ => PlayFault::Memory,
         }
     }

@@ -7,7 +7,7 @@ use crate::setup::{CLIENTS, Setup};
 use crate::wires::{Wires, listen_on_any, port_of};
 use kx_nodes::{Receipt, Trace};
 use kx_relay::Draw;
-use kx_server::{Connections, Partitions, ServeOptions};
+use kx_server::{Connections, Partitions, ServerOptions};
 use std::alloc::Global;
 use std::net::{Net, TcpListener, TcpStream};
 use std::sync::{Arc, Wait};
@@ -58,15 +58,12 @@ fn join_clients<R: Threads + Wait>(
 }
 
 // What the server is asked for: a connection for each client, and no expiry.
-fn serving() -> ServeOptions<'static> {
-    ServeOptions {
+fn serving() -> ServerOptions {
+    ServerOptions {
         partitions: Partitions::new(u16::from(2 * INPUTS)).unwrap(),
         connections: Connections::new(CLIENTS).unwrap(),
-        port: 0,
-        dir: None,
         expires: false,
         session_timeout: None,
-        tells_progress: false,
     }
 }
 

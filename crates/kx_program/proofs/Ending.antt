@@ -5,9 +5,11 @@ use Rattle.std.specs.Prelude.{OnOk}
 use Rattle.std.specs.Io.KnownBytes.{Appends, Keeps}
 use Rattle.kx_demo.specs.Telling.{Tells, SaysYes, SaysNo, GaveUp, Fails}
 use Rattle.kx_demo.specs.declared.fault.DemoFault.{DemoFault}
-use Rattle.kx_program.specs.Program.{DumpsBytes, DumpsFile, Plays, ServesStock}
-use Rattle.kx_kafka_server.specs.declared.fault.KafkaServeFault.{KafkaServeFault}
+use Rattle.kx_program.specs.Program.{Audits, DumpsBytes, DumpsFile, Plays, ServesStock}
+use Rattle.kx_serve.specs.declared.fault.ServeFault.{ServeFault}
 use Rattle.kx_server.specs.Lines.{Listens}
+use Rattle.kx_server_audit.specs.Telling as audit
+use Rattle.kx_server_audit.specs.declared.fault.AuditFault.{AuditFault}
 use Rattle.kx_text.specs.Statuses.{ending_of}
 use Rattle.kx_text.specs.declared.fault.ScriptFault.{ScriptFault}
 use Rattle.kx_text.specs.declared.program.Ending.{Ending}
@@ -50,7 +52,26 @@ tells_kept old mid new _ kept (SaysNo trails receipts why refused printed) =
 tells_kept old mid new _ kept (GaveUp printed) = GaveUp (appends_kept old mid new _ printed kept)
 tells_kept old mid new _ kept (Fails why other) = Fails why other
 
--- a demonstration, and a flush behind it
+audit_kept : (compares : Bool) (old mid new : Option (List ℕ))
+    (audited : Result Bool AuditFault) → Keeps mid new → audit.Tells compares old mid audited
+    → audit.Tells compares old new audited
+audit_kept compares old mid new _ kept (audit.TellsYes f words none yes printed) =
+    audit.TellsYes f words none yes (appends_kept old mid new _ printed kept)
+audit_kept compares old mid new _ kept (audit.TellsNo f words denial some printed) =
+    audit.TellsNo f words denial some (appends_kept old mid new _ printed kept)
+audit_kept compares old mid new _ kept (audit.Fails why) = audit.Fails why
+
+-- the audit of a server, and a flush after it
+pub audits_flushed : (compares : Bool) (old mid new : Option (List ℕ)) (before after : Ending)
+    → Keeps mid new → (after ≡ ending.Failed) ⊎ (after ≡ before)
+    → Audits compares old mid before → Audits compares old new after
+audits_flushed compares old mid new before after kept (inl failed) audits = inl failed
+audits_flushed compares old mid new before after kept (inr same) (inl failed) =
+    inl (same ∙ failed)
+audits_flushed compares old mid new before after kept (inr same) (inr (audited, tells, is)) =
+    inr (audited, audit_kept compares old mid new audited kept tells, same ∙ is)
+
+-- a demonstration, and a flush after it
 pub plays_flushed : (old mid new : Option (List ℕ)) (before after : Ending) → Keeps mid new
     → (after ≡ ending.Failed) ⊎ (after ≡ before) → Plays old mid before → Plays old new after
 plays_flushed old mid new before after kept (inl failed) plays = inl failed
@@ -59,7 +80,7 @@ plays_flushed old mid new before after kept (inr same) (inr (played, tells, is))
     inr (played, tells_kept old mid new played kept tells, same ∙ is)
 
 -- stock clients were served, or weren't
-pub stock_served : (served : Result (Unit {0}) KafkaServeFault) (old new : Option (List ℕ))
+pub stock_served : (served : Result (Unit {0}) ServeFault) (old new : Option (List ℕ))
     (how : Ending) → OnOk served (Listens old new) → how ≡ ending_of served
     → ServesStock old new how
 stock_served (Ok done) old new how listens is = subst (ServesStock old new) (sym is) listens

@@ -57,3 +57,7 @@ asks_no_file name rows is_watched (task.Demo demo) is none asked =
     let named : name ≡ codes "demo" = asked.0 in
     let bad : 117 ≡ 101 = ap (λ (t : Text). slice_index t 1) (sym is ∙ named) in
     absurd (omega (arith, bad))
+asks_no_file name rows is_watched (task.Audit audit) is none asked =
+    let named : name ≡ codes "audit" = asked.0 in
+    let bad : 100 ≡ 97 = ap (λ (t : Text). slice_index t 0) (sym is ∙ named) in
+    absurd (omega (arith, bad))

@@ -1,6 +1,6 @@
 -- What the program does for its words: what it reads and writes, and how it ends.
 use Rattle.std.specs.Prelude.{◌≡◌, ◌⊎◌, Bool, true, List, ℕ, Option, Result, Err, IfSome, MatchOption}
-use Rattle.std.specs.Prelude.{MatchResult, OnOk, map, string_bytes}
+use Rattle.std.specs.Prelude.{MatchResult, OnOk, is_some, map, string_bytes}
 use Rattle.std.specs.Io.KnownBytes.{Keeps}
 use Rattle.std.specs.declared.io.ErrorKind.{ErrorKind as IoKind}
 use Rattle.std.specs.declared.io.ErrorKind.TheVariants as io
@@ -8,14 +8,16 @@ use Rattle.clap.specs.Words.{Text}
 use Rattle.kx_demo.specs.Telling.{Tells}
 use Rattle.kx_demo.specs.declared.fault.DemoFault.{DemoFault}
 use Rattle.kx_program.specs.Asking.{EndsRefused, IsRefusedFor}
-use Rattle.kx_program.specs.Endings.{ending_of_demo}
+use Rattle.kx_program.specs.Endings.{ending_of_audit, ending_of_demo}
 use Rattle.kx_program.specs.Tasks.{WordsAskFor}
 use Rattle.kx_program.specs.declared.asking.Refusal.{Refusal}
 use Rattle.kx_program.specs.declared.task.Task.{Task}
 use Rattle.kx_program.specs.declared.task.Task.TheVariants as task
 use Rattle.kx_script.specs.Script.{Ends}
 use Rattle.kx_server.specs.Lines.{Listens, Prints}
-use Rattle.kx_server.specs.declared.fault.ServeFault.{ServeFault}
+use Rattle.kx_serve.specs.declared.fault.ServeFault.{ServeFault}
+use Rattle.kx_server_audit.specs.Telling as audit
+use Rattle.kx_server_audit.specs.declared.fault.AuditFault.{AuditFault}
 use Rattle.kx_text.specs.Dump.{Dumps}
 use Rattle.kx_text.specs.Statuses.{ending_of}
 use Rattle.kx_text.specs.declared.dump.DumpFault.{DumpFault}
@@ -55,6 +57,12 @@ abbrev pub Plays : Option (List ℕ) → Option (List ℕ) → Ending → Type 0
 Plays old new how = (how ≡ ending.Failed) ⊎ ((played : Result Bool DemoFault)
     × Tells old new played × (how ≡ ending_of_demo played))
 
+-- a server was audited and told, its logs too where they were to be compared; else the program
+-- failed
+abbrev pub Audits : Bool → Option (List ℕ) → Option (List ℕ) → Ending → Type 0
+Audits compares old new how = (how ≡ ending.Failed) ⊎ ((audited : Result Bool AuditFault)
+    × audit.Tells compares old new audited × (how ≡ ending_of_audit audited))
+
 -- what was asked for was done
 abbrev pub Performs : Option (List ℕ) → Option (List ℕ) → Option (List ℕ) → Task → Ending → Type 0
 Performs input old new task.Sim how = Simulates input old new how
@@ -62,6 +70,7 @@ Performs input old new (task.Dump path) how = DumpsFile old new how
 Performs input old new (task.Serve options) how = ServesAll options.connections old new how
 Performs input old new (task.Kafka asked) how = ServesStock old new how
 Performs input old new (task.Demo asked) how = Plays old new how
+Performs input old new (task.Audit asked) how = Audits (is_some asked.logs) old new how
 
 -- where the words can't be had: one that isn't text is wrong
 abbrev pub IsWithoutWords : IoKind → Ending → Type 0

@@ -10,7 +10,8 @@ use Rattle.kx_program.specs.declared.task.Demonstration.{Demonstration}
 use Rattle.kx_program.specs.declared.task.StockClients.{StockClients}
 use Rattle.kx_program.specs.declared.task.Task.{Task}
 use Rattle.kx_program.specs.declared.task.Task.TheVariants as task
-use Rattle.kx_server.specs.declared.options.ServeOptions.{ServeOptions}
+use Rattle.kx_serve.specs.declared.options.ServeOptions.{ServeOptions}
+use Rattle.kx_server_audit.specs.declared.server.AuditOptions.{AuditOptions}
 
 -- the text is this number of so many bits, in decimal digits
 abbrev pub Writes : ℕ → Option Text → ℕ → Type 0
@@ -40,6 +41,7 @@ pub record IsServe (rows : List Row) (is_watched : Bool) (options : ServeOptions
   pub connections_fit : IsWithin 1 1024 options.connections
   pub port : Writes 16 (one_of (codes "port") rows) options.port
   pub dir : option_map (λ d. d.now) options.dir ≡ first_of (codes "dir") rows
+  pub traces : option_map (λ d. d.now) options.traces ≡ first_of (codes "trace") rows
   pub tells : options.tells_progress ≡ is_watched
   pub expires : Flags (one_of (codes "expire") rows) options.expires
   pub session : Writes 32 (one_of (codes "session-timeout") rows)
@@ -51,6 +53,7 @@ pub record IsKafka (rows : List Row) (is_watched : Bool) (asked : StockClients) 
   pub topics : option_map (λ t. t.now) asked.topics ≡ first_of (codes "topics") rows
   pub port : Writes 16 (one_of (codes "port") rows) asked.port
   pub dir : option_map (λ d. d.now) asked.dir ≡ first_of (codes "dir") rows
+  pub traces : option_map (λ d. d.now) asked.traces ≡ first_of (codes "trace") rows
   pub makes : Flags (one_of (codes "no-auto-topics") rows) asked.no_auto_topics
   pub tells : asked.tells_progress ≡ is_watched
 
@@ -71,6 +74,12 @@ pub record IsDemo (rows : List Row) (asked : Demonstration) : Type 0 where
   pub plays : IsPlay rows asked.options
   pub trace : option_map (λ t. t.now) asked.trace ≡ first_of (codes "trace") rows
 
+-- the options of `audit`
+pub record IsAudit (rows : List Row) (is_watched : Bool) (asked : AuditOptions) : Type 0 where
+  pub traces : first_of (codes "DIR") rows ≡ Some asked.traces.now
+  pub logs : option_map (λ d. d.now) asked.logs ≡ first_of (codes "dir") rows
+  pub tells : asked.tells_progress ≡ is_watched
+
 -- the subcommand of this name asks for this, with these options
 abbrev pub IsAsked : Text → List Row → Bool → Task → Type 0
 IsAsked name rows is_watched task.Sim = name ≡ codes "sim"
@@ -81,6 +90,8 @@ IsAsked name rows is_watched (task.Serve options) =
 IsAsked name rows is_watched (task.Kafka asked) =
     (name ≡ codes "kafka") × IsKafka rows is_watched asked
 IsAsked name rows is_watched (task.Demo asked) = (name ≡ codes "demo") × IsDemo rows asked
+IsAsked name rows is_watched (task.Audit asked) =
+    (name ≡ codes "audit") × IsAudit rows is_watched asked
 
 -- what was found of a subcommand asks for this
 abbrev pub AsksFor : Option (Text × List Row) → Bool → Task → Type 0

@@ -42,6 +42,9 @@ port_rule = read_by (between 0 65535) (with_default (codes "0") (option_of (code
 abbrev pub dir_rule : Rule
 dir_rule = read_by parser.NonEmptyString (option_of (codes "dir"))
 
+abbrev pub traces_rule : Rule
+traces_rule = read_by parser.NonEmptyString (option_of (codes "trace"))
+
 abbrev pub expire_rule : Rule
 expire_rule = record (new_rule (codes "expire")) {
   long = Some (codes "expire");
@@ -53,9 +56,9 @@ session_timeout_rule =
     read_by (between 0 900000) (with_default (codes "0") (option_of (codes "session-timeout")))
 
 abbrev pub serve_app : App
-serve_app = with_rule (with_rule (with_rule (with_rule (with_rule (with_rule
-    (new_app (codes "serve")) partitions_rule) connections_rule) port_rule) dir_rule) expire_rule)
-    session_timeout_rule
+serve_app = with_rule (with_rule (with_rule (with_rule (with_rule (with_rule (with_rule
+    (new_app (codes "serve")) partitions_rule) connections_rule) port_rule) dir_rule) traces_rule)
+    expire_rule) session_timeout_rule
 
 abbrev pub topics_rule : Rule
 topics_rule = read_by parser.NonEmptyString (option_of (codes "topics"))
@@ -70,8 +73,8 @@ no_auto_topics_rule = record (new_rule (codes "no-auto-topics")) {
 }
 
 abbrev pub kafka_app : App
-kafka_app = with_rule (with_rule (with_rule (with_rule (new_app (codes "kafka"))
-    topics_rule) kafka_port_rule) dir_rule) no_auto_topics_rule
+kafka_app = with_rule (with_rule (with_rule (with_rule (with_rule (new_app (codes "kafka"))
+    topics_rule) kafka_port_rule) dir_rule) traces_rule) no_auto_topics_rule
 
 abbrev pub workers_rule : Rule
 workers_rule = read_by (between 1 16) (with_default (codes "4") (option_of (codes "workers")))
@@ -97,6 +100,15 @@ demo_app = with_rule (with_rule (with_rule (with_rule (with_rule (with_rule
     (new_app (codes "demo")) workers_rule) records_rule) seed_rule) lose_rule) hold_rule)
     trace_rule
 
+abbrev pub audited_rule : Rule
+audited_rule = needed (record (new_rule (codes "DIR")) { action = Some Set })
+
+abbrev pub logs_rule : Rule
+logs_rule = option_of (codes "dir")
+
+abbrev pub audit_app : App
+audit_app = with_rule (with_rule (new_app (codes "audit")) audited_rule) logs_rule
+
 -- a subcommand has to be there
 abbrev pub with_needed_subcommand : App → App
 with_needed_subcommand app = record app { top = record app.top { subcommand_required = true } }
@@ -104,5 +116,5 @@ with_needed_subcommand app = record app { top = record app.top { subcommand_requ
 -- the whole command line
 abbrev pub program_app : App
 program_app = with_subcommand (with_subcommand (with_subcommand (with_subcommand (with_subcommand
-    (with_needed_subcommand (new_app (codes "kx_main"))) sim_app.top) dump_app.top) serve_app.top)
-    kafka_app.top) demo_app.top
+    (with_subcommand (with_needed_subcommand (new_app (codes "kx_main"))) sim_app.top)
+    dump_app.top) serve_app.top) kafka_app.top) demo_app.top) audit_app.top

@@ -4,9 +4,10 @@ ghost use Rattle.std.specs.Io.Buffered.{writer_contents};
 ghost use Rattle.kx_program.specs.Program.{ServesStock};
 ghost use Rattle.kx_text.specs.declared.program.Ending.TheVariants as ending;
 
-use crate::streams::{failed, kafka_ending};
+use crate::streams::{failed, served_ending};
 use crate::task::StockClients;
-use kx_kafka_server::{AskFault, KafkaOptions, TopicFault, Topics, serve_kafka, topics_asked};
+use kx_kafka_server::{AskFault, TopicFault, Topics, topics_asked};
+use kx_serve::{KafkaOptions, serve_kafka};
 use kx_server::{Connections, Until};
 use kx_text::Ending;
 use std::alloc::Global;
@@ -73,12 +74,13 @@ fn serve_stock<
         makes_topics: !asked.no_auto_topics,
         port: asked.port,
         dir: asked.dir,
+        traces: asked.traces,
         connections,
         until: Until::Killed,
         tells_progress: asked.tells_progress,
     };
     let served = serve_kafka(*rt, &options, out);
-    kafka_ending(served, errors)
+    served_ending(served, errors)
 }
 
 /// Serves stock clients until the process is killed.

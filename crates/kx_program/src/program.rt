@@ -1,18 +1,21 @@
 //! Doing what the words of a command line ask for.
-ghost use Rattle.std.specs.Prelude.{◌≡◌, ◌⊎◌, MatchResult, map, string_bytes};
+ghost use Rattle.std.specs.Prelude.{◌≡◌, ◌⊎◌, MatchResult, is_some, map, string_bytes};
 ghost use Rattle.std.specs.Io.Buffered.{writer_contents};
 ghost use Rattle.std.specs.Io.KnownBytes.{Keeps};
 ghost use Rattle.std.specs.IoError.{error_kind};
 ghost use Rattle.kx_program.specs.Asking.{EndsRefused};
-ghost use Rattle.kx_program.specs.Program.{DoesWords, IsWithoutWords, Performs, Plays};
+ghost use Rattle.kx_program.specs.Program.{Audits, DoesWords, IsWithoutWords, Performs, Plays};
 ghost use Rattle.kx_text.specs.declared.program.Ending.TheVariants as ending;
 
 use crate::asking::{Refusal, asked};
 use crate::kafka::kafka;
-use crate::streams::{dump_read, failed, played_ending, served_ending, sim, usage_ending};
+use crate::streams::{
+    audit_ending, dump_read, failed, played_ending, served_ending, sim, usage_ending,
+};
 use crate::task::{Demonstration, Task};
 use kx_demo::DemoFault;
 use kx_play::PlayOptions;
+use kx_server_audit::{AuditOptions, audit_server};
 use kx_text::Ending;
 use std::alloc::Global;
 use std::fs::{File, Files};
@@ -97,6 +100,19 @@ fn flushed<O: Write, E: Write>(how: Ending, out: &mut O, errors: &mut E) -> Endi
     }
 }
 
+// Audits a server that ran.
+fn audit<R: Files<File = File> + AllocGlobal + Eprint, O: Write, E: Write>(
+    rt: &R,
+    asked: &AuditOptions<'_>,
+    out: &mut O,
+    errors: &mut E,
+) -> Ending
+    ensures { Audits (is_some asked.now.logs) (O.contents out.old) (O.contents out.new) result }
+{
+    let audited = audit_server(rt, asked, out);
+    audit_ending(audited, errors)
+}
+
 // Does what is asked for.
 fn perform<
     R: Files<File = File>
@@ -121,10 +137,14 @@ fn perform<
     match task {
         Task::Sim => sim(rt.alloc(), input, out, errors),
         Task::Dump(path) => dump_read(path, fs::read(rt, *path), out, errors),
-        Task::Serve(options) => served_ending(kx_server::serve(*rt, options, out), errors),
+        Task::Serve(options) => served_ending(kx_serve::serve(*rt, options, out), errors),
         Task::Kafka(asked) => kafka(rt, asked, out, errors),
         Task::Demo(asked) => {
             let ending = demo(rt, asked, out, errors);
+            flushed(ending, out, errors)
+        }
+        Task::Audit(asked) => {
+            let ending = audit(rt, asked, out, errors);
             flushed(ending, out, errors)
         }
     }

@@ -3,7 +3,7 @@ ghost use Rattle.std.specs.Prelude.{◌≡◌, ◌⊎◌, [], Result, IfSome, Ma
 ghost use Rattle.std.specs.Io.Buffered.{writer_buffer, writer_contents};
 ghost use Rattle.std.specs.Io.KnownBytes.{Keeps};
 ghost use Rattle.clap.specs.Words.{kind_of};
-ghost use Rattle.kx_program.specs.Endings.{IsUsageEnding, ending_of_demo};
+ghost use Rattle.kx_program.specs.Endings.{IsUsageEnding, ending_of_audit, ending_of_demo};
 ghost use Rattle.kx_script.specs.Script.{Ends};
 ghost use Rattle.kx_text.specs.Dump.{Dumps};
 ghost use Rattle.kx_text.specs.Statuses.{ending_of};
@@ -13,9 +13,9 @@ ghost use Rattle.kx_text.specs.declared.program.Ending.TheVariants as ending;
 
 use clap::error::ErrorKind as UsageFault;
 use kx_demo::DemoFault;
-use kx_kafka_server::KafkaServeFault;
 use kx_script::run_sim;
-use kx_server::ServeFault;
+use kx_serve::ServeFault;
+use kx_server_audit::AuditFault;
 use kx_text::{DumpFault, Ending, ScriptFault, run_dump};
 use std::alloc::Global;
 use std::io::{BufRead, BufWriter, Write};
@@ -99,17 +99,6 @@ pub fn served_ending<E: Write>(served: Result<(), ServeFault>, errors: &mut E) -
     }
 }
 
-/// How the program ends when a server of stock clients has ended. Of a fault it writes a line on
-/// standard error.
-pub fn kafka_ending<E: Write>(served: Result<(), KafkaServeFault>, errors: &mut E) -> Ending
-    ensures { result ≡ ending_of served }
-{
-    match served {
-        Ok(()) => Ending::Done,
-        Err(fault) => failed(errors, fault),
-    }
-}
-
 /// How the program ends when a demonstration has ended: well only where the audit said yes. Of a
 /// demonstration that gave up, and of an audit that refuses, the output already tells; of any other
 /// fault a line on standard error.
@@ -119,6 +108,18 @@ pub fn played_ending<E: Write>(played: Result<bool, DemoFault>, errors: &mut E) 
     match played {
         Ok(true) => Ending::Done,
         Ok(false) | Err(DemoFault::GaveUp) => Ending::Failed,
+        Err(fault) => failed(errors, fault),
+    }
+}
+
+/// How the program ends when the audit of a server has ended: well only where it said yes. Of a
+/// refusal the output already tells; of a fault a line on standard error.
+pub fn audit_ending<E: Write>(audited: Result<bool, AuditFault>, errors: &mut E) -> Ending
+    ensures { result ≡ ending_of_audit audited }
+{
+    match audited {
+        Ok(true) => Ending::Done,
+        Ok(false) => Ending::Failed,
         Err(fault) => failed(errors, fault),
     }
 }

@@ -2,18 +2,21 @@
 ghost use Rattle.std.specs.Prelude.{ℕ, ◌≡◌, MatchOption, Option, codes};
 ghost use Rattle.clap.specs.Words.{found_of, one_of, rows_of, subcommand_rows_of};
 ghost use Rattle.kx_play.specs.declared.options.PlayOptions.{PlayOptions};
-ghost use Rattle.kx_program.specs.Tasks.{AsksFor, IsDemo, IsKafka, IsPlay, IsServe, IsSession};
-ghost use Rattle.kx_program.specs.Tasks.{Writes, millis_of};
+ghost use Rattle.kx_program.specs.Tasks.{AsksFor, IsAudit, IsDemo, IsKafka, IsPlay, IsServe};
+ghost use Rattle.kx_program.specs.Tasks.{IsSession, Writes, millis_of};
 ghost use Rattle.kx_program.specs.declared.task.Demonstration.{Demonstration};
 ghost use Rattle.kx_program.specs.declared.task.StockClients.{StockClients};
 ghost use Rattle.kx_program.specs.declared.task.Task.{Task};
-ghost use Rattle.kx_server.specs.declared.options.ServeOptions.{ServeOptions};
+ghost use Rattle.kx_serve.specs.declared.options.ServeOptions.{ServeOptions};
+ghost use Rattle.kx_server_audit.specs.declared.server.AuditOptions.{AuditOptions};
 
 use clap::ArgMatches;
 use kx_message::Timeout;
 use kx_play::{PlayOptions, Records, WorkerCount};
 use kx_relay::{Holding, Losses};
-use kx_server::{Connections, Partitions, ServeOptions};
+use kx_serve::ServeOptions;
+use kx_server::{Connections, Partitions};
+use kx_server_audit::AuditOptions;
 
 /// What `demo` is asked for.
 #[derive(Clone, Copy)]
@@ -33,6 +36,8 @@ pub struct StockClients<'a> {
     pub port: u16,
     /// The folder of its files, if any.
     pub dir: Option<&'a str>,
+    /// The folder of its traces, if any.
+    pub traces: Option<&'a str>,
     /// Whether no topic is made when a client first asks for it.
     pub no_auto_topics: bool,
     /// Whether it tells on standard error which log it opens.
@@ -52,6 +57,8 @@ pub enum Task<'a> {
     Kafka(StockClients<'a>),
     /// Play the demonstration and audit it.
     Demo(Demonstration<'a>),
+    /// Audit a server by the traces that it left.
+    Audit(AuditOptions<'a>),
 }
 
 // A number that an option has, of 16 bits.
@@ -120,6 +127,7 @@ fn serve_options<'a>(given: &ArgMatches<'a>, is_watched: bool) -> Option<ServeOp
         connections: Connections::new(number_in(given, "connections")?)?,
         port: number_in(given, "port")?,
         dir: given.get_str("dir"),
+        traces: given.get_str("trace"),
         tells_progress: is_watched,
         expires: given.get_flag("expire"),
         session_timeout: session_in(given)?,
@@ -136,6 +144,7 @@ fn kafka_in<'a>(given: &ArgMatches<'a>, is_watched: bool) -> Option<StockClients
         topics: given.get_str("topics"),
         port: number_in(given, "port")?,
         dir: given.get_str("dir"),
+        traces: given.get_str("trace"),
         no_auto_topics: given.get_flag("no-auto-topics"),
         tells_progress: is_watched,
     })
@@ -168,9 +177,26 @@ fn demo_in<'a>(given: &ArgMatches<'a>) -> Option<Demonstration<'a>>
     })
 }
 
+// What `audit` is asked for.
+fn audit_in<'a>(given: &ArgMatches<'a>, is_watched: bool) -> Option<AuditOptions<'a>>
+    ensures { MatchOption result
+        ((asked : AuditOptions) → IsAudit (rows_of (found_of given.now)) is_watched asked → ⊥)
+        (IsAudit (rows_of (found_of given.now)) is_watched) }
+{
+    match given.get_str("DIR") {
+        Some(traces) => Some(AuditOptions {
+            traces,
+            logs: given.get_str("dir"),
+            tells_progress: is_watched,
+        }),
+        None => None,
+    }
+}
+
 /// What the words of a command line ask for, as clap found them; None where they name no
 /// subcommand, or an option has a value out of its range. `is_watched` says whether somebody
-/// watches standard error, so that a server tells there which logs it opens.
+/// watches standard error, so that a server tells there which logs it opens, and a long audit how
+/// far it is.
 pub fn task_in<'a>(found: &ArgMatches<'a>, is_watched: bool) -> Option<Task<'a>>
     ensures { MatchOption result
         ((what : Task) → AsksFor (subcommand_rows_of found.now) is_watched what → ⊥)
@@ -192,6 +218,10 @@ pub fn task_in<'a>(found: &ArgMatches<'a>, is_watched: bool) -> Option<Task<'a>>
         },
         Some(("demo", given)) => match demo_in(given) {
             Some(asked) => Some(Task::Demo(asked)),
+            None => None,
+        },
+        Some(("audit", given)) => match audit_in(given, is_watched) {
+            Some(asked) => Some(Task::Audit(asked)),
             None => None,
         },
         Some(_) | None => None,

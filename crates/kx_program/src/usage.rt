@@ -2,12 +2,14 @@
 ghost use Rattle.std.specs.Prelude.{◌≡◌, IfOk, false};
 ghost use Rattle.clap.specs.Words.{app_of, rule_of};
 ghost use Rattle.clap.specs.declared.builder.command.Command.TheViews.{out-Command};
-ghost use Rattle.kx_program.specs.Usage.{session_timeout_rule};
+ghost use Rattle.kx_program.specs.Usage.{audit_app, audited_rule, session_timeout_rule};
 ghost use Rattle.kx_program.specs.Usage.{connections_rule, demo_app, dir_rule, dump_app, expire_rule};
-ghost use Rattle.kx_program.specs.Usage.{hold_rule, kafka_app, kafka_port_rule, lose_rule, needed};
+ghost use Rattle.kx_program.specs.Usage.{hold_rule, kafka_app, kafka_port_rule, logs_rule, lose_rule};
+ghost use Rattle.kx_program.specs.Usage.{needed};
 ghost use Rattle.kx_program.specs.Usage.{no_auto_topics_rule, option_of, partitions_rule, port_rule};
 ghost use Rattle.kx_program.specs.Usage.{program_app, records_rule, seed_rule, serve_app, sim_app};
-ghost use Rattle.kx_program.specs.Usage.{topics_rule, trace_rule, with_default, workers_rule};
+ghost use Rattle.kx_program.specs.Usage.{topics_rule, trace_rule, traces_rule, with_default};
+ghost use Rattle.kx_program.specs.Usage.{workers_rule};
 
 use clap::builder::ValueParser;
 use clap::{Arg, ArgAction, Command};
@@ -83,6 +85,19 @@ fn dir<'a>(alloc: Global) -> Arg<'a>
         .action(ArgAction::Set)
         .value_parser(ValueParser::NonEmptyString)
         .help("Keeps the logs in files of this folder; else they are in memory")
+}
+
+// The folder of a server's traces. An empty name is wrong, as for its logs.
+fn traces<'a>(alloc: Global) -> Arg<'a>
+    ensures rule { rule_of result ≡ traces_rule }
+    ensures local { result.global ≡ false }
+{
+    Arg::new(alloc, "trace")
+        .long("trace")
+        .value_name("DIR")
+        .action(ArgAction::Set)
+        .value_parser(ValueParser::NonEmptyString)
+        .help("Writes what each node does into files of this folder, for the audit")
 }
 
 // Whether a server's clock aborts transactions.
@@ -235,6 +250,7 @@ fn serve_usage<'a>(alloc: Global) -> Result<Command<'a>, AllocError>
         .arg(connections(alloc))?
         .arg(port(alloc))?
         .arg(dir(alloc))?
+        .arg(traces(alloc))?
         .arg(expire(alloc))?
         .arg(session_timeout(alloc))
 }
@@ -249,6 +265,7 @@ fn kafka_usage<'a>(alloc: Global) -> Result<Command<'a>, AllocError>
         .arg(topics(alloc))?
         .arg(kafka_port(alloc))?
         .arg(dir(alloc))?
+        .arg(traces(alloc))?
         .arg(no_auto_topics(alloc))
 }
 
@@ -267,8 +284,42 @@ fn demo_usage<'a>(alloc: Global) -> Result<Command<'a>, AllocError>
         .arg(trace(alloc))
 }
 
-/// The command line: `kx_main sim`, `kx_main dump FILE`, `kx_main serve`, `kx_main kafka` or
-/// `kx_main demo`.
+// The folder of the traces that are audited.
+fn audited<'a>(alloc: Global) -> Arg<'a>
+    ensures rule { rule_of result ≡ audited_rule }
+    ensures local { result.global ≡ false }
+{
+    Arg::new(alloc, "DIR")
+        .required(true)
+        .action(ArgAction::Set)
+        .help("The folder of the traces")
+}
+
+// The folder of the logs that are compared. Any name may be that of a folder to be read.
+fn logs<'a>(alloc: Global) -> Arg<'a>
+    ensures rule { rule_of result ≡ logs_rule }
+    ensures local { result.global ≡ false }
+{
+    Arg::new(alloc, "dir")
+        .long("dir")
+        .value_name("LOGS")
+        .action(ArgAction::Set)
+        .help("Compares the logs of this folder with those to which the traces lead")
+}
+
+// `audit`.
+fn audit_usage<'a>(alloc: Global) -> Result<Command<'a>, AllocError>
+    ensures app { IfOk result (λ command. app_of command ≡ audit_app) }
+    ensures local { IfOk result (λ command. (out-Command command).has_globals ≡ false) }
+{
+    Command::new(alloc, "audit")
+        .about("Says whether a server that ran was exactly-once, by the traces that it left")
+        .arg(audited(alloc))?
+        .arg(logs(alloc))
+}
+
+/// The command line: `kx_main sim`, `kx_main dump FILE`, `kx_main serve`, `kx_main kafka`,
+/// `kx_main demo` or `kx_main audit DIR`.
 ///
 /// # Errors
 ///
@@ -283,5 +334,6 @@ pub fn command_line<'a>(alloc: Global) -> Result<Command<'a>, AllocError>
         .subcommand(dump_usage(alloc)?)?
         .subcommand(serve_usage(alloc)?)?
         .subcommand(kafka_usage(alloc)?)?
-        .subcommand(demo_usage(alloc)?)
+        .subcommand(demo_usage(alloc)?)?
+        .subcommand(audit_usage(alloc)?)
 }

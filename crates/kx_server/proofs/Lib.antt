@@ -1,3 +1,1 @@
-mod Books
-mod Printed
 mod Queues

@@ -1,10 +1,9 @@
 //! What the threads of a server share: its nodes with the readers of their logs, and over which
 //! connection each client is answered.
-use crate::members::Member;
 use crate::peer::Peer;
 use crate::readers::Readers;
 use crate::routes::Routes;
-use crate::sessions::Sessions;
+use crate::sessions::{Member, Sessions};
 use crate::watches::{Waker, Watches};
 use kx_broker::{answer_fetch, page_room};
 use kx_machine::Input;
@@ -40,6 +39,11 @@ pub struct Place<L: Readable, J: Naming, R: Wait + Drop> {
 }
 
 impl<L: Readable, J: Naming, R: Wait + Drop> Place<L, J, R> {
+    /// Whether pages are read from the published log of the node; else each is a step of it.
+    pub fn is_published(&self) -> bool {
+        self.readers.is_some()
+    }
+
     /// A node without readers: each page is a step of the node.
     pub fn unread(node: Arc<ServedNode<L, J, R>>) -> Self {
         Place {

@@ -1,21 +1,20 @@
-//! The server: all nodes of a core in one process, served to clients over sockets. A request goes
-//! to the node that it names, a reply to the connection that spoke last for its client. What nodes
-//! send to nodes goes through inboxes to workers. Pages are read from published logs, as no step.
+//! The threads of a server: all nodes of a core in one process, served to clients over sockets. A
+//! request goes to the node that it names, a reply to the connection that spoke last for its client.
+//! What nodes send to nodes goes through inboxes to workers. Pages are read from published logs, as
+//! no step. Where the nodes are from, and so where their logs are, is the caller's.
 #![tactic(auto)]
 
 mod asking;
 mod connection;
 mod fault;
-mod files;
 mod hub;
-mod locking;
-mod members;
-mod opening;
+mod lines;
+mod listening;
 mod operator;
 mod options;
 mod outbox;
-mod owed;
 mod peer;
+mod placing;
 mod protocol;
 mod queue;
 mod readers;
@@ -29,15 +28,18 @@ mod waiting;
 mod watches;
 
 pub use asking::{asker, missing_partition};
-pub use fault::{NetFault, ServeFault};
-pub use files::LogFile;
+pub use fault::{NetFault, ServerFault};
 pub use hub::{Answers, Hub, LogEnds, Place, ServedNode};
-pub use locking::lock_folder;
+pub use lines::tell;
 pub use operator::Operator;
-pub use options::{Connections, Partitions, ServeOptions};
+pub use options::{Connections, Partitions, ServerOptions};
 pub use peer::Peer;
-pub use protocol::{Link, Protocol};
+pub use placing::{Nodes, placed, unpublished};
+pub use protocol::{Link, OwnFrames, OwnLink, Protocol};
 pub use queue::{MOST_WAITING, Queue};
-pub use server::{Server, Until, serve, serve_speaking};
+pub use readers::MOST_READERS;
+pub use server::{Server, Until, serve_nodes};
+pub use sessions::Member;
+pub use ticking::moment;
 pub use waiting::wait_until;
 pub use watches::Waker;

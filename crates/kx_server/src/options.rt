@@ -8,23 +8,16 @@ pub type Partitions = Bounded<1, { PartitionId::DATA_COUNT }>;
 /// How many connections a server serves before it ends, 1 to 1,024.
 pub type Connections = Bounded<1, 1024>;
 
-/// What a server is asked for.
+/// What the threads of a server are asked for.
 #[derive(Clone, Copy)]
-pub struct ServeOptions<'a> {
+pub struct ServerOptions {
     /// How many data partitions it has.
     pub partitions: Partitions,
     /// How many connections it serves before it ends.
     pub connections: Connections,
-    /// The port on 127.0.0.1 on which it listens; 0 takes any that is free.
-    pub port: u16,
-    /// The folder in which it keeps its logs, as files, which is made where there is none; None
-    /// keeps them in memory. No folder has the empty name.
-    pub dir: Option<&'a str>,
     /// Whether its clock ends transactions that have lasted longer than they asked for. Else none
     /// ends by itself.
     pub expires: bool,
     /// How long nothing may be heard of a member of a group until it is dropped; None drops none.
     pub session_timeout: Option<Timeout>,
-    /// Whether it tells on standard error which log it opens, and how long that is.
-    pub tells_progress: bool,
 }

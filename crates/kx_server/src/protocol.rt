@@ -1,7 +1,7 @@
 //! The protocol that clients speak with a server.
 use crate::connection::Connection;
 use crate::hub::Hub;
-use crate::options::Partitions;
+use crate::options::{Partitions, ServerOptions};
 use crate::peer::Peer;
 use kx_published::book::Naming;
 use kx_publishing::Readable;
@@ -53,15 +53,26 @@ pub trait Protocol: Drop {
 
 /// The project's own protocol: frames of messages.
 #[derive(Drop)]
-pub(crate) struct OwnFrames {
-    pub(crate) partitions: Partitions,
+pub struct OwnFrames {
+    partitions: Partitions,
     // whether clients are heard, so that silent members can be dropped
-    pub(crate) hears: bool,
+    hears: bool,
+}
+
+impl OwnFrames {
+    /// The protocol of a server that is asked for this: members of groups are heard where silent
+    /// ones are dropped.
+    pub fn of(options: &ServerOptions) -> OwnFrames {
+        OwnFrames {
+            partitions: options.partitions,
+            hears: options.session_timeout.is_some(),
+        }
+    }
 }
 
 /// A connection whose clients send frames of messages.
 #[derive(Drop)]
-pub(crate) struct OwnLink {
+pub struct OwnLink {
     peer: Arc<Peer>,
     partitions: Partitions,
     hears: bool,

@@ -9,7 +9,7 @@ use std::sync::{Condvar, Mutex, Wait};
 /// The most readers of one published log. Each publish looks at every reader, and a reader is taken
 /// for no longer than it takes to copy a page, so there are few of them, however many connections
 /// there are.
-pub(crate) const MOST_READERS: usize = 16;
+pub const MOST_READERS: usize = 16;
 
 /// The readers of a published log that no connection has. None of them is in the log.
 #[derive(Drop)]

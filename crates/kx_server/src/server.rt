@@ -1,32 +1,28 @@
 //! The server, from its first connection to its last.
-ghost use Rattle.std.specs.Prelude.{◌≡◌, ◌≤◌, All, IfOk, OnOk, length};
-ghost use Rattle.std.specs.Io.KnownBytes.{Appends};
-ghost use Rattle.kx_message.specs.Ranges.{data_partitions, offsets_partition};
-ghost use Rattle.kx_server.specs.Lines.{Listens, Prints, line_of};
-ghost use Rattle.kx_server.specs.Opening.{HasBook, InOrder};
+ghost use Rattle.std.specs.Prelude.{◌≤◌, OnOk};
+ghost use Rattle.kx_server.specs.Lines.{Listens};
 
-use crate::fault::{NetFault, ServeFault};
+use crate::fault::{NetFault, ServerFault};
 use crate::hub::{Answers, Hub, Place};
-use crate::locking::lock_folder;
-use crate::members::Member;
-use crate::opening::{Folder, InFiles, InMemory, Made, Making};
+use crate::lines::tell;
+use crate::listening::{fault_of, listen, port_of};
 use crate::operator::Operator;
-use crate::options::{Partitions, ServeOptions};
+use crate::options::ServerOptions;
 use crate::peer::Peer;
+use crate::placing::Nodes;
 use crate::protocol::{OwnFrames, Protocol};
 use crate::routes::Routes;
 use crate::seats::Seats;
-use crate::ticking::{Going, keep_time, moment};
+use crate::sessions::Member;
+use crate::ticking::{Going, keep_time};
 use crate::waiting::wait_until;
 use crate::watches::Watches;
-use kx_message::{PartitionId, Timeout};
+use kx_message::Timeout;
 use kx_nodes::{JoinSet, Receipt, Workers};
-use kx_published::book::{Naming, Opened};
+use kx_published::book::Naming;
 use kx_publishing::{PublishedMachine, Readable};
 use std::alloc::{AllocError, Global};
-use std::fs::{File, Files};
-use std::io::{ErrorKind, Write};
-use std::marker::Brand;
+use std::io::Write;
 use std::net::{Net, TcpListener, TcpStream};
 use std::sync::{Arc, Wait};
 use std::thread::Threads;
@@ -98,15 +94,6 @@ fn accept<R: Eprint + Wait + Clock>(rt: &R, listener: &TcpListener) -> Result<Tc
     )
 }
 
-// A fault of a listener, with its port.
-fn net_fault(listener: &TcpListener, fault: NetFault) -> ServeFault {
-    let port = match listener.local_addr() {
-        Ok(address) => address.port(),
-        Err(_) => 0,
-    };
-    ServeFault::Net { port, fault }
-}
-
 /// When a server ends.
 #[derive(Clone, Copy, Debug, PartialEq, Eq)]
 pub enum Until {
@@ -119,7 +106,7 @@ pub enum Until {
 
 impl Until {
     // How many connections are taken at most.
-    fn taken(self, options: &ServeOptions<'_>) -> usize {
+    fn taken(self, options: &ServerOptions) -> usize {
         match self {
             Until::Served => usize::from(options.connections.get()),
             Until::Killed => usize::MAX,
@@ -150,14 +137,14 @@ fn take_connections<
     alloc: Global,
     seats: &mut Seats<L, J, R, P::Link>,
     listener: &TcpListener,
-    options: &ServeOptions<'_>,
+    options: &ServerOptions,
     spoken: (&P, Until),
-) -> Result<(), ServeFault> {
+) -> Result<(), ServerFault> {
     let (protocol, until) = spoken;
     for number in 0..until.taken(options) {
         let stream = match accept(&rt, listener) {
             Ok(stream) => stream,
-            Err(fault) => return Err(net_fault(listener, fault)),
+            Err(fault) => return Err(fault_of(listener, fault)),
         };
         if seats.count() >= usize::from(options.connections.get()) {
             continue;
@@ -278,10 +265,10 @@ impl<
     fn serve_shared<P: Protocol>(
         &self,
         listener: &TcpListener,
-        options: &ServeOptions<'_>,
+        options: &ServerOptions,
         protocol: &P,
         until: Until,
-    ) -> Result<(), ServeFault> {
+    ) -> Result<(), ServerFault> {
         let (rt, alloc) = (self.rt, self.alloc);
         let hub = Arc::try_clone(&self.shared.hub)?;
         let mut clock = JoinSet::new(rt, alloc);
@@ -293,7 +280,7 @@ impl<
             Ok(()) => {
                 take_connections(rt, alloc, &mut seats, listener, options, (protocol, until))
             }
-            Err(_) => Err(ServeFault::Memory),
+            Err(_) => Err(ServerFault::Memory),
         };
         seats.join();
         self.shared.going.end(&rt);
@@ -312,10 +299,10 @@ impl<
     pub fn serve_speaking<P: Protocol>(
         self,
         listener: &TcpListener,
-        options: &ServeOptions<'_>,
+        options: &ServerOptions,
         protocol: &P,
         until: Until,
-    ) -> Result<Vec<Receipt>, ServeFault> {
+    ) -> Result<Vec<Receipt>, ServerFault> {
         let served = self.serve_shared(listener, options, protocol, until);
         let receipts = self.end();
         served?;
@@ -331,12 +318,9 @@ impl<
     pub fn serve(
         self,
         listener: &TcpListener,
-        options: &ServeOptions<'_>,
-    ) -> Result<Vec<Receipt>, ServeFault> {
-        let protocol = OwnFrames {
-            partitions: options.partitions,
-            hears: options.session_timeout.is_some(),
-        };
+        options: &ServerOptions,
+    ) -> Result<Vec<Receipt>, ServerFault> {
+        let protocol = OwnFrames::of(options);
         self.serve_speaking(listener, options, &protocol, Until::Served)
     }
 
@@ -360,42 +344,15 @@ impl<
     }
 }
 
-// Opens the books of the published logs of data partitions, in order.
-fn open_books(alloc: Global, partitions: Partitions) -> Result<Vec<Opened>, AllocError>
-    ensures { IfOk result (λ books. InOrder 0 books.items
-        × (length books.items ≤ data_partitions)) }
-{
-    let mut books = Vec::new(alloc);
-    for number in 0..partitions.get() {
-        let Ok(partition) = PartitionId::try_from(number) else {
-            break;
-        };
-        books.push(Opened::new(partition))?;
-    }
-    Ok(books)
-}
-
-// Listens on a port of 127.0.0.1.
-fn listen<R: Net<Listener = TcpListener, Stream = TcpStream>>(
-    rt: &R,
-    port: u16,
-) -> Result<TcpListener, ServeFault> {
-    match TcpListener::bind(rt, ("127.0.0.1", port)) {
-        Ok(listener) => Ok(listener),
-        Err(error) => {
-            let fault = match error.kind() {
-                ErrorKind::AddrInUse => NetFault::InUse,
-                _ => NetFault::Other,
-            };
-            Err(ServeFault::Net { port, fault })
-        }
-    }
-}
-
-// Serves with nodes whose published logs have these books.
-fn serve_named<
+/// Serves nodes on 127.0.0.1 to clients that speak a protocol: prints `listening` and the port, and
+/// serves connections at once. The server listens on `port`; 0 takes any that is free.
+///
+/// # Errors
+///
+/// As [`ServerFault`] has them. Connections that were taken are served to their ends also then.
+pub fn serve_nodes<
+    L: Readable + Send + Sync + 'static,
     J: Naming + Send + Sync + 'static,
-    F: Folder,
     R: Net<Listener = TcpListener, Stream = TcpStream>
         + Eprint
         + Threads
@@ -411,185 +368,21 @@ fn serve_named<
 >(
     rt: R,
     alloc: Global,
-    folder: &F,
-    options: &ServeOptions<'_>,
-    books: Vec<Opened>,
-    offsets: Opened,
+    nodes: Nodes<L, J, R>,
+    port: u16,
+    options: &ServerOptions,
     spoken: (&P, Until),
     out: &mut W,
-) -> Result<(), ServeFault>
-    requires books { All (HasBook J.book) books.items }
-    requires offsets { (offsets.partition ≡ offsets_partition)
-        × (offsets.seen.book ≡ J.book offsets_partition) }
+) -> Result<(), ServerFault>
     ensures { OnOk result (Listens (W.contents out.old) (W.contents out.new)) }
 {
-    let making = Making {
-        rt,
-        alloc,
-        folder,
-        partitions: options.partitions,
-        connections: options.connections,
-        now: moment(&rt).unwrap_or(0),
-    };
-    let made = making.nodes::<J>(books, offsets)?;
-    let listener = listen(&rt, options.port)?;
-    let Ok(address) = listener.local_addr() else {
-        return Err(net_fault(&listener, NetFault::Other));
-    };
-    tell(out, "listening", usize::from(address.port()))?;
-    let Made { nodes, members } = made;
-    let server = Server::start(rt, alloc, nodes, WORKERS)?;
+    let listener = listen(&rt, port)?;
+    tell(out, "listening", usize::from(port_of(&listener)?))?;
+    let Nodes { places, members } = nodes;
+    let server = Server::start(rt, alloc, places, WORKERS)?;
     let (protocol, until) = spoken;
     server.begin_with(members.as_slice(), protocol.may_return());
-    // Nodes without traces leave no receipts.
+    // Nodes without traces in memory leave no receipts.
     server.serve_speaking(&listener, options, protocol, until)?;
     Ok(())
-}
-
-// Writes a line, at once.
-fn tell<W: Write>(out: &mut W, word: &str, number: usize) -> Result<(), ServeFault>
-    ensures { OnOk result (Appends (W.contents out.old) (W.contents out.new)
-        (line_of word.now number)) }
-{
-    if writeln!(out, "{word} {number}").is_err() || out.flush().is_err() {
-        return Err(ServeFault::Write);
-    }
-    Ok(())
-}
-
-// Serves with logs in a folder.
-fn serve_over<
-    F: Folder,
-    R: Net<Listener = TcpListener, Stream = TcpStream>
-        + Eprint
-        + Threads
-        + Wait
-        + Clock
-        + Copy
-        + Send
-        + Sync
-        + Drop
-        + 'static,
-    P: Protocol,
-    W: Write,
->(
-    rt: R,
-    alloc: Global,
-    folder: &F,
-    options: &ServeOptions<'_>,
-    spoken: (&P, Until),
-    out: &mut W,
-) -> Result<(), ServeFault>
-    ensures { OnOk result (Listens (W.contents out.old) (W.contents out.new)) }
-{
-    let books = open_books(alloc, options.partitions)?;
-    let offsets = Opened::new(PartitionId::OFFSETS);
-    serve_named::<Brand, F, R, P, W>(rt, alloc, folder, options, books, offsets, spoken, out)
-}
-
-/// Serves the core on 127.0.0.1 to clients that speak a protocol: prints `listening` and the port,
-/// and serves connections at once. Another server must be kept out of the folder by the caller, as
-/// [`lock_folder`](crate::lock_folder) does.
-///
-/// # Errors
-///
-/// As [`ServeFault`] has them. Connections that were taken are served to their ends also then.
-pub fn serve_speaking<
-    R: Net<Listener = TcpListener, Stream = TcpStream>
-        + Files<File = File>
-        + AllocGlobal
-        + Eprint
-        + Threads
-        + Wait
-        + Clock
-        + Copy
-        + Send
-        + Sync
-        + Drop
-        + 'static,
-    P: Protocol,
-    W: Write,
->(
-    rt: R,
-    options: &ServeOptions<'_>,
-    protocol: &P,
-    until: Until,
-    out: &mut W,
-) -> Result<(), ServeFault>
-    ensures { OnOk result (Listens (W.contents out.old) (W.contents out.new)) }
-{
-    let alloc = rt.alloc();
-    let spoken = (protocol, until);
-    match options.dir {
-        None => serve_over(rt, alloc, &InMemory, options, spoken, out),
-        Some(dir) => {
-            let folder = InFiles {
-                rt,
-                dir,
-                tells_progress: options.tells_progress,
-            };
-            serve_over(rt, alloc, &folder, options, spoken, out)
-        }
-    }
-}
-
-// Serves the project's own protocol, and prints what was served.
-fn serve_own<
-    R: Net<Listener = TcpListener, Stream = TcpStream>
-        + Files<File = File>
-        + AllocGlobal
-        + Eprint
-        + Threads
-        + Wait
-        + Clock
-        + Copy
-        + Send
-        + Sync
-        + Drop
-        + 'static,
-    W: Write,
->(rt: R, options: &ServeOptions<'_>, out: &mut W) -> Result<(), ServeFault>
-    ensures { OnOk result (Prints options.now.connections (W.contents out.old)
-        (W.contents out.new)) }
-{
-    let protocol = OwnFrames {
-        partitions: options.partitions,
-        hears: options.session_timeout.is_some(),
-    };
-    serve_speaking(rt, options, &protocol, Until::Served, out)?;
-    tell(out, "served", usize::from(options.connections.get()))
-}
-
-/// Serves the core on 127.0.0.1: prints `listening` and the port, serves as many connections as
-/// are asked for, at once, and prints `served` and their number when the last of them has ended.
-///
-/// # Errors
-///
-/// As [`ServeFault`] has them. Connections that were taken are served to their ends also then.
-pub fn serve<
-    R: Net<Listener = TcpListener, Stream = TcpStream>
-        + Files<File = File>
-        + AllocGlobal
-        + Eprint
-        + Threads
-        + Wait
-        + Clock
-        + Copy
-        + Send
-        + Sync
-        + Drop
-        + 'static,
-    W: Write,
->(rt: R, options: &ServeOptions<'_>, out: &mut W) -> Result<(), ServeFault>
-    // What it printed when it has ended.
-    ensures { OnOk result (Prints options.now.connections (W.contents out.old)
-        (W.contents out.new)) }
-{
-    let Some(dir) = options.dir else {
-        return serve_own(rt, options, out);
-    };
-    let lock = lock_folder(&rt, rt.alloc(), dir)?;
-    let served = serve_own(rt, options, out);
-    drop(lock);
-    served
 }

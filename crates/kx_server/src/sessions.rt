@@ -1,8 +1,16 @@
 //! Members of groups whose clients say nothing any more.
-use crate::members::Member;
-use kx_message::{ClientId, Message};
+use kx_message::{ClientId, GroupId, Message};
 use std::alloc::{AllocError, Global};
 use std::sync::{Mutex, Wait};
+
+/// A member of a group.
+#[derive(Clone, Copy)]
+pub struct Member {
+    /// The group.
+    pub group: GroupId,
+    /// The client.
+    pub client: ClientId,
+}
 
 // A member of a group, and how long ago its client was heard, in milliseconds.
 #[derive(Clone, Copy)]

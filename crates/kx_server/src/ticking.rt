@@ -66,7 +66,7 @@ fn millis_of(time: Duration) -> u64
 }
 
 /// The time, in milliseconds since 1970. None where the clock can't be read.
-pub(crate) fn moment<R: Clock>(rt: &R) -> Option<u64> {
+pub fn moment<R: Clock>(rt: &R) -> Option<u64> {
     Some(millis_of(rt.since_1970().ok()?))
 }
 

@@ -1,4 +1,4 @@
-use Rattle.kx_program.proofs.Ending.{file_dumped, plays_flushed}
+use Rattle.kx_program.proofs.Ending.{audits_flushed, file_dumped, plays_flushed}
 use Rattle.kx_program.proofs.program.perform.Goals as goal
 
 pub returns-in-Dump : goal.returns-in-Dump
@@ -8,3 +8,7 @@ returns-in-Dump g c = rw c.in-Dump.is (file_dumped (λ v. v.items) c.read.result
 pub returns-in-Demo : goal.returns-in-Demo
 returns-in-Demo g c = rw c.in-Demo.is (plays_flushed _ _ _ _ _ c.flushed.ensures.keeps
     c.flushed.ensures.ends c.demo-ending.ensures)
+
+pub returns-in-Audit : goal.returns-in-Audit
+returns-in-Audit g c = rw c.in-Audit.is (audits_flushed _ _ _ _ _ _ c.flushed-2.ensures.keeps
+    c.flushed-2.ensures.ends c.audit-ending.ensures)

@@ -10,6 +10,7 @@ returns c = record {
   topics = c.get_str.ensures ∙ first_value-rows (found_of c.args.given.now) (codes "topics");
   port = search rules;
   dir = c.get_str-2.ensures ∙ first_value-rows (found_of c.args.given.now) (codes "dir");
+  traces = c.get_str-3.ensures ∙ first_value-rows (found_of c.args.given.now) (codes "trace");
   makes = subst (λ (text : Option Text). Flags text c.get_flag.result)
       (one_text-rows (found_of c.args.given.now) (codes "no-auto-topics"))
       (flags (one_text (found_of c.args.given.now) (codes "no-auto-topics")) c.get_flag.result

@@ -13,6 +13,7 @@ returns c = record {
   connections_fit = search rules;
   port = search rules;
   dir = c.get_str.ensures ∙ first_value-rows (found_of c.args.given.now) (codes "dir");
+  traces = c.get_str-2.ensures ∙ first_value-rows (found_of c.args.given.now) (codes "trace");
   tells = refl;
   expires = subst (λ (text : Option Text). Flags text c.get_flag.result)
       (one_text-rows (found_of c.args.given.now) (codes "expire"))

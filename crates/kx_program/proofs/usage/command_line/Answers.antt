@@ -1,7 +1,7 @@
 use Rattle.std.proofs.Common.{codes, rules}
 use Rattle.std.proofs.lemmas.Result.{IfOk-weaker}
 use Rattle.clap.specs.Words.{new_app}
-use Rattle.kx_program.specs.Usage.{demo_app, dump_app, kafka_app, serve_app, sim_app}
+use Rattle.kx_program.specs.Usage.{audit_app, demo_app, dump_app, kafka_app, serve_app, sim_app}
 use Rattle.kx_program.specs.Usage.{with_needed_subcommand}
 use Rattle.kx_program.proofs.Commands.{Makes, with_command}
 use Rattle.kx_program.proofs.usage.command_line.Goals as goal
@@ -33,5 +33,10 @@ returns c =
       is = c.in_ok-demo_usage.ensures.app;
       local = c.in_ok-demo_usage.ensures.local;
     } in
-    IfOk-weaker c.subcommand-5.result _ _
-    (λ command adds. (with_command _ _ _ _ _ adds made_4 demo).is) c.subcommand-5.ensures
+    let made_5 = with_command _ _ _ _ _ c.in_ok-subcommand-5.ensures made_4 demo in
+    let audit : Makes c.in_ok-audit_usage.field-0 audit_app = record {
+      is = c.in_ok-audit_usage.ensures.app;
+      local = c.in_ok-audit_usage.ensures.local;
+    } in
+    IfOk-weaker c.subcommand-6.result _ _
+    (λ command adds. (with_command _ _ _ _ _ adds made_5 audit).is) c.subcommand-6.ensures

@@ -14,10 +14,12 @@ returns c =
     c.kafka_port.ensures.rule c.kafka_port.ensures.local in
     let made_3 = with_argument _ _ _ _ _ c.in_ok-arg-3.ensures made_2
     c.dir.ensures.rule c.dir.ensures.local in
+    let made_4 = with_argument _ _ _ _ _ c.in_ok-arg-4.ensures made_3
+    c.traces.ensures.rule c.traces.ensures.local in
     record {
-      app = IfOk-weaker c.arg-4.result _ _ (λ command adds. (with_argument _ _ _ _ _ adds
-          made_3 c.no_auto_topics.ensures.rule c.no_auto_topics.ensures.local).is) c.arg-4.ensures;
-      local = IfOk-weaker c.arg-4.result _ _ (λ command adds. (with_argument _ _ _ _ _ adds
-          made_3 c.no_auto_topics.ensures.rule c.no_auto_topics.ensures.local).local)
-          c.arg-4.ensures;
+      app = IfOk-weaker c.arg-5.result _ _ (λ command adds. (with_argument _ _ _ _ _ adds
+          made_4 c.no_auto_topics.ensures.rule c.no_auto_topics.ensures.local).is) c.arg-5.ensures;
+      local = IfOk-weaker c.arg-5.result _ _ (λ command adds. (with_argument _ _ _ _ _ adds
+          made_4 c.no_auto_topics.ensures.rule c.no_auto_topics.ensures.local).local)
+          c.arg-5.ensures;
     }

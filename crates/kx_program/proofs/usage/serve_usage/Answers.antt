@@ -17,11 +17,13 @@ returns c =
     let made_4 = with_argument _ _ _ _ _ c.in_ok-arg-4.ensures made_3
     c.dir.ensures.rule c.dir.ensures.local in
     let made_5 = with_argument _ _ _ _ _ c.in_ok-arg-5.ensures made_4
+    c.traces.ensures.rule c.traces.ensures.local in
+    let made_6 = with_argument _ _ _ _ _ c.in_ok-arg-6.ensures made_5
     c.expire.ensures.rule c.expire.ensures.local in
     record {
-      app = IfOk-weaker c.arg-6.result _ _ (λ command adds. (with_argument _ _ _ _ _ adds
-          made_5 c.session_timeout.ensures.rule c.session_timeout.ensures.local).is) c.arg-6.ensures;
-      local = IfOk-weaker c.arg-6.result _ _ (λ command adds. (with_argument _ _ _ _ _ adds
-          made_5 c.session_timeout.ensures.rule c.session_timeout.ensures.local).local)
-          c.arg-6.ensures;
+      app = IfOk-weaker c.arg-7.result _ _ (λ command adds. (with_argument _ _ _ _ _ adds
+          made_6 c.session_timeout.ensures.rule c.session_timeout.ensures.local).is) c.arg-7.ensures;
+      local = IfOk-weaker c.arg-7.result _ _ (λ command adds. (with_argument _ _ _ _ _ adds
+          made_6 c.session_timeout.ensures.rule c.session_timeout.ensures.local).local)
+          c.arg-7.ensures;
     }

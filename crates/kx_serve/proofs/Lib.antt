@@ -1,0 +1,3 @@
+mod Books
+mod Coordinators
+mod Printed

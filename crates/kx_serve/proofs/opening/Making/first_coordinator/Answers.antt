@@ -1,0 +1,8 @@
+use Rattle.kx_coord_node.specs.Stands.{opened_coordinator}
+use Rattle.kx_serve.proofs.Coordinators.{made}
+use Rattle.kx_serve.proofs.opening.Making.first_coordinator.Goals as goal
+
+pub restarted-requires : goal.restarted-requires
+restarted-requires g c =
+    made c.recorded.result _ (opened_coordinator c.in_ok-machine.machine.log.notes 0)
+    c.recorded.ensures c.in_ok-machine.ensures

@@ -1,0 +1,6 @@
+use Rattle.kx_serve.proofs.Coordinators.{stepped}
+use Rattle.kx_serve.proofs.opening.Making.restarted.Goals as goal
+
+pub returns-in-Ok : goal.returns-in-Ok
+returns-in-Ok g c =
+    stepped c.args.machine c.record.new.self _ c.in-Ok._taken c.in-Ok.ensures.step c.requires

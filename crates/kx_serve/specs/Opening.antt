@@ -1,0 +1,36 @@
+-- The nodes of a server, as their logs were opened.
+use Rattle.std.specs.Prelude.{◌≡◌, ◌<◌, ◌+◌, ℕ, List, [], ◌∷◌}
+use Rattle.logbook.specs.Pages.{Book}
+use Rattle.kx_broker.specs.Serving.{opened_partition}
+use Rattle.kx_laws.specs.Grown.{IsGrown}
+use Rattle.kx_log.specs.Log.{IsLog}
+use Rattle.kx_machine.specs.Meaning.{AtCoordinator, AtPartition}
+use Rattle.kx_message.specs.Ranges.{data_partitions}
+use Rattle.kx_model.specs.CoordinatorNode.{Coordinator}
+use Rattle.kx_published.specs.declared.book.Opened.{Opened}
+use Rattle.kx_machines.specs.Brokers.{broker_stands}
+use Rattle.kx_publishing.specs.Brokers.{broker_log}
+use Rattle.kx_machines.specs.declared.broker.BrokerMachine.{BrokerMachine}
+use Rattle.kx_recording.specs.Recorded.{Recorded}
+
+-- the machine is the server of the partition whose log was opened, and has parked nothing
+pub record IsOpened {S : Type 0} (number : ℕ) (machine : BrokerMachine S) : Type 0 where
+  pub stands : broker_stands
+      (AtPartition number (opened_partition (broker_log machine))) machine
+  pub placed : IsLog (broker_log machine)
+  pub grown : IsGrown (broker_log machine)
+
+-- the machine stands for a coordinator
+pub record StandsForCoordinator {S : Type 0} (r : Recorded (BrokerMachine S)) : Type 0 where
+  pub coordinator : Coordinator
+  pub stands : broker_stands (AtCoordinator coordinator) r.machine
+
+-- the book of a data partition's publishes is the one that its name stands for
+pub record HasBook (named : ℕ → Book) (opened : Opened) : Type 0 where
+  pub is_data : opened.partition < data_partitions
+  pub book : opened.seen.book ≡ named opened.partition
+
+-- books of partitions, from this one on
+abbrev pub InOrder : ℕ → List Opened → Type 0
+InOrder number [] = Unit {0}
+InOrder number (opened ∷ more) = (opened.partition ≡ number) × InOrder (number + 1) more

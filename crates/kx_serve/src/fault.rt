@@ -1,0 +1,140 @@
+//! Why a server doesn't serve.
+ghost use Rattle.std.specs.Prelude.{◌≡◌};
+ghost use Rattle.kx_serve.specs.Faults.{fault_number};
+
+use crate::files::LogFile;
+use kx_kafka_server::GatewayFault;
+use kx_log::OpenFault;
+use kx_server::{NetFault, ServerFault};
+use kx_trace_files::{TraceFileFault, TraceName};
+use std::alloc::AllocError;
+use thiserror::Error;
+
+/// Why a server doesn't serve its connections to the end.
+#[derive(Clone, Copy, Debug, PartialEq, Eq, Error)]
+pub enum ServeFault {
+    /// The port can't be had, or no connection can be taken on it.
+    #[error("port {port} {fault}")]
+    Net {
+        /// The port, 0 where any was asked for and none could be had.
+        port: u16,
+        /// Why.
+        fault: NetFault,
+    },
+    /// A line can't be written.
+    #[error("the output cannot be written")]
+    Write,
+    /// The log in this file can't be opened. Nothing was served; files of other logs may have lost
+    /// a torn tail, and the coordinator's may have its next epoch.
+    #[error("{file}: {fault}")]
+    Open {
+        /// The file.
+        file: LogFile,
+        /// Why.
+        fault: OpenFault,
+    },
+    /// Memory ran out, or a thread can't be started.
+    #[error("out of memory")]
+    Memory,
+    /// The folder of the logs has the empty name or can't be made, or its lock can't be had.
+    #[error("the folder cannot be used")]
+    Folder,
+    /// Another server keeps its logs in the folder.
+    #[error("another server has the folder")]
+    InUse,
+    /// The coordinator's log has a transaction that is owed a marker in the log of this file, and
+    /// the file is missing, or the server is to serve fewer partitions. Nothing was served; the
+    /// coordinator's log may have its next epoch.
+    #[error("{file}: the log is missing, and a transaction of co.log needs it")]
+    NotWhole {
+        /// The file.
+        file: LogFile,
+    },
+    /// The folder of the traces has the empty name or can't be made, or its lock can't be had.
+    #[error("the folder of traces cannot be used")]
+    TraceFolder,
+    /// Another server keeps its traces in the folder.
+    #[error("another server has the folder of traces")]
+    TracesInUse,
+    /// The trace in this file can't be opened or written. Nothing was served; other files are left
+    /// as by `Open`.
+    #[error("{file}: {fault}")]
+    Trace {
+        /// The file.
+        file: TraceName,
+        /// Why.
+        fault: TraceFileFault,
+    },
+    /// The log in this file was begun without its trace, which tells of no step of it.
+    #[error("{file}: the log is older than its trace")]
+    Untold {
+        /// The file.
+        file: LogFile,
+    },
+    /// The trace in this file tells of a log that was in memory.
+    #[error("{file}: the trace is of a log that was in memory")]
+    Gone {
+        /// The file.
+        file: TraceName,
+    },
+    /// Stock clients can't be served.
+    #[error("{0}")]
+    Gateway(GatewayFault),
+}
+
+impl ServeFault {
+    /// The number of the fault, by which another program knows it: `Net` 1, `Write` 2, `Open` 3,
+    /// `Memory` 4, `Folder` 6, `InUse` 7, `NotWhole` 9, `TraceFolder` 10, `TracesInUse` 11, `Trace`
+    /// 12, `Untold` 13, `Gone` 14, `Gateway` 15.
+    pub fn number(self) -> u8
+        ensures { result ≡ fault_number self }
+    {
+        match self {
+            ServeFault::Net { .. } => 1,
+            ServeFault::Write => 2,
+            ServeFault::Open { .. } => 3,
+            ServeFault::Memory => 4,
+            ServeFault::Folder => 6,
+            ServeFault::InUse => 7,
+            ServeFault::NotWhole { .. } => 9,
+            ServeFault::TraceFolder => 10,
+            ServeFault::TracesInUse => 11,
+            ServeFault::Trace { .. } => 12,
+            ServeFault::Untold { .. } => 13,
+            ServeFault::Gone { .. } => 14,
+            ServeFault::Gateway(_) => 15,
+        }
+    }
+}
+
+/// Memory ran out.
+impl From<AllocError> for ServeFault {
+    ghost use Rattle.kx_serve.specs.declared.fault.ServeFault.TheVariants.{Memory};
+
+    ghost from_gives = { λ refused fault. fault ≡ Memory };
+
+    fn from(_: AllocError) -> Self {
+        ServeFault::Memory
+    }
+}
+
+/// A fault of the server's threads keeps its number.
+impl From<ServerFault> for ServeFault {
+    fn from(fault: ServerFault) -> Self {
+        match fault {
+            ServerFault::Net { port, fault } => ServeFault::Net { port, fault },
+            ServerFault::Write => ServeFault::Write,
+            ServerFault::Memory => ServeFault::Memory,
+        }
+    }
+}
+
+/// A fault of the gateway is [`ServeFault::Gateway`]; out of memory is [`ServeFault::Memory`].
+impl From<GatewayFault> for ServeFault {
+    fn from(fault: GatewayFault) -> Self {
+        match fault {
+            GatewayFault::Memory => ServeFault::Memory,
+            fault => ServeFault::Gateway(fault),
+        }
+    }
+}

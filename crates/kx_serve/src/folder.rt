@@ -1,0 +1,122 @@
+//! Where a server's logs are: in memory, or in the files of a folder.
+use crate::fault::ServeFault;
+use crate::files::LogFile;
+use kx_files::FileStore;
+use kx_log::{MemStore, OpenFault, Store, StoreFault};
+use std::alloc::{AllocError, Global};
+use std::fs;
+use std::fs::{File, Files};
+
+/// Where a server's logs are kept.
+pub(crate) trait Folder: Drop {
+    type Kept: Store + Send + Sync + 'static;
+
+    /// The store of a log, which is made where there is none.
+    fn store(&self, alloc: Global, file: LogFile) -> Result<Self::Kept, ServeFault>;
+
+    /// Whether the store of a log was made before.
+    fn has(&self, alloc: Global, file: LogFile) -> Result<bool, AllocError>;
+
+    /// How many bytes the store of a log has.
+    fn len(&self, alloc: Global, file: LogFile) -> Result<u64, ServeFault>;
+
+    /// The bytes of a log, as far as they can be read.
+    fn bytes(&self, alloc: Global, file: LogFile) -> Result<Vec<u8>, AllocError>;
+
+    /// Tells whoever runs the server what is odd about a log.
+    fn warn(&self, file: LogFile, words: &str);
+}
+
+/// In memory, with nothing in them.
+#[derive(Drop)]
+pub(crate) struct InMemory;
+
+impl Folder for InMemory {
+    type Kept = MemStore;
+
+    fn store(&self, alloc: Global, _file: LogFile) -> Result<MemStore, ServeFault> {
+        Ok(MemStore::new(Vec::new(alloc)))
+    }
+
+    fn has(&self, _alloc: Global, _file: LogFile) -> Result<bool, AllocError> {
+        Ok(false)
+    }
+
+    fn len(&self, _alloc: Global, _file: LogFile) -> Result<u64, ServeFault> {
+        Ok(0)
+    }
+
+    fn bytes(&self, alloc: Global, _file: LogFile) -> Result<Vec<u8>, AllocError> {
+        Ok(Vec::new(alloc))
+    }
+
+    fn warn(&self, _file: LogFile, _words: &str) {}
+}
+
+/// In the files of a folder.
+#[derive(Drop)]
+pub(crate) struct InFiles<'a, R: Drop> {
+    pub(crate) rt: R,
+    pub(crate) dir: &'a str,
+    pub(crate) tells_progress: bool,
+}
+
+impl<'a, R: Files<File = File> + Eprint + Drop> InFiles<'a, R> {
+    // Tells that a log is opened, which may take a while.
+    fn tell(&self, path: &str) {
+        if let Ok(held) = fs::metadata(&self.rt, path) {
+            // Whoever watches sees no more than that.
+            let _ = eprintln!(self.rt; "opening {path}, {} bytes", held.len());
+        }
+    }
+}
+
+impl<'a, R: Files<File = File> + AllocGlobal + Eprint + Drop> Folder for InFiles<'a, R> {
+    type Kept = FileStore<File>;
+
+    fn store(&self, alloc: Global, file: LogFile) -> Result<FileStore<File>, ServeFault> {
+        let path = file.path_in(alloc, self.dir)?;
+        if self.tells_progress {
+            self.tell(path.as_str());
+        }
+        match FileStore::open(&self.rt, path.as_str()) {
+            Ok(store) => Ok(store),
+            Err(StoreFault::Memory) => Err(ServeFault::Memory),
+            Err(StoreFault::Device) => Err(fault_in(file, OpenFault::Device)),
+        }
+    }
+
+    fn has(&self, alloc: Global, file: LogFile) -> Result<bool, AllocError> {
+        let path = file.path_in(alloc, self.dir)?;
+        Ok(fs::metadata(&self.rt, path.as_str()).is_ok())
+    }
+
+    fn len(&self, alloc: Global, file: LogFile) -> Result<u64, ServeFault> {
+        let path = file.path_in(alloc, self.dir)?;
+        match fs::metadata(&self.rt, path.as_str()) {
+            Ok(held) => Ok(held.len()),
+            Err(_) => Err(fault_in(file, OpenFault::Device)),
+        }
+    }
+
+    fn bytes(&self, alloc: Global, file: LogFile) -> Result<Vec<u8>, AllocError> {
+        let path = file.path_in(alloc, self.dir)?;
+        match fs::read(&self.rt, path.as_str()) {
+            Ok(bytes) => Ok(bytes),
+            Err(_) => Ok(Vec::new(alloc)),
+        }
+    }
+
+    fn warn(&self, file: LogFile, words: &str) {
+        // Nobody may watch.
+        let _ = eprintln!(self.rt; "{file}: {words}");
+    }
+}
+
+/// A fault of opening the log in this file.
+pub(crate) fn fault_in(file: LogFile, fault: OpenFault) -> ServeFault {
+    match fault {
+        OpenFault::Memory => ServeFault::Memory,
+        fault => ServeFault::Open { file, fault },
+    }
+}

@@ -1,0 +1,24 @@
+//! What `serve` and `kafka` do: nodes whose logs are in memory or in the files of a folder, and whose
+//! steps are written to traces where that is asked for, are served to clients.
+//!
+//! A server has its folders alone. A log that another program wrote, in part, isn't published; its
+//! pages are steps of its node.
+#![tactic(auto)]
+
+mod fault;
+mod files;
+mod folder;
+mod kafka;
+mod locking;
+mod members;
+mod opening;
+mod options;
+mod owed;
+mod server;
+mod tracing;
+
+pub use fault::ServeFault;
+pub use files::LogFile;
+pub use kafka::serve_kafka;
+pub use options::{KafkaOptions, ServeOptions};
+pub use server::serve;

@@ -1,0 +1,368 @@
+//! The nodes of a server, whose logs are in memory or in the files of a folder, and what a folder
+//! lacks.
+ghost use Rattle.std.specs.Prelude.{◌≡◌, ◌<◌, All, IfOk};
+ghost use Rattle.kx_coord_node.specs.Stands.{Stands, opened_coordinator};
+ghost use Rattle.kx_machine.specs.Meaning.{AtCoordinator};
+ghost use Rattle.kx_message.specs.Ranges.{data_partitions, offsets_partition};
+ghost use Rattle.kx_serve.specs.Opening.{HasBook, IsOpened, StandsForCoordinator};
+
+use crate::fault::ServeFault;
+use crate::files::LogFile;
+use crate::folder::{Folder, fault_in};
+use crate::members::members_of;
+use crate::owed::{first_missing, names};
+use crate::tracing::{ServerMachine, Traces, recorded};
+use kx_broker::{OffsetsMachine, PartitionMachine};
+use kx_coord_node::CoordinatorMachine;
+use kx_machine::Input;
+use kx_machines::BrokerMachine;
+use kx_message::{NodeId, PartitionId};
+use kx_nodes::Untraced;
+use kx_published::book::{Naming, Opened};
+use kx_server::{Connections, MOST_READERS, Nodes, Partitions, Place, placed, unpublished};
+use kx_trace::TracedNode;
+use kx_trace_files::{OpenedTrace, TraceFile};
+use kx_txnlog::TxnLog;
+use std::alloc::{AllocError, Global};
+use std::fs::{File, Files};
+use std::sync::Wait;
+
+// Puts a node after the others.
+fn add<N: Drop>(nodes: &mut Vec<N>, node: N) -> Result<(), AllocError> {
+    Ok(nodes.push(node)?)
+}
+
+/// What nodes are made with.
+#[derive(Drop)]
+pub(crate) struct Making<'a, F: Folder, R: Drop> {
+    pub(crate) rt: R,
+    pub(crate) alloc: Global,
+    pub(crate) folder: &'a F,
+    /// how many data partitions there are
+    pub(crate) partitions: Partitions,
+    /// how many connections are served, and so how many pages at most are taken at a time
+    pub(crate) connections: Connections,
+    /// the time, in milliseconds since 1970
+    pub(crate) now: u64,
+    /// where the nodes write what they do, if they do
+    pub(crate) traces: Option<Traces<'a, R>>,
+}
+
+/// What stands under the lock of a server's node.
+pub(crate) type Kept<F, R> = Untraced<ServerMachine<<F as Folder>::Kept, R>>;
+
+impl<'a, F: Folder, R: Files<File = File> + AllocGlobal + Eprint + Wait + Drop + Copy> Making<
+    'a,
+    F,
+    R,
+> {
+    // The partitions whose logs were made before, of those that are served.
+    fn kept(&self) -> Result<Vec<PartitionId>, AllocError> {
+        let mut kept = Vec::new(self.alloc);
+        for number in 0..self.partitions.get() {
+            if let Ok(partition) = PartitionId::try_from(number) {
+                if self.folder.has(self.alloc, LogFile::of(partition))? {
+                    kept.push(partition)?;
+                }
+            }
+        }
+        if self.folder.has(self.alloc, LogFile::Offsets)? {
+            kept.push(PartitionId::OFFSETS)?;
+        }
+        Ok(kept)
+    }
+
+    // Warns of logs that are there and aren't served.
+    fn warn_of_more(&self) -> Result<(), AllocError> {
+        for number in self.partitions.get()..PartitionId::DATA_COUNT {
+            let file = LogFile::Partition(number);
+            if self.folder.has(self.alloc, file)? {
+                self.folder.warn(file, "the log is there, and isn't served");
+            }
+        }
+        Ok(())
+    }
+
+    // Warns of a partition whose log is missing, if the coordinator's log names it.
+    fn warn_of(&self, log: &[u8], kept: &[PartitionId], partition: PartitionId) {
+        if !kept.contains(&partition) && names(self.alloc, log, partition) {
+            let file = LogFile::of(partition);
+            self.folder.warn(
+                file,
+                "the log is missing, and co.log names it; it begins anew",
+            );
+        }
+    }
+
+    // Warns of what is odd about the folder, of whose logs these were made before.
+    fn warn_of_files(&self, kept: &[PartitionId]) -> Result<(), AllocError> {
+        self.warn_of_more()?;
+        if kept.len() > usize::from(self.partitions.get()) {
+            return Ok(());
+        }
+        let log = self.folder.bytes(self.alloc, LogFile::Coordinator)?;
+        for number in 0..self.partitions.get() {
+            if let Ok(partition) = PartitionId::try_from(number) {
+                self.warn_of(log.as_slice(), kept, partition);
+            }
+        }
+        self.warn_of(log.as_slice(), kept, PartitionId::OFFSETS);
+        Ok(())
+    }
+
+    // The coordinator of a log that is opened at this time, in a folder of whose logs these were
+    // made before. The markers that its opening sends are sent again in the first tick.
+    fn reopened(
+        &self,
+        kept: &[PartitionId],
+        store: F::Kept,
+    ) -> Result<CoordinatorMachine<F::Kept>, ServeFault>
+        ensures { IfOk result (λ m.
+            Stands (AtCoordinator (opened_coordinator m.log.notes self.now.now)) m) }
+    {
+        match CoordinatorMachine::open(self.alloc, store, self.now) {
+            Ok((machine, _markers)) => {
+                if let Some(partition) = first_missing(machine.coordinator().rows(), kept) {
+                    return Err(ServeFault::NotWhole {
+                        file: LogFile::of(partition),
+                    });
+                }
+                Ok(machine)
+            }
+            Err((fault, _store)) => Err(fault_in(LogFile::Coordinator, fault)),
+        }
+    }
+
+    // The coordinator of an empty log, as the definitions have it: made at time 0.
+    fn begun(&self, store: F::Kept) -> Result<CoordinatorMachine<F::Kept>, ServeFault>
+        ensures { IfOk result (λ m.
+            Stands (AtCoordinator (opened_coordinator m.log.notes 0)) m) }
+    {
+        match CoordinatorMachine::new(self.alloc, store) {
+            Ok(machine) => Ok(machine),
+            Err((fault, _store)) => Err(fault_in(LogFile::Coordinator, fault)),
+        }
+    }
+
+    // The coordinator's store, without an entry that is cut off at its end, and how many entries it
+    // has.
+    fn found(&self, store: F::Kept) -> Result<(F::Kept, usize), ServeFault> {
+        match TxnLog::open(self.alloc, store) {
+            Ok(log) => {
+                let count = log.entries().len();
+                Ok((log.into_store(), count))
+            }
+            Err((fault, _store)) => Err(fault_in(LogFile::Coordinator, fault)),
+        }
+    }
+
+    // The coordinator of a log that has entries, or of which no trace is kept.
+    fn later_coordinator(
+        &self,
+        kept: &[PartitionId],
+        store: F::Kept,
+        trace: Option<TraceFile<R>>,
+    ) -> Result<ServerMachine<F::Kept, R>, ServeFault>
+        ensures { IfOk result StandsForCoordinator }
+    {
+        let machine = self.reopened(kept, store)?;
+        Ok(recorded(self.alloc, BrokerMachine::Coordinator(machine), trace))
+    }
+
+    // Takes the first step of a coordinator's trace, which sets its clock.
+    fn restarted(
+        &self,
+        mut machine: ServerMachine<F::Kept, R>,
+    ) -> Result<ServerMachine<F::Kept, R>, ServeFault>
+        requires { StandsForCoordinator machine }
+        ensures { IfOk result StandsForCoordinator }
+    {
+        match machine.record(&Input::Restart(self.now)) {
+            Ok(_taken) => Ok(machine),
+            Err(_) => Err(ServeFault::Memory),
+        }
+    }
+
+    // The coordinator of a log and a trace that have nothing.
+    fn first_coordinator(
+        &self,
+        store: F::Kept,
+        trace: TraceFile<R>,
+    ) -> Result<ServerMachine<F::Kept, R>, ServeFault>
+        ensures { IfOk result StandsForCoordinator }
+    {
+        let machine = self.begun(store)?;
+        let machine = BrokerMachine::Coordinator(machine);
+        self.restarted(recorded(self.alloc, machine, Some(trace)))
+    }
+
+    // The coordinator with a trace. One of a single entry was made, and its process ended before the
+    // first step.
+    fn traced_coordinator(
+        &self,
+        kept: &[PartitionId],
+        store: F::Kept,
+        traces: &Traces<'a, R>,
+    ) -> Result<ServerMachine<F::Kept, R>, ServeFault>
+        ensures { IfOk result StandsForCoordinator }
+    {
+        let (store, entries) = self.found(store)?;
+        let trace = traces.open(&TracedNode::Coordinator)?;
+        if !trace.has_records && entries == 0 {
+            return self.first_coordinator(store, trace.file);
+        }
+        let is_told = trace.has_records || entries == 1;
+        let len = self.folder.len(self.alloc, LogFile::Coordinator)?;
+        let trace = traces.go_on(LogFile::Coordinator, trace, is_told, len)?;
+        self.later_coordinator(kept, store, Some(trace))
+    }
+
+    // The coordinator's machine, in a folder of whose logs these were made before.
+    fn coordinator_machine(
+        &self,
+        kept: &[PartitionId],
+    ) -> Result<ServerMachine<F::Kept, R>, ServeFault>
+        ensures { IfOk result StandsForCoordinator }
+    {
+        let store = self.folder.store(self.alloc, LogFile::Coordinator)?;
+        match &self.traces {
+            None => self.later_coordinator(kept, store, None),
+            Some(traces) => self.traced_coordinator(kept, store, traces),
+        }
+    }
+
+    // The coordinator's node, in a folder of whose logs these were made before.
+    fn coordinator<J: Naming>(
+        &self,
+        kept: &[PartitionId],
+    ) -> Result<Place<Kept<F, R>, J, R>, ServeFault> {
+        let machine = self.coordinator_machine(kept)?;
+        let locked = Untraced::new(NodeId::Coordinator, machine);
+        Ok(unpublished(self.alloc, locked)?)
+    }
+
+    // The server of a data partition, as its log is opened.
+    fn partition(
+        &self,
+        file: LogFile,
+        number: PartitionId,
+    ) -> Result<BrokerMachine<F::Kept>, ServeFault>
+        requires { number < data_partitions }
+        ensures { IfOk result (IsOpened number) }
+    {
+        let store = self.folder.store(self.alloc, file)?;
+        match PartitionMachine::new(self.alloc, number, store) {
+            Ok(machine) => Ok(BrokerMachine::Partition(machine)),
+            Err((fault, _store)) => Err(fault_in(file, fault)),
+        }
+    }
+
+    // The server of the offsets partition, as its log is opened.
+    fn offsets(&self, file: LogFile) -> Result<BrokerMachine<F::Kept>, ServeFault>
+        ensures { IfOk result (IsOpened offsets_partition) }
+    {
+        let store = self.folder.store(self.alloc, file)?;
+        match OffsetsMachine::new(self.alloc, store) {
+            Ok(machine) => Ok(BrokerMachine::Offsets(machine)),
+            Err((fault, _kept)) => Err(fault_in(file, fault)),
+        }
+    }
+
+    // The trace of a partition whose log was opened, if one is kept.
+    fn trace_of(
+        &self,
+        file: LogFile,
+        partition: PartitionId,
+    ) -> Result<Option<TraceFile<R>>, ServeFault> {
+        match &self.traces {
+            None => Ok(None),
+            Some(traces) => {
+                let len = self.folder.len(self.alloc, file)?;
+                let node = TracedNode::Partition(partition);
+                Ok(Some(traces.of_partition(file, &node, len)?))
+            }
+        }
+    }
+
+    // The machine of a partition whose log was opened, with its trace.
+    fn traced(
+        &self,
+        file: LogFile,
+        partition: PartitionId,
+        machine: BrokerMachine<F::Kept>,
+    ) -> Result<ServerMachine<F::Kept, R>, ServeFault>
+        ensures { IfOk result (λ r. r.machine ≡ machine) }
+    {
+        let trace = self.trace_of(file, partition)?;
+        Ok(recorded(self.alloc, machine, trace))
+    }
+
+    // The node of a partition whose log was opened.
+    fn node<J: Naming>(
+        &self,
+        file: LogFile,
+        machine: ServerMachine<F::Kept, R>,
+        opened: Opened,
+    ) -> Result<Place<Kept<F, R>, J, R>, ServeFault>
+        requires opened { IsOpened opened.partition machine.machine }
+        requires book { opened.seen.book ≡ J.book opened.partition }
+    {
+        let readers = usize::from(self.connections.get()).min(MOST_READERS);
+        let locked = Untraced::new(NodeId::Partition(opened.partition), machine);
+        let place = placed(self.rt, self.alloc, locked, opened, readers)?;
+        if !place.is_published() {
+            self.folder.warn(
+                file,
+                "another program wrote a batch; pages are steps of the node",
+            );
+        }
+        Ok(place)
+    }
+
+    // The node of a data partition.
+    fn data_node<J: Naming>(&self, opened: Opened) -> Result<Place<Kept<F, R>, J, R>, ServeFault>
+        requires { HasBook J.book opened }
+    {
+        let file = LogFile::of(opened.partition);
+        let machine = self.partition(file, opened.partition)?;
+        let machine = self.traced(file, opened.partition, machine)?;
+        self.node(file, machine, opened)
+    }
+
+    // The node of the offsets partition, whose log was opened.
+    fn offsets_node<J: Naming>(
+        &self,
+        machine: BrokerMachine<F::Kept>,
+        opened: Opened,
+    ) -> Result<Place<Kept<F, R>, J, R>, ServeFault>
+        requires machine { IsOpened offsets_partition machine }
+        requires opened { opened.partition ≡ offsets_partition }
+        requires book { opened.seen.book ≡ J.book offsets_partition }
+    {
+        let machine = self.traced(LogFile::Offsets, opened.partition, machine)?;
+        self.node(LogFile::Offsets, machine, opened)
+    }
+
+    /// The nodes, whose published logs have these books.
+    pub(crate) fn nodes<J: Naming>(
+        &self,
+        books: Vec<Opened>,
+        offsets: Opened,
+    ) -> Result<Nodes<Kept<F, R>, J, R>, ServeFault>
+        requires books { All (HasBook J.book) books.items }
+        requires offsets { (offsets.partition ≡ offsets_partition)
+            × (offsets.seen.book ≡ J.book offsets_partition) }
+    {
+        let kept = self.kept()?;
+        self.warn_of_files(kept.as_slice())?;
+        let mut places = Vec::new(self.alloc);
+        add(&mut places, self.coordinator(kept.as_slice())?)?;
+        for opened in books {
+            add(&mut places, self.data_node(opened)?)?;
+        }
+        let machine = self.offsets(LogFile::Offsets)?;
+        let members = members_of(self.alloc, &machine)?;
+        add(&mut places, self.offsets_node(machine, offsets)?)?;
+        Ok(Nodes { places, members })
+    }
+}

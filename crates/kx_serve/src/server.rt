@@ -1,0 +1,225 @@
+//! Serving nodes whose logs are in memory or in a folder.
+ghost use Rattle.std.specs.Prelude.{◌≡◌, ◌≤◌, All, IfOk, OnOk, length};
+ghost use Rattle.kx_message.specs.Ranges.{data_partitions, offsets_partition};
+ghost use Rattle.kx_serve.specs.Opening.{HasBook, InOrder};
+ghost use Rattle.kx_server.specs.Lines.{Listens, Prints};
+
+use crate::fault::ServeFault;
+use crate::folder::{Folder, InFiles, InMemory};
+use crate::locking::lock_folders;
+use crate::opening::{Kept, Making};
+use crate::options::ServeOptions;
+use crate::tracing::Traces;
+use kx_message::PartitionId;
+use kx_published::book::{Naming, Opened};
+use kx_server::{OwnFrames, Partitions, Protocol, Until, moment, serve_nodes, tell};
+use std::alloc::{AllocError, Global};
+use std::fs::{File, Files};
+use std::io::Write;
+use std::marker::Brand;
+use std::net::{Net, TcpListener, TcpStream};
+use std::sync::Wait;
+use std::thread::Threads;
+use std::time::Clock;
+
+// Opens the books of the published logs of data partitions, in order.
+fn open_books(alloc: Global, partitions: Partitions) -> Result<Vec<Opened>, AllocError>
+    ensures { IfOk result (λ books. InOrder 0 books.items
+        × (length books.items ≤ data_partitions)) }
+{
+    let mut books = Vec::new(alloc);
+    for number in 0..partitions.get() {
+        let Ok(partition) = PartitionId::try_from(number) else {
+            break;
+        };
+        books.push(Opened::new(partition))?;
+    }
+    Ok(books)
+}
+
+// Serves with nodes whose published logs have these books.
+fn serve_named<
+    J: Naming + Send + Sync + 'static,
+    F: Folder,
+    R: Net<Listener = TcpListener, Stream = TcpStream>
+        + Files<File = File>
+        + AllocGlobal
+        + Eprint
+        + Threads
+        + Wait
+        + Clock
+        + Copy
+        + Send
+        + Sync
+        + Drop
+        + 'static,
+    P: Protocol,
+    W: Write,
+>(
+    rt: R,
+    folder: &F,
+    options: &ServeOptions<'_>,
+    books: Vec<Opened>,
+    offsets: Opened,
+    spoken: (&P, Until),
+    out: &mut W,
+) -> Result<(), ServeFault>
+    requires books { All (HasBook J.book) books.items }
+    requires offsets { (offsets.partition ≡ offsets_partition)
+        × (offsets.seen.book ≡ J.book offsets_partition) }
+    ensures { OnOk result (Listens (W.contents out.old) (W.contents out.new)) }
+{
+    let alloc = rt.alloc();
+    let now = moment(&rt).unwrap_or(0);
+    let traces = options.traces.map(|dir| Traces {
+        rt,
+        alloc,
+        dir,
+        outlives: options.dir.is_some(),
+        now,
+    });
+    let making = Making {
+        rt,
+        alloc,
+        folder,
+        partitions: options.partitions,
+        connections: options.connections,
+        now,
+        traces,
+    };
+    let nodes = making.nodes::<J>(books, offsets)?;
+    let asked = options.server();
+    serve_nodes::<Kept<F, R>, J, R, P, W>(rt, alloc, nodes, options.port, &asked, spoken, out)?;
+    Ok(())
+}
+
+// Serves with logs in a folder.
+fn serve_over<
+    F: Folder,
+    R: Net<Listener = TcpListener, Stream = TcpStream>
+        + Files<File = File>
+        + AllocGlobal
+        + Eprint
+        + Threads
+        + Wait
+        + Clock
+        + Copy
+        + Send
+        + Sync
+        + Drop
+        + 'static,
+    P: Protocol,
+    W: Write,
+>(
+    rt: R,
+    folder: &F,
+    options: &ServeOptions<'_>,
+    spoken: (&P, Until),
+    out: &mut W,
+) -> Result<(), ServeFault>
+    ensures { OnOk result (Listens (W.contents out.old) (W.contents out.new)) }
+{
+    let books = open_books(rt.alloc(), options.partitions)?;
+    let offsets = Opened::new(PartitionId::OFFSETS);
+    serve_named::<Brand, F, R, P, W>(rt, folder, options, books, offsets, spoken, out)
+}
+
+/// Serves the core on 127.0.0.1 to clients that speak a protocol: prints `listening` and the port,
+/// and serves connections at once. The folders are this server's alone.
+///
+/// # Errors
+///
+/// As [`ServeFault`] has them. Connections that were taken are served to their ends also then.
+pub(crate) fn serve_speaking<
+    R: Net<Listener = TcpListener, Stream = TcpStream>
+        + Files<File = File>
+        + AllocGlobal
+        + Eprint
+        + Threads
+        + Wait
+        + Clock
+        + Copy
+        + Send
+        + Sync
+        + Drop
+        + 'static,
+    P: Protocol,
+    W: Write,
+>(
+    rt: R,
+    options: &ServeOptions<'_>,
+    protocol: &P,
+    until: Until,
+    out: &mut W,
+) -> Result<(), ServeFault>
+    ensures { OnOk result (Listens (W.contents out.old) (W.contents out.new)) }
+{
+    let spoken = (protocol, until);
+    match options.dir {
+        None => serve_over(rt, &InMemory, options, spoken, out),
+        Some(dir) => {
+            let folder = InFiles {
+                rt,
+                dir,
+                tells_progress: options.tells_progress,
+            };
+            serve_over(rt, &folder, options, spoken, out)
+        }
+    }
+}
+
+// Serves the project's own protocol, and prints what was served.
+fn serve_own<
+    R: Net<Listener = TcpListener, Stream = TcpStream>
+        + Files<File = File>
+        + AllocGlobal
+        + Eprint
+        + Threads
+        + Wait
+        + Clock
+        + Copy
+        + Send
+        + Sync
+        + Drop
+        + 'static,
+    W: Write,
+>(rt: R, options: &ServeOptions<'_>, out: &mut W) -> Result<(), ServeFault>
+    ensures { OnOk result (Prints options.now.connections (W.contents out.old)
+        (W.contents out.new)) }
+{
+    let protocol = OwnFrames::of(&options.server());
+    serve_speaking(rt, options, &protocol, Until::Served, out)?;
+    tell(out, "served", usize::from(options.connections.get()))?;
+    Ok(())
+}
+
+/// Serves the core on 127.0.0.1: prints `listening` and the port, serves as many connections as
+/// are asked for, at once, and prints `served` and their number when the last of them has ended.
+///
+/// # Errors
+///
+/// As [`ServeFault`] has them. Connections that were taken are served to their ends also then.
+pub fn serve<
+    R: Net<Listener = TcpListener, Stream = TcpStream>
+        + Files<File = File>
+        + AllocGlobal
+        + Eprint
+        + Threads
+        + Wait
+        + Clock
+        + Copy
+        + Send
+        + Sync
+        + Drop
+        + 'static,
+    W: Write,
+>(rt: R, options: &ServeOptions<'_>, out: &mut W) -> Result<(), ServeFault>
+    // What it printed when it has ended.
+    ensures { OnOk result (Prints options.now.connections (W.contents out.old)
+        (W.contents out.new)) }
+{
+    let locks = lock_folders(&rt, options.dir, options.traces)?;
+    let served = serve_own(rt, options, out);
+    drop(locks);
+    served
+}

@@ -1,0 +1,116 @@
+//! The traces of a server's nodes.
+ghost use Rattle.std.specs.Prelude.{◌≡◌};
+
+use crate::fault::ServeFault;
+use crate::files::LogFile;
+use kx_log::Store;
+use kx_machines::BrokerMachine;
+use kx_recording::Recording;
+use kx_trace::TracedNode;
+use kx_trace_files::{
+    OpenedTrace, TraceFile, TraceFileFault, TraceName, open_trace, write_reopened,
+};
+use std::alloc::Global;
+use std::fs::{File, Files};
+
+/// The machine of a node, whose steps are written to a trace, if there is one.
+pub(crate) type ServerMachine<S, R> = Recording<BrokerMachine<S>, TraceFile<R>>;
+
+/// A machine whose steps are written to this trace, if there is one.
+pub(crate) fn recorded<S: Store, R: Eprint + Drop>(
+    alloc: Global,
+    machine: BrokerMachine<S>,
+    trace: Option<TraceFile<R>>,
+) -> ServerMachine<S, R>
+    ensures { result.machine ≡ machine }
+{
+    match trace {
+        None => Recording::untraced(machine),
+        Some(trace) => Recording::traced(alloc, machine, trace),
+    }
+}
+
+// A fault of the trace of a node.
+fn fault_of(node: &TracedNode, fault: TraceFileFault) -> ServeFault {
+    match fault {
+        TraceFileFault::Memory => ServeFault::Memory,
+        fault => ServeFault::Trace {
+            file: TraceName { node: *node },
+            fault,
+        },
+    }
+}
+
+/// The folder of the traces of a server's nodes.
+#[derive(Drop)]
+pub(crate) struct Traces<'a, R: Drop> {
+    pub(crate) rt: R,
+    pub(crate) alloc: Global,
+    pub(crate) dir: &'a str,
+    /// whether the logs outlive the process
+    pub(crate) outlives: bool,
+    /// the time, in milliseconds since 1970
+    pub(crate) now: u64,
+}
+
+impl<'a, R: Files<File = File> + AllocGlobal + Eprint + Copy + Drop> Traces<'a, R> {
+    /// The trace of a node, which is made where there is none.
+    pub(crate) fn open(&self, node: &TracedNode) -> Result<OpenedTrace<R>, ServeFault> {
+        match open_trace(&self.rt, self.dir, *node) {
+            Ok(trace) => Ok(trace),
+            Err(fault) => Err(fault_of(node, fault)),
+        }
+    }
+
+    // Writes that the node is opened again on a log with this many bytes.
+    fn write_restart(
+        &self,
+        node: &TracedNode,
+        trace: &mut TraceFile<R>,
+        log_len: u64,
+    ) -> Result<(), ServeFault> {
+        match write_reopened(self.alloc, trace, self.now, log_len) {
+            Ok(()) => Ok(()),
+            Err(fault) => Err(fault_of(node, fault)),
+        }
+    }
+
+    /// The trace of a node goes on: its log is opened again, with this many bytes. Refuses a log of
+    /// which the trace doesn't tell, and a trace of a log that was in memory.
+    pub(crate) fn go_on(
+        &self,
+        log: LogFile,
+        trace: OpenedTrace<R>,
+        is_told: bool,
+        log_len: u64,
+    ) -> Result<TraceFile<R>, ServeFault> {
+        let mut file = trace.file;
+        let TraceName { node } = file.name();
+        if !is_told {
+            return Err(ServeFault::Untold { file: log });
+        }
+        if !self.outlives {
+            return Err(ServeFault::Gone {
+                file: TraceName { node },
+            });
+        }
+        self.write_restart(&node, &mut file, log_len)?;
+        Ok(file)
+    }
+
+    /// The trace of a partition, whose log has this many bytes. It tells of all of them, or the
+    /// start is refused.
+    pub(crate) fn of_partition(
+        &self,
+        log: LogFile,
+        node: &TracedNode,
+        log_len: u64,
+    ) -> Result<TraceFile<R>, ServeFault> {
+        let trace = self.open(node)?;
+        if !trace.has_records && log_len == 0 {
+            return Ok(trace.file);
+        }
+        let is_told = trace.has_records;
+        self.go_on(log, trace, is_told, log_len)
+    }
+}

@@ -1,4 +1,0 @@
-use Rattle.kx_server.proofs.server.serve_named.Goals as goal
-
-pub returns : goal.returns
-returns g c = (c.from.result, c.in_ok-tell.ensures)

@@ -1,7 +1,0 @@
-use Rattle.kx_server.proofs.Books.{book_in}
-use Rattle.kx_server.proofs.server.serve_over.Given as goal
-
-abbrev pub ghosts-serve_named : goal.ghosts-serve_named
-ghosts-serve_named g a = record {
-  book = λ number. book_in a.books.items a.offsets.seen.book number;
-}
