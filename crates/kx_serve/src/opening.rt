@@ -43,7 +43,7 @@ pub(crate) struct Making<'a, F: Folder, R: Drop> {
     /// how many connections are served, and so how many pages at most are taken at a time
     pub(crate) connections: Connections,
     /// the time, in milliseconds since 1970
-    pub(crate) now: u64,
+    pub(crate) time: u64,
     /// where the nodes write what they do, if they do
     pub(crate) traces: Option<Traces<'a, R>>,
 }
@@ -118,9 +118,9 @@ impl<'a, F: Folder, R: Files<File = File> + AllocGlobal + Eprint + Wait + Drop +
         store: F::Kept,
     ) -> Result<CoordinatorMachine<F::Kept>, ServeFault>
         ensures { IfOk result (λ m.
-            Stands (AtCoordinator (opened_coordinator m.log.notes self.now.now)) m) }
+            Stands (AtCoordinator (opened_coordinator m.log.notes self.now.time)) m) }
     {
-        match CoordinatorMachine::open(self.alloc, store, self.now) {
+        match CoordinatorMachine::open(self.alloc, store, self.time) {
             Ok((machine, _markers)) => {
                 if let Some(partition) = first_missing(machine.coordinator().rows(), kept) {
                     return Err(ServeFault::NotWhole {
@@ -177,7 +177,7 @@ impl<'a, F: Folder, R: Files<File = File> + AllocGlobal + Eprint + Wait + Drop +
         requires { StandsForCoordinator machine }
         ensures { IfOk result StandsForCoordinator }
     {
-        match machine.record(&Input::Restart(self.now)) {
+        match machine.record(&Input::Restart(self.time)) {
             Ok(_taken) => Ok(machine),
             Err(_) => Err(ServeFault::Memory),
         }

@@ -70,13 +70,13 @@ fn serve_named<
     ensures { OnOk result (Listens (W.contents out.old) (W.contents out.new)) }
 {
     let alloc = rt.alloc();
-    let now = moment(&rt).unwrap_or(0);
+    let time = moment(&rt).unwrap_or(0);
     let traces = options.traces.map(|dir| Traces {
         rt,
         alloc,
         dir,
         outlives: options.dir.is_some(),
-        now,
+        time,
     });
     let making = Making {
         rt,
@@ -84,7 +84,7 @@ fn serve_named<
         folder,
         partitions: options.partitions,
         connections: options.connections,
-        now,
+        time,
         traces,
     };
     let nodes = making.nodes::<J>(books, offsets)?;

@@ -50,7 +50,7 @@ pub(crate) struct Traces<'a, R: Drop> {
     /// whether the logs outlive the process
     pub(crate) outlives: bool,
     /// the time, in milliseconds since 1970
-    pub(crate) now: u64,
+    pub(crate) time: u64,
 }
 
 impl<'a, R: Files<File = File> + AllocGlobal + Eprint + Copy + Drop> Traces<'a, R> {
@@ -69,7 +69,7 @@ impl<'a, R: Files<File = File> + AllocGlobal + Eprint + Copy + Drop> Traces<'a, 
         trace: &mut TraceFile<R>,
         log_len: u64,
     ) -> Result<(), ServeFault> {
-        match write_reopened(self.alloc, trace, self.now, log_len) {
+        match write_reopened(self.alloc, trace, self.time, log_len) {
             Ok(()) => Ok(()),
             Err(fault) => Err(fault_of(node, fault)),
         }
