@@ -56,7 +56,7 @@ fn lock_logs<R: Files<File = File> + AllocGlobal>(
     rt: &R,
     dir: Option<&str>,
 ) -> Result<Option<File>, ServeFault>
-    ensures { OnOk result (IfSome dir (λ d. d.now ≡ [] → ⊥)) }
+    ensures { OnOk result (IfSome dir.entry (λ d. d.now ≡ [] → ⊥)) }
 {
     let Some(dir) = dir else {
         return Ok(None);
@@ -74,7 +74,7 @@ fn lock_traces<R: Files<File = File> + AllocGlobal>(
     rt: &R,
     dir: Option<&str>,
 ) -> Result<Option<File>, ServeFault>
-    ensures { OnOk result (IfSome dir (λ d. d.now ≡ [] → ⊥)) }
+    ensures { OnOk result (IfSome dir.entry (λ d. d.now ≡ [] → ⊥)) }
 {
     let Some(dir) = dir else {
         return Ok(None);
@@ -106,8 +106,8 @@ pub(crate) fn lock_folders<R: Files<File = File> + AllocGlobal>(
     logs: Option<&str>,
     traces: Option<&str>,
 ) -> Result<Locks, ServeFault>
-    ensures { OnOk result (IfSome logs (λ d. d.now ≡ [] → ⊥)
-        × IfSome traces (λ d. d.now ≡ [] → ⊥)) }
+    ensures { OnOk result (IfSome logs.entry (λ d. d.now ≡ [] → ⊥)
+        × IfSome traces.entry (λ d. d.now ≡ [] → ⊥)) }
 {
     Ok(Locks {
         _logs: lock_logs(rt, logs)?,

@@ -11,10 +11,9 @@ use crate::files::LogFile;
 use crate::folder::{Folder, fault_in};
 use crate::members::members_of;
 use crate::owed::{first_missing, names};
-use crate::tracing::{ServerMachine, Traces, recorded};
+use crate::tracing::{ServerMachine, Traces, recorded, restarted};
 use kx_broker::{OffsetsMachine, PartitionMachine};
 use kx_coord_node::CoordinatorMachine;
-use kx_machine::Input;
 use kx_machines::BrokerMachine;
 use kx_message::{NodeId, PartitionId};
 use kx_nodes::Untraced;
@@ -169,20 +168,6 @@ impl<'a, F: Folder, R: Files<File = File> + AllocGlobal + Eprint + Wait + Drop +
         Ok(recorded(self.alloc, BrokerMachine::Coordinator(machine), trace))
     }
 
-    // Takes the first step of a coordinator's trace, which sets its clock.
-    fn restarted(
-        &self,
-        mut machine: ServerMachine<F::Kept, R>,
-    ) -> Result<ServerMachine<F::Kept, R>, ServeFault>
-        requires { StandsForCoordinator machine }
-        ensures { IfOk result StandsForCoordinator }
-    {
-        match machine.record(&Input::Restart(self.time)) {
-            Ok(_taken) => Ok(machine),
-            Err(_) => Err(ServeFault::Memory),
-        }
-    }
-
     // The coordinator of a log and a trace that have nothing.
     fn first_coordinator(
         &self,
@@ -191,9 +176,9 @@ impl<'a, F: Folder, R: Files<File = File> + AllocGlobal + Eprint + Wait + Drop +
     ) -> Result<ServerMachine<F::Kept, R>, ServeFault>
         ensures { IfOk result StandsForCoordinator }
     {
-        let machine = self.begun(store)?;
-        let machine = BrokerMachine::Coordinator(machine);
-        self.restarted(recorded(self.alloc, machine, Some(trace)))
+        let machine = BrokerMachine::Coordinator(self.begun(store)?);
+        let made = recorded(self.alloc, machine, Some(trace));
+        restarted(made, self.time)
     }
 
     // The coordinator with a trace. One of a single entry was made, and its process ended before the

@@ -1,9 +1,11 @@
 //! The traces of a server's nodes.
-ghost use Rattle.std.specs.Prelude.{◌≡◌};
+ghost use Rattle.std.specs.Prelude.{◌≡◌, IfOk, IsTrue, MatchOption, false};
+ghost use Rattle.kx_serve.specs.Opening.{StandsForCoordinator};
 
 use crate::fault::ServeFault;
 use crate::files::LogFile;
 use kx_log::Store;
+use kx_machine::Input;
 use kx_machines::BrokerMachine;
 use kx_recording::Recording;
 use kx_trace::TracedNode;
@@ -22,11 +24,30 @@ pub(crate) fn recorded<S: Store, R: Eprint + Drop>(
     machine: BrokerMachine<S>,
     trace: Option<TraceFile<R>>,
 ) -> ServerMachine<S, R>
-    ensures { result.machine ≡ machine }
+    ensures machine { result.machine ≡ machine }
+    ensures writes { MatchOption trace (result.writes ≡ false) (λ t. IsTrue result.writes) }
 {
     match trace {
         None => Recording::untraced(machine),
         Some(trace) => Recording::traced(alloc, machine, trace),
+    }
+}
+
+/// Takes the first step of a coordinator's trace, a restart at this time, which sets its clock.
+///
+/// # Errors
+///
+/// `Memory` where there was no step.
+pub(crate) fn restarted<S: Store, R: Eprint + Drop>(
+    mut machine: ServerMachine<S, R>,
+    time: u64,
+) -> Result<ServerMachine<S, R>, ServeFault>
+    requires { StandsForCoordinator machine }
+    ensures { IfOk result StandsForCoordinator }
+{
+    match machine.record(&Input::Restart(time)) {
+        Ok(_taken) => Ok(machine),
+        Err(_) => Err(ServeFault::Memory),
     }
 }
 

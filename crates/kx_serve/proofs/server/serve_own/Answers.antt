@@ -1,20 +1,15 @@
-use Rattle.std.proofs.Common.{rules}
 use Rattle.std.specs.Prelude.{codes}
-use Rattle.std.proofs.lemmas.Result.{on_ok_weaker}
-use Rattle.kx_server.specs.Lines.{line_of}
 use Rattle.kx_serve.proofs.Printed.{appends_both}
+use Rattle.kx_server.specs.Lines.{line_of}
 use Rattle.kx_serve.proofs.server.serve_own.Goals as goal
 
 pub returns : goal.returns
 returns g c =
     let contents = g.W.Write.contents in
     let served = c.args.options.now.connections in
-    let listens = c.in_ok-serve_speaking.ensures in
-    on_ok_weaker c.tell.result
-    (λ last. (
+    let listens = c.in_ok-serve_speaking.ensures in (
       listens.0,
       appends_both (contents c.args.out.now) (contents c.serve_speaking.new.out)
           (contents c.tell.new.out) (line_of (codes "listening") listens.0)
-          (line_of (codes "served") served) listens.1 last,
-    ))
-    (search rules)
+          (line_of (codes "served") served) listens.1 c.in_ok-tell.ensures,
+    )

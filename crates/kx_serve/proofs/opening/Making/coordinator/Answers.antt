@@ -5,7 +5,3 @@ use Rattle.kx_serve.proofs.opening.Making.coordinator.Goals as goal
 pub new-locked-requires : goal.new-locked-requires
 new-locked-requires g c =
     let it = c.in_ok-machine.ensures in (AtCoordinator it.coordinator, it.stands, refl)
-
-pub unpublished-requires : goal.unpublished-requires
-unpublished-requires g c =
-    let it = c.in_ok-machine.ensures in (AtCoordinator it.coordinator, it.stands)

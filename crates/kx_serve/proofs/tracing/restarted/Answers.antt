@@ -1,5 +1,5 @@
 use Rattle.kx_serve.proofs.Coordinators.{stepped}
-use Rattle.kx_serve.proofs.opening.Making.restarted.Goals as goal
+use Rattle.kx_serve.proofs.tracing.restarted.Goals as goal
 
 pub returns-in-Ok : goal.returns-in-Ok
 returns-in-Ok g c =
