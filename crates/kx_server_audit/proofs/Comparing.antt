@@ -22,7 +22,6 @@ use Rattle.kx_server_audit.specs.declared.denial.Stop.TheVariants as stop
 use Rattle.kx_server_audit.specs.declared.findings.Findings.{Findings}
 use Rattle.kx_server_audit.specs.declared.sources.Source.{Source}
 use Rattle.kx_server_audit.proofs.Reading.{of_node}
-use Rattle.kx_trace.specs.declared.node.TracedNode.{TracedNode}
 use Rattle.kx_trace_audit.specs.declared.refusal.TraceRefusal.{TraceRefusal}
 use Rattle.kx_trace_audit.specs.declared.servers.TraceOf.{TraceOf}
 

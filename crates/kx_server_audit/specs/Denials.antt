@@ -1,5 +1,5 @@
 -- Where and why an audit says no.
-use Rattle.std.specs.Prelude.{◌≡◌, ◌≢◌, ℕ, Bool, IsTrue, List, [], None, Option, Some, slice_get}
+use Rattle.std.specs.Prelude.{◌≡◌, ◌≢◌, ℕ, Bool, IsTrue, List, [], None, Some, slice_get}
 use Rattle.kx_log.specs.Store.{StoreState}
 use Rattle.kx_machine.specs.Meaning.{NodeState}
 use Rattle.kx_machines.specs.Brokers.{broker_stands}

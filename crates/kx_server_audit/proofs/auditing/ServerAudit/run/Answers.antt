@@ -1,4 +1,3 @@
-use Rattle.std.proofs.Common.{List, subst, sym}
 use Rattle.std.proofs.lemmas.Result.{err_from_is_err_and}
 use Rattle.kx_server_audit.proofs.Advancing.{ended, says_left}
 use Rattle.kx_server_audit.proofs.auditing.ServerAudit.run.Goals as goal
