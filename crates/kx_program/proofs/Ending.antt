@@ -57,8 +57,8 @@ audit_kept : (compares : Bool) (old mid new : Option (List ℕ))
     → audit.Tells compares old new audited
 audit_kept compares old mid new _ kept (audit.TellsYes f words none yes printed) =
     audit.TellsYes f words none yes (appends_kept old mid new _ printed kept)
-audit_kept compares old mid new _ kept (audit.TellsNo f words denial some printed) =
-    audit.TellsNo f words denial some (appends_kept old mid new _ printed kept)
+audit_kept compares old mid new _ kept (audit.TellsNo f words denial some no printed) =
+    audit.TellsNo f words denial some no (appends_kept old mid new _ printed kept)
 audit_kept compares old mid new _ kept (audit.Fails why) = audit.Fails why
 
 -- the audit of a server, and a flush after it

@@ -1,7 +1,12 @@
 -- An audit that goes on in one trace, and then in another.
-use Rattle.std.proofs.Common.{◌≡◌, ◌+◌, ◌∙◌, ◌++◌, ℕ, List, [], ◌∷◌, Option, ap, append-nil, append_assoc}
-use Rattle.std.proofs.Common.{All, Err, Ok, OnOk, Result, arith, get_or, length, length-append, refl}
-use Rattle.std.proofs.Common.{None, Some, map, slice_get, slice_set, subst, sym, true}
+use borrow.Author.Count.{below_more}
+use Rattle.std.proofs.Common.{◌≡◌, ◌≢◌, ◌+◌, ◌<◌, ◌∙◌, ◌++◌, ◌==◌, ◌||◌, ◌⊎◌, ℕ, zero, suc, List, [], ◌∷◌, Option, ap}
+use Rattle.std.proofs.Common.{All, Err, MatchResult, Ok, OnOk, Result, append-nil, append_assoc, arith, get_or, inl, inr}
+use Rattle.std.proofs.Common.{Bool, None, Some, false, length, length-append, map, refl, slice_get}
+use Rattle.std.proofs.Common.{slice_set, subst, sym, true}
+use Rattle.std.proofs.lemmas.Bool.{cases_eq, false≢true}
+use Rattle.std.proofs.lemmas.List.{length-set, set-get_or}
+use Rattle.std.proofs.lemmas.Option.{get_or_from_slice_get, slice_get_read, slice_get_within}
 use Rattle.std.proofs.KnownBytes.{Consumes-nil, Consumes-trans}
 use Rattle.std.proofs.lemmas.List.Sums.{sum_by-append}
 use Rattle.std.specs.Io.KnownBytes.{Consumes, IsAtEnd}
@@ -10,15 +15,24 @@ use Rattle.kx_follow.specs.Following.{Followed}
 use Rattle.kx_log.specs.Store.{StoreState}
 use Rattle.kx_machines.specs.declared.broker.BrokerMachine.{BrokerMachine}
 use Rattle.kx_server_audit.specs.Counting.{AreCounts, decided_by, decided_in, in_64_bits}
-use Rattle.kx_server_audit.specs.Driving.{Advances, AreAudited, IsUnderWay, SaysYes, making}
+use Rattle.kx_server_audit.specs.Driving.{Advances, AreAudited, AreStuck, Audited, CannotRead, EndsBy}
+use Rattle.kx_server_audit.specs.Driving.{AreTold, EndsIn, GoesNoFurther, GoesOn, HasGoneOn, IsFed}
+use Rattle.kx_server_audit.specs.Driving.{IsStuck, IsTold, IsUnderWay, IsWhole, ItemLeft, ItemRefused}
+use Rattle.kx_server_audit.specs.Driving.{OthersStay, RefusesAt, SaysYes, Stays, making}
 use Rattle.kx_server_audit.specs.Reads.{IsEnded, Origin}
+use Rattle.kx_server_audit.specs.declared.auditing.Ending.{Ending}
+use Rattle.kx_server_audit.specs.declared.auditing.Ending.TheVariants as ending
 use Rattle.kx_server_audit.specs.declared.auditing.ServerAudit.{ServerAudit}
 use Rattle.kx_server_audit.specs.declared.counts.Counts.{Counts}
 use Rattle.kx_server_audit.specs.declared.server_node.ServerNode.{ServerNode}
 use Rattle.kx_server_audit.specs.declared.sources.Source.{Source}
-use Rattle.kx_server_audit.proofs.Reading.{all_are_read, fed-fed, fed-nil, read_at}
+use Rattle.kx_server_audit.proofs.Reading.{all_are_read, all_at, are_parts, count_read, fed-fed}
+use Rattle.kx_server_audit.proofs.Reading.{fed-nil, read_at}
 use Rattle.kx_machines.specs.Brokers.{broker_stands}
-use Rattle.kx_trace_audit.specs.Auditing.{IsYes, fed}
+use Rattle.kx_trace_audit.specs.Auditing.{IsFirstLeft, IsRefused, IsYes, fed}
+use Rattle.kx_trace_audit.specs.Readings.{Reading, fed_on}
+use Rattle.kx_trace_audit.specs.declared.refusal.TraceRefusal.{TraceRefusal}
+use Rattle.kx_trace_audit.specs.declared.refusal.TraceRefusal.TheVariants as refusal
 
 -- one more step is counted
 pub counted_more : (history : List Passed) (p : Passed) (sent : ℕ) (old new : Counts)
@@ -32,20 +46,120 @@ counted_more history p sent old new e steps messages counted =
     let sent_before = counted.messages in
     record { steps = omega (arith, more); messages = omega (arith, sum) }
 
+------ lists
+
+get_set_here : {A : Type 0} (xs : List A) (i : ℕ) (y z : A)
+    → slice_get (slice_set xs i y) i ≡ Some z → y ≡ z
+get_set_here [] i y z is = cc
+get_set_here (x ∷ xs) zero y z is = cc
+get_set_here (x ∷ xs) (suc i) y z is = get_set_here xs i y z is
+
+get_other : {A : Type 0} (xs : List A) (i j : ℕ) (y : A) → (j ≡ i → ⊥)
+    → slice_get (slice_set xs i y) j ≡ slice_get xs j
+get_other [] i j y apart = refl
+get_other (x ∷ xs) zero zero y apart = absurd (apart refl)
+get_other (x ∷ xs) zero (suc j) y apart = refl
+get_other (x ∷ xs) (suc i) zero y apart = refl
+get_other (x ∷ xs) (suc i) (suc j) y apart =
+    get_other xs i j y (λ e. apart (ap (λ (n : ℕ). suc n) e))
+
+or_true : (b : Bool) → (b || true) ≡ true
+or_true true = refl
+or_true false = refl
+
+------ of the traces that are audited
+
+-- the trace of this number was changed to this
+pub others_stay : (k : ℕ) (old new : Audited) (r : Reading)
+    → new.traces ≡ slice_set old.traces k r → OthersStay k old new
+others_stay k old new r e = λ j apart.
+    ap (λ (rs : List Reading). slice_get rs j) e ∙ get_other old.traces k j r apart
+
+changed_is : (k : ℕ) (old new : Audited) (r now : Reading) → new.traces ≡ slice_set old.traces k r
+    → slice_get new.traces k ≡ Some now → r ≡ now
+changed_is k old new r now e there =
+    get_set_here old.traces k r now (sym (ap (λ (rs : List Reading). slice_get rs k) e) ∙ there)
+
+-- whether it was told of the end is as before
+pub still_told : {I : Type 0} (k : ℕ) (old new : ServerAudit) (from to : Source I) (was r : Reading)
+    → slice_get old.audit.traces k ≡ Some was → r.is_end ≡ was.is_end
+    → new.audit.traces ≡ slice_set old.audit.traces k r → to.is_ended ≡ from.is_ended
+    → IsTold k old from → IsTold k new to
+still_told k old new from to was r here same e ended told = λ now there at_end.
+    let changed = changed_is k old.audit new.audit r now e there in
+    ap (λ (x : Reading). x.is_end) (sym changed) ∙ same ∙ told was here (sym ended ∙ at_end)
+
+-- bytes were fed
+pub fed_told : (k : ℕ) (bytes : List ℕ) (old new : Audited) (was : Reading)
+    → new ≡ record old { traces = slice_set old.traces k (fed_on bytes was) }
+    → IsFed k bytes old new
+fed_told k bytes old new was e =
+    let set = ap (λ (a : Audited). a.traces) e in
+    record {
+      others = others_stay k old new (fed_on bytes was) set;
+      ends = λ r there none.
+          let changed = changed_is k old new (fed_on bytes was) r set there in
+          ap (λ (x : Reading). x.is_end) (sym changed)
+          ∙ ap (λ (bs : List ℕ). was.is_end || (length bs == 0)) none ∙ or_true was.is_end;
+    }
+
+-- there is no such trace
+pub fed_nothing : (k : ℕ) (bytes : List ℕ) (old new : Audited) → slice_get old.traces k ≡ None
+    → new ≡ old → IsFed k bytes old new
+fed_nothing k bytes old new none e = record {
+  others = λ j apart. ap (λ (a : Audited). slice_get a.traces j) e;
+  ends = λ r there end.
+      let found : None ≡ Some r =
+      sym none ∙ sym (ap (λ (a : Audited). slice_get a.traces k) e) ∙ there in
+      absurd cc;
+}
+
+-- the source of each trace, where one goes on
+told_at : {I : Type 0} (k j : ℕ) (old new : ServerAudit) (from to s : Source I)
+    (sources : List (Source I)) → from ≡ get_or sources k from
+    → (IsTold k old from → IsTold k new to) → OthersStay k old.audit new.audit
+    → AreTold old sources → slice_get (slice_set sources k to) j ≡ Some s
+    → (j ≡ k) ⊎ (j ≡ k → ⊥) → IsTold j new s
+told_at {I} k j old new from to s sources e told others are there (inl same) =
+    let set : slice_get (slice_set sources k to) k ≡ Some s =
+    ap (λ (i : ℕ). slice_get (slice_set sources k to) i) (sym same) ∙ there in
+    let within = slice_get_within (slice_set sources k to) k s set in
+    let was = slice_get_read sources (length sources) k from refl
+    (omega (arith, within, length-set sources k to)) e in
+    subst (λ (i : ℕ). IsTold i new s) (sym same)
+    (subst (λ (x : Source I). IsTold k new x) (get_set_here sources k to s set)
+    (told (are k from was)))
+told_at k j old new from to s sources e told others are there (inr apart) = λ r at ended.
+    are j s (sym (get_other sources k j to apart) ∙ there) r (sym (others j apart) ∙ at) ended
+
+-- an element at each place
+element : {A : Type 0} (xs : List A) (k : ℕ) → k < length xs → (x : A) × (slice_get xs k ≡ Some x)
+element [] k h = absurd (omega arith)
+element (x ∷ xs) zero h = (x, refl)
+element (x ∷ xs) (suc k) h = element xs k (omega arith)
+
+no_further : (history : List Passed) (k : ℕ) (a : Audited) (P Q : Type 0) → (P → Q)
+    → GoesNoFurther history k a P → GoesNoFurther history k a Q
+no_further history k a P Q f (inl waits) = inl waits
+no_further history k a P Q f (inr needs) = inr (needs.0, f needs.1)
+
 module _ {I : Type 0} (remaining : I → Option (List ℕ)) where
   -- nothing was read, and these steps were made
   pub makes : (texts : List (List ℕ)) (history more : List Passed) (k : ℕ) (old new : ServerAudit)
       (from to : Source I) → to.reader ≡ from.reader → to.is_ended ≡ from.is_ended
+      → (IsTold k old from → IsTold k new to) → OthersStay k old.audit new.audit
       → (AreCounts history old.counts → AreCounts (history ++ more) new.counts)
       → AreAudited texts (history ++ more) new.audit
       → Advances remaining texts history k old new from to
-  makes texts history more k old new from to reader ended counted audited = record {
+  makes texts history more k old new from to reader ended told others counted audited = record {
     read = [];
     more = more;
     consumed = subst (λ (r : I). Consumes (remaining from.reader) (remaining r) []) (sym reader)
         (Consumes-nil (remaining from.reader));
     ended = λ before now. subst (λ (r : I). IsAtEnd (remaining r)) (sym reader)
         (before (sym ended ∙ now));
+    told = told;
+    others = others;
     audited = subst (λ (ts : List (List ℕ)). AreAudited ts (history ++ more) new.audit)
         (sym (fed-nil texts k)) audited;
     counted = counted;
@@ -54,11 +168,12 @@ module _ {I : Type 0} (remaining : I → Option (List ℕ)) where
   -- nothing was read, and no step was made
   pub stays : (texts : List (List ℕ)) (history : List Passed) (k : ℕ) (old new : ServerAudit)
       (from to : Source I) → to.reader ≡ from.reader → to.is_ended ≡ from.is_ended
+      → (IsTold k old from → IsTold k new to) → OthersStay k old.audit new.audit
       → new.counts ≡ old.counts → AreAudited texts history new.audit
       → Advances remaining texts history k old new from to
-  stays texts history k old new from to reader ended counts audited =
+  stays texts history k old new from to reader ended told others counts audited =
       let none = append-nil history in
-      makes texts history [] k old new from to reader ended
+      makes texts history [] k old new from to reader ended told others
       (λ counted. subst (λ (h : List Passed). AreCounts h new.counts) (sym none)
       (subst (AreCounts history) (sym counts) counted))
       (subst (λ (h : List Passed). AreAudited texts h new.audit) (sym none) audited)
@@ -67,34 +182,23 @@ module _ {I : Type 0} (remaining : I → Option (List ℕ)) where
   pub reads : (texts : List (List ℕ)) (history : List Passed) (k : ℕ) (old new : ServerAudit)
       (from to : Source I) (bytes : List ℕ)
       → Consumes (remaining from.reader) (remaining to.reader) bytes → IsEnded remaining to
+      → (to.is_ended ≡ true → bytes ≡ []) → IsFed k bytes old.audit new.audit
       → new.counts ≡ old.counts → AreAudited (fed texts k bytes) history new.audit
       → Advances remaining texts history k old new from to
-  reads texts history k old new from to bytes consumed ended counts audited =
+  reads texts history k old new from to bytes consumed ended none_left is_fed counts audited =
       let none = append-nil history in
       record {
         read = bytes;
         more = [];
         consumed = consumed;
         ended = λ before. ended;
+        told = λ before r there at_end. is_fed.ends r there (none_left at_end);
+        others = is_fed.others;
         audited = subst (λ (h : List Passed). AreAudited (fed texts k bytes) h new.audit)
             (sym none) audited;
         counted = λ counted. subst (λ (h : List Passed). AreCounts h new.counts) (sym none)
             (subst (AreCounts history) (sym counts) counted);
       }
-
-  -- from the same counts
-  pub from_counts : (texts : List (List ℕ)) (history : List Passed) (k : ℕ)
-      (old mid new : ServerAudit) (from to : Source I) → mid.counts ≡ old.counts
-      → Advances remaining texts history k mid new from to
-      → Advances remaining texts history k old new from to
-  from_counts texts history k old mid new from to e a = record {
-    read = a.read;
-    more = a.more;
-    consumed = a.consumed;
-    ended = a.ended;
-    audited = a.audited;
-    counted = λ counted. a.counted (subst (AreCounts history) (sym e) counted);
-  }
 
   -- it goes on twice
   pub Advances-trans : (texts : List (List ℕ)) (history : List Passed) (k : ℕ)
@@ -110,30 +214,38 @@ module _ {I : Type 0} (remaining : I → Option (List ℕ)) where
         consumed = Consumes-trans (remaining from.reader) (remaining via.reader)
             (remaining to.reader) a.read b.read a.consumed b.consumed;
         ended = λ e. b.ended (a.ended e);
+        told = λ t. b.told (a.told t);
+        others = λ j apart. b.others j apart ∙ a.others j apart;
         audited = subst (λ (ts : List (List ℕ)). AreAudited ts (history ++ (a.more ++ b.more)) new.audit)
             (fed-fed texts k a.read b.read)
             (subst (λ (h : List Passed). AreAudited (fed (fed texts k a.read) k b.read) h new.audit) joined b.audited);
         counted = λ c. subst (λ (h : List Passed). AreCounts h new.counts) joined (b.counted (a.counted c));
       }
 
-  -- it has gone on in one trace, whatever was audited before
-  abbrev pub Goes : ℕ → ServerAudit → ServerAudit → Source I → Source I → Type 0
-  Goes k old new from to = (texts : List (List ℕ)) (history : List Passed)
-      → AreAudited texts history old.audit → Advances remaining texts history k old new from to
-
-  pub goes_nowhere : (k : ℕ) (a : ServerAudit) (s : Source I) → Goes k a a s s
-  goes_nowhere k a s = λ texts history has. stays texts history k a a s s refl refl refl has
+  pub goes_nowhere : (k : ℕ) (a : ServerAudit) (s : Source I) → GoesOn remaining k a a s s
+  goes_nowhere k a s = λ texts history has.
+      stays texts history k a a s s refl refl (λ told. told) (λ j apart. refl) refl has
 
   pub goes_on : (k : ℕ) (old mid new : ServerAudit) (from via to : Source I)
-      → Goes k old mid from via → Goes k mid new via to → Goes k old new from to
+      → GoesOn remaining k old mid from via → GoesOn remaining k mid new via to
+      → GoesOn remaining k old new from to
   goes_on k old mid new from via to a b = λ texts history has.
       let first = a texts history has in
       Advances-trans texts history k old mid new from via to first
       (b (fed texts k first.read) (history ++ first.more) first.audited)
 
+  pub has_gone : (k : ℕ) (old new : ServerAudit) (from to : Source I) (went_on : Bool)
+      → HasGoneOn remaining k old new from to went_on → GoesOn remaining k old new from to
+  has_gone k old new from to true h = h
+  has_gone k old new from to false h = λ texts history has.
+      let s = h texts history has in
+      subst (λ (a : ServerAudit). Advances remaining texts history k old a from to) (sym s.audit_is)
+      (subst (λ (t : Source I). Advances remaining texts history k old old from t) (sym s.source_is)
+      (goes_nowhere k old from texts history has))
+
   -- it has gone on in one of the traces
   pub one_goes : (origins : List Origin) (k : ℕ) (old new : ServerAudit) (from to : Source I)
-      (sources : List (Source I)) → from ≡ get_or sources k from → Goes k old new from to
+      (sources : List (Source I)) → from ≡ get_or sources k from → GoesOn remaining k old new from to
       → IsUnderWay remaining origins old sources
       → IsUnderWay remaining origins new (slice_set sources k to)
   one_goes origins k old new from to sources e goes w =
@@ -143,8 +255,85 @@ module _ {I : Type 0} (remaining : I → Option (List ℕ)) where
         history = w.history ++ a.more;
         audited = a.audited;
         read = read_at remaining origins w.texts sources k from to a.read e a.consumed a.ended w.read;
+        told = λ j s there. told_at k j old new from to s sources e a.told a.others w.told there
+            (cases_eq j k);
         counted = a.counted w.counted;
       }
+
+  -- it went on in this trace before it ended so
+  pub ends_later : (k : ℕ) (old mid new : ServerAudit) (from via : Source I) (e : Ending)
+      → GoesOn remaining k old mid from via → EndsIn remaining k mid new via e
+      → EndsIn remaining k old new from e
+  ends_later k old mid new from via (ending.Refused r) goes h = record {
+    before = h.before;
+    to = h.to;
+    goes = goes_on k old mid h.before from via h.to goes h.goes;
+    trace_is = h.trace_is;
+    known = h.known;
+    counts_are = h.counts_are;
+    refused = h.refused;
+  }
+  ends_later k old mid new from via (ending.Read trace) goes h = h
+  ends_later k old mid new from via ending.Memory goes h = tt
+
+  pub ends_unread : (k : ℕ) (old new : ServerAudit) (from : Source I) (e : Ending) → CannotRead k e
+      → EndsIn remaining k old new from e
+  ends_unread k old new from (ending.Refused r) h = absurd h
+  ends_unread k old new from (ending.Read trace) h = h
+  ends_unread k old new from ending.Memory h = tt
+
+  -- its next item was refused
+  pub ends_refused : (k : ℕ) (old new : ServerAudit) (from : Source I) (why : TraceRefusal) (e : Ending)
+      → new.counts ≡ old.counts
+      → ((texts : List (List ℕ)) (history : List Passed) → AreAudited texts history old.audit
+      → IsRefused making broker_stands history k old.audit new.audit why)
+      → RefusesAt k why e → EndsIn remaining k old new from e
+  ends_refused k old new from why (ending.Refused r) counts refused h = record {
+    before = old;
+    to = from;
+    goes = goes_nowhere k old from;
+    trace_is = h.0;
+    known = subst (λ (w : TraceRefusal). w ≢ refusal.Memory) (sym h.1) h.2;
+    counts_are = counts;
+    refused = λ texts history has. subst
+        (λ (w : TraceRefusal). IsRefused making broker_stands history k old.audit new.audit w)
+        (sym h.1) (refused texts history has);
+  }
+  ends_refused k old new from why (ending.Read trace) counts refused h = absurd h
+  ends_refused k old new from why ending.Memory counts refused h = tt
+
+  -- going on in one of the traces ended the audit
+  pub one_ends : (origins : List Origin) (k : ℕ) (old new : ServerAudit) (from : Source I)
+      (sources : List (Source I)) (e : Ending) → from ≡ get_or sources k from
+      → k < length sources → EndsIn remaining k old new from e
+      → IsUnderWay remaining origins old sources → EndsBy origins new e
+  one_ends origins k old new from sources (ending.Refused r) is within h w =
+      let u = one_goes origins k old h.before from h.to sources is h.goes w in
+      ItemRefused (record {
+        texts = u.texts;
+        history = u.history;
+        before = h.before.audit;
+        parts = are_parts remaining origins u.texts (slice_set sources k h.to) u.read;
+        audited = u.audited;
+        counted = subst (AreCounts u.history) (sym h.counts_are) u.counted;
+        known = h.known;
+        refused = subst (λ (n : ℕ). IsRefused making broker_stands u.history n h.before.audit new.audit r.why)
+            (sym h.trace_is) (h.refused u.texts u.history u.audited);
+      })
+  one_ends origins k old new from sources (ending.Read trace) is within h w =
+      let count = count_read remaining origins w.texts sources w.read in
+      omega (arith, h, count.1)
+  one_ends origins k old new from sources ending.Memory is within h w = tt
+
+  -- a source can't be read
+  pub unread_ends : (origins : List Origin) (a : ServerAudit) (sources : List (Source I)) (k : ℕ)
+      (e : Ending) → k < length sources → CannotRead k e → IsUnderWay remaining origins a sources
+      → EndsBy origins a e
+  unread_ends origins a sources k (ending.Refused r) within h w = absurd h
+  unread_ends origins a sources k (ending.Read trace) within h w =
+      let count = count_read remaining origins w.texts sources w.read in
+      omega (arith, h, count.1)
+  unread_ends origins a sources k ending.Memory within h w = tt
 
   -- all was read, and the audit says yes
   pub says_yes : (origins : List Origin) (a : ServerAudit)
@@ -160,6 +349,119 @@ module _ {I : Type 0} (remaining : I → Option (List ℕ)) where
     counted = w.counted;
     says = says w.texts w.history w.audited;
   }
+
+  left_at : (origins : List Origin) (a : ServerAudit) (sources : List (Source I)) (k : ℕ)
+      (e : Ending) → AreStuck a sources → IsFirstLeft a.audit.traces k
+      → RefusesAt k refusal.Unsent e → IsUnderWay remaining origins a sources → EndsBy origins a e
+  left_at origins a sources k (ending.Refused r) stuck first h w =
+      let count = count_read remaining origins w.texts sources w.read in
+      ItemLeft (record {
+        texts = w.texts;
+        history = w.history;
+        parts = are_parts remaining origins w.texts sources w.read;
+        audited = w.audited;
+        counted = w.counted;
+        why_is = h.1;
+        first = subst (IsFirstLeft a.audit.traces) (sym h.0) first;
+        stuck = λ j below.
+            let at = element sources j (omega (arith, count.0, count.1, w.audited.count)) in
+            let reading = element a.audit.traces j below in
+            no_further w.history j a.audit (at.0.is_ended ≡ true)
+            (IsWhole origins w.texts j a.audit)
+            (λ ended. record {
+              all = all_at remaining origins w.texts sources j at.0 at.1 ended w.read;
+              reading = reading.0;
+              there = reading.1;
+              is_end = w.told j at.0 at.1 reading.0 reading.1 ended;
+            })
+            (stuck j at.0 at.1 w.texts w.history w.audited);
+      })
+  left_at origins a sources k (ending.Read trace) stuck first h w = absurd h
+  left_at origins a sources k ending.Memory stuck first h w = tt
+
+  -- each trace is stuck, and an item is left
+  pub says_left : (origins : List Origin) (a : ServerAudit) (sources : List (Source I)) (k : ℕ)
+      (e : Ending) → AreStuck a sources
+      → ((texts : List (List ℕ)) (history : List Passed) → AreAudited texts history a.audit
+      → IsFirstLeft a.audit.traces k)
+      → (k < length sources → RefusesAt k refusal.Unsent e)
+      → IsUnderWay remaining origins a sources → EndsBy origins a e
+  says_left origins a sources k e stuck left refuses w =
+      let first = left w.texts w.history w.audited in
+      let count = count_read remaining origins w.texts sources w.read in
+      let within = slice_get_within a.audit.traces k first.reading first.there in
+      left_at origins a sources k e stuck first
+      (refuses (omega (arith, count.0, count.1, w.audited.count, within))) w
+
+------ traces that are stuck
+
+-- the traces before this one are stuck
+abbrev pub AreStuckBelow : {I : Type 0} → ℕ → ServerAudit → List (Source I) → Type 0
+AreStuckBelow {I} n a sources =
+    (k : ℕ) → k < n → (s : Source I) → slice_get sources k ≡ Some s → IsStuck k a s
+
+-- this one is stuck too
+pub stuck_next : {I : Type 0} (texts : List (List ℕ)) (history : List Passed) (n : ℕ)
+    (old new : ServerAudit) (from to : Source I) (sources : List (Source I))
+    → from ≡ get_or sources n from → AreAudited texts history old.audit
+    → ((ts : List (List ℕ)) (h : List Passed) → AreAudited ts h old.audit
+    → Stays h n old new from to)
+    → AreStuckBelow n old sources → AreStuckBelow (n + 1) new (slice_set sources n to)
+stuck_next {I} texts history n old new from to sources is has stays below =
+    let now = stays texts history has in
+    let stuck : IsStuck n old from = λ ts h at. (stays ts h at).stuck in
+    let here : (s : Source I) → slice_get sources n ≡ Some s → IsStuck n old s = λ s there.
+    subst (λ (t : Source I). IsStuck n old t) (is ∙ get_or_from_slice_get sources n s from there) stuck in
+    let all = below_more (λ (k : ℕ). (s : Source I) → slice_get sources k ≡ Some s → IsStuck k old s)
+    n below here in
+    let same = ap (λ (s : Source I). slice_set sources n s) is ∙ set-get_or sources n from in
+    subst (λ (a : ServerAudit). AreStuckBelow (n + 1) a (slice_set sources n to)) (sym now.audit_is)
+    (subst (λ (s : Source I). AreStuckBelow (n + 1) old (slice_set sources n s)) (sym now.source_is)
+    (subst (λ (ss : List (Source I)). AreStuckBelow (n + 1) old ss) (sym same) all))
+
+-- all are stuck
+pub all_stuck : {I : Type 0} (n : ℕ) (a : ServerAudit) (sources : List (Source I))
+    → length sources ≡ n → AreStuckBelow n a sources → AreStuck a sources
+all_stuck n a sources e below = λ k s there.
+    below k (omega (arith, slice_get_within sources k s there)) s there
+
+-- one more trace of a round
+pub next_trace : {I : Type 0} (remaining : I → Option (List ℕ)) (origins : List Origin) (n : ℕ)
+    (old new : ServerAudit) (from to : Source I) (sources : List (Source I)) (before went_on : Bool)
+    → from ≡ get_or sources n from → HasGoneOn remaining n old new from to went_on
+    → IsUnderWay remaining origins old sources × (before ≡ false → AreStuckBelow n old sources)
+    → IsUnderWay remaining origins new (slice_set sources n to)
+    × ((before || went_on) ≡ false → AreStuckBelow (n + 1) new (slice_set sources n to))
+next_trace remaining origins n old new from to sources before true is gone w = (
+  one_goes remaining origins n old new from to sources is gone w.0,
+  λ none. absurd (false≢true (sym none ∙ or_true before)),
+)
+next_trace remaining origins n old new from to sources true false is gone w = (
+  one_goes remaining origins n old new from to sources is
+      (has_gone remaining n old new from to false gone) w.0,
+  λ none. absurd (false≢true (sym none)),
+)
+next_trace remaining origins n old new from to sources false false is gone w = (
+  one_goes remaining origins n old new from to sources is
+      (has_gone remaining n old new from to false gone) w.0,
+  λ none. stuck_next w.0.texts w.0.history n old new from to sources is w.0.audited gone
+      (w.1 refl),
+)
+
+-- no item is left
+pub ended : {I T : Type 0} (remaining : I → Option (List ℕ)) (origins : List Origin)
+    (a : ServerAudit) (shown sources : List (Source I)) (r : Result T Ending) → shown ≡ sources
+    → MatchResult r (λ done. All (λ s. s.is_ended ≡ true) shown)
+    (λ e. (k : ℕ) × (k < length shown) × CannotRead k e)
+    → ((texts : List (List ℕ)) (history : List Passed) → AreAudited texts history a.audit
+    → IsYes making broker_stands texts a.audit)
+    → IsUnderWay remaining origins a sources
+    → MatchResult r (λ done. SaysYes origins a) (EndsBy origins a)
+ended remaining origins a shown sources (Ok done) e all says w =
+    says_yes remaining origins a shown sources e all says w
+ended {I} remaining origins a shown sources (Err x) e why says w =
+    unread_ends remaining origins a sources why.0 x
+    (subst (λ (ss : List (Source I)). why.0 < length ss) e why.1) why.2 w
 
 pub on_ok : {A E P Q : Type 0} (r : Result A E) → OnOk r P → (P → Q) → OnOk r Q
 on_ok (Ok a) p f = f p

@@ -1,10 +1,29 @@
 -- Logs that are compared, and what an audit then finds and tells.
-use Rattle.std.proofs.Common.{◌≡◌, ◌∷◌, All, Err, List, [], Ok, Result}
-use Rattle.std.specs.Prelude.{OnOk}
+use Rattle.std.proofs.Common.{◌≡◌, ◌∷◌, ℕ, zero, suc, All, Bool, Err, IfErr, IfOk, IsTrue, List, [], MatchResult}
+use Rattle.std.proofs.Common.{Ok, OnOk, None, Option, Result, Some, drop, false, is_some, length, refl, slice_get, subst, sym}
+use Rattle.std.proofs.lemmas.Bool.{false≢true}
 use Rattle.std.proofs.lemmas.List.Elements.{All-cons, All-nil, All-same}
 use Rattle.kx_log.specs.Store.{StoreState}
 use Rattle.kx_machines.specs.declared.broker.BrokerMachine.{BrokerMachine}
-use Rattle.kx_server_audit.specs.Telling.{HasLog}
+use Rattle.kx_server_audit.specs.Counting.{decided_in}
+use Rattle.kx_server_audit.specs.Denials.{IfNo, IsItemOf, IsLogDenied, IsNoAtOnce, IsOtherLogOf}
+use Rattle.kx_server_audit.specs.Denials.{IsStopped}
+use Rattle.kx_server_audit.specs.Driving.{EndsBy, SaysNo, SaysYes}
+use Rattle.kx_server_audit.specs.Reads.{IsOfNode, origins_of}
+use Rattle.kx_server_audit.specs.Telling.{AreFindings, AtItem, AtLog, HasLog, SaysNoOf, machines_in}
+use Rattle.kx_server_audit.specs.declared.auditing.Ending.{Ending}
+use Rattle.kx_server_audit.specs.declared.auditing.Ending.TheVariants as ending
+use Rattle.kx_server_audit.specs.declared.auditing.ServerAudit.{ServerAudit}
+use Rattle.kx_server_audit.specs.declared.counts.Counts.{Counts}
+use Rattle.kx_server_audit.specs.declared.denial.Denial.{Denial}
+use Rattle.kx_server_audit.specs.declared.denial.Denial.TheVariants as denial
+use Rattle.kx_server_audit.specs.declared.denial.Stop.{Stop}
+use Rattle.kx_server_audit.specs.declared.denial.Stop.TheVariants as stop
+use Rattle.kx_server_audit.specs.declared.findings.Findings.{Findings}
+use Rattle.kx_server_audit.specs.declared.sources.Source.{Source}
+use Rattle.kx_server_audit.proofs.Reading.{of_node}
+use Rattle.kx_trace_audit.specs.declared.refusal.TraceRefusal.{TraceRefusal}
+use Rattle.kx_trace_audit.specs.declared.servers.TraceOf.{TraceOf}
 
 -- no machine is left
 pub all_none : (ms : List (BrokerMachine StoreState)) → ms ≡ [] → All HasLog ms
@@ -20,6 +39,159 @@ pub on_ok_so : {T E P Q : Type 0} (r : Result T E) → (P → Q) → OnOk r P �
 on_ok_so (Ok x) so p = so p
 on_ok_so (Err e) so p = tt
 
-pub of_ok : {T E P : Type 0} (r : Result T E) (x : T) → r ≡ Ok x → OnOk r P → P
-of_ok (Ok y) x e p = p
-of_ok (Err y) x e p = absurd cc
+pub match_ok : {T E : Type 0} (r : Result T E) (x : T) (P : T → Type 0) (Q : E → Type 0) → r ≡ Ok x
+    → MatchResult r P Q → P x
+match_ok (Ok y) x P Q e h = let same : y ≡ x = cc in subst P same h
+match_ok (Err y) x P Q e h = absurd cc
+
+pub match_err : {T E : Type 0} (r : Result T E) (x : E) (P : T → Type 0) (Q : E → Type 0) → r ≡ Err x
+    → MatchResult r P Q → Q x
+match_err (Ok y) x P Q e h = absurd cc
+match_err (Err y) x P Q e h = let same : y ≡ x = cc in subst Q same h
+
+pub if_err : {T E : Type 0} (r : Result T E) (P Q : E → Type 0) → ((e : E) → P e → Q e) → IfErr r P
+    → IfErr r Q
+if_err (Ok x) P Q so h = tt
+if_err (Err e) P Q so h = so e h
+
+pub if_ok : {T E : Type 0} (r : Result T E) (P Q : T → Type 0) → ((x : T) → P x → Q x) → IfOk r P
+    → IfOk r Q
+if_ok (Ok x) P Q so h = so x h
+if_ok (Err e) P Q so h = tt
+
+pub some_so : {A : Type 0} (o : Option A) (x : A) → o ≡ Some x → IsTrue (is_some o)
+some_so (Some y) x e = refl
+some_so None x e = cc
+
+------ a no
+
+pub if_no : (s : Stop) (P Q : Denial → Type 0) → ((d : Denial) → P d → Q d) → IfNo s P → IfNo s Q
+if_no (stop.No d) P Q so h = so d h
+if_no (stop.Fault why) P Q so h = tt
+
+pub if_err_no : {T : Type 0} (r : Result T Stop) (P Q : Denial → Type 0) → ((d : Denial) → P d → Q d)
+    → IfErr r (λ s. IfNo s P) → IfErr r (λ s. IfNo s Q)
+if_err_no r P Q so h = if_err r (λ s. IfNo s P) (λ s. IfNo s Q) (λ s. if_no s P Q so) h
+
+in_front : (m : BrokerMachine StoreState) (ms : List (BrokerMachine StoreState)) (k : ℕ)
+    (x : BrokerMachine StoreState) → slice_get (m ∷ []) k ≡ Some x → slice_get (m ∷ ms) k ≡ Some x
+in_front m ms zero x e = e
+in_front m ms (suc k) x e = cc
+
+-- the first machine's log is other bytes
+pub first_denied : (m : BrokerMachine StoreState) (ms : List (BrokerMachine StoreState))
+    (of : List TraceOf) (d : Denial) → IsLogDenied (m ∷ []) of d → IsLogDenied (m ∷ ms) of d
+first_denied m ms of (denial.OtherLog node) h = record {
+  trace = h.trace;
+  one = h.one;
+  machine = h.machine;
+  bytes = h.bytes;
+  one_there = h.one_there;
+  machine_there = in_front m ms h.trace h.machine h.machine_there;
+  node_is = h.node_is;
+  other = h.other;
+}
+first_denied m ms of (denial.OtherNode node) h = absurd h
+first_denied m ms of (denial.Item node item why) h = absurd h
+
+-- that of a machine after the first
+pub next_denied : (m : BrokerMachine StoreState) (ms : List (BrokerMachine StoreState))
+    (of left : List TraceOf) (d : Denial)
+    → ((k : ℕ) (t : TraceOf) → slice_get left k ≡ Some t → slice_get of (suc k) ≡ Some t)
+    → IsLogDenied ms left d → IsLogDenied (m ∷ ms) of d
+next_denied m ms of left (denial.OtherLog node) is_next h = record {
+  trace = suc h.trace;
+  one = h.one;
+  machine = h.machine;
+  bytes = h.bytes;
+  one_there = is_next h.trace h.one h.one_there;
+  machine_there = h.machine_there;
+  node_is = h.node_is;
+  other = h.other;
+}
+next_denied m ms of left (denial.OtherNode node) is_next h = absurd h
+next_denied m ms of left (denial.Item node item why) is_next h = absurd h
+
+pub after_first : (of : List TraceOf) (k : ℕ) (t : TraceOf) → slice_get (drop 1 of) k ≡ Some t
+    → slice_get of (suc k) ≡ Some t
+after_first [] k t e = e
+after_first (x ∷ of) k t e = e
+
+-- this node's log is other bytes
+pub one_denied : (m : BrokerMachine StoreState) (t : TraceOf) (of : List TraceOf) (d : Denial)
+    → slice_get of 0 ≡ Some t → IsOtherLogOf m t.node d → IsLogDenied (m ∷ []) of d
+one_denied m t of d there h = subst (IsLogDenied (m ∷ []) of) (sym h.0) (record {
+  trace = 0;
+  one = t;
+  machine = m;
+  bytes = h.1.0;
+  one_there = there;
+  machine_there = refl;
+  node_is = refl;
+  other = h.1.1;
+})
+
+-- a no before the audit, whether logs are compared or not
+pub no_sooner : (compares : Bool) (d : Denial) → IsNoAtOnce false d → IsNoAtOnce compares d
+no_sooner compares (denial.OtherLog node) h = absurd (false≢true h.0)
+no_sooner compares (denial.OtherNode node) h = tt
+no_sooner compares (denial.Item node item why) h = absurd h
+
+------ what is found
+
+module _ {I : Type 0} (remaining : I → Option (List ℕ)) (of : List TraceOf)
+    (sources : List (Source I)) (count : length of ≡ length sources) (compares : Bool)
+    (a : ServerAudit) (counts : Counts) (transactions : ℕ) (counts_are : counts ≡ a.counts)
+    (transactions_are : transactions ≡ decided_in (machines_in a)) where
+  -- the audit of traces says no
+  pub item_no : (e : Ending) (d : Denial) → EndsBy (origins_of remaining of sources) a e
+      → IsItemOf of e d → SaysNoOf compares counts transactions d
+  item_no (ending.Refused r) (denial.Item node item why) ends is =
+      let origins = origins_of remaining of sources in
+      AtItem node item why (record {
+        origins = origins;
+        audit = a;
+        trace = r.trace;
+        of_node = subst (IsOfNode origins r.trace) (sym is.2)
+            (of_node remaining of sources r.trace is.0 count is.1);
+        says = subst (λ (w : TraceRefusal). SaysNo origins a (record { trace = r.trace; item = item; why = w }))
+            (sym is.4)
+            (subst (λ (n : ℕ). SaysNo origins a (record { trace = r.trace; item = n; why = r.why }))
+            (sym is.3) ends);
+        counts_are = counts_are;
+        transactions_are = transactions_are;
+      })
+  item_no (ending.Refused r) (denial.OtherNode node) ends is = absurd is
+  item_no (ending.Refused r) (denial.OtherLog node) ends is = absurd is
+  item_no (ending.Read trace) d ends is = absurd is
+  item_no ending.Memory d ends is = absurd is
+
+  -- a log isn't the one to which its trace leads
+  pub log_no : (d : Denial) → SaysYes (origins_of remaining of sources) a
+      → IsTrue compares × IsLogDenied (machines_in a) of d
+      → SaysNoOf compares counts transactions d
+  log_no (denial.OtherLog node) says h =
+      let origins = origins_of remaining of sources in
+      AtLog node h.0 (record {
+        origins = origins;
+        audit = a;
+        says = says;
+        counts_are = counts_are;
+        transactions_are = transactions_are;
+        trace = h.1.trace;
+        of_node = subst (IsOfNode origins h.1.trace) (sym h.1.node_is)
+            (of_node remaining of sources h.1.trace h.1.one count h.1.one_there);
+        machine = h.1.machine;
+        there = h.1.machine_there;
+        bytes = h.1.bytes;
+        other = h.1.other;
+      })
+  log_no (denial.OtherNode node) says h = absurd h.1
+  log_no (denial.Item node item why) says h = absurd h.1
+
+-- what is found where an audit is stopped
+pub stopped_finds : (compares : Bool) (s : Stop) (found f : Findings)
+    → IfNo s (SaysNoOf compares found.counts found.transactions) → IsStopped s found f
+    → AreFindings compares f
+stopped_finds compares (stop.No d) found f says e = subst (AreFindings compares) (sym e) says
+stopped_finds compares (stop.Fault why) found f says e = absurd e

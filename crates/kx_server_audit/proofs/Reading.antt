@@ -1,13 +1,13 @@
 -- What was read of the sources of traces, a piece more at a time.
 use Rattle.std.proofs.Common.{◌≡◌, ◌∙◌, ◌++◌, ℕ, zero, suc, List, [], ◌∷◌, Option, ap, append-nil}
-use Rattle.std.proofs.Common.{All, append_assoc, arith, false, get_or, length, map, refl, slice_set}
-use Rattle.std.proofs.Common.{subst, sym, true}
+use Rattle.std.proofs.Common.{All, Some, append_assoc, arith, false, get_or, length, map, refl}
+use Rattle.std.proofs.Common.{slice_get, slice_set, subst, sym, true}
 use Rattle.std.proofs.lemmas.Bool.{false≢true}
 use Rattle.std.proofs.lemmas.List.Elements.{All-head, All-tail}
 use Rattle.std.specs.Io.KnownBytes.{Consumes}
 use Rattle.std.proofs.KnownBytes.{Consumes-all, Consumes-nil, Consumes-trans}
-use Rattle.kx_server_audit.specs.Reads.{AreAllOf, AreReadOf, IsAllOf, IsEnded, IsReadOf, Origin}
-use Rattle.kx_server_audit.specs.Reads.{origins_of}
+use Rattle.kx_server_audit.specs.Reads.{AreAllOf, ArePartsOf, AreReadOf, IsAllAt, IsAllOf, IsEnded}
+use Rattle.kx_server_audit.specs.Reads.{IsOfNode, IsReadOf, Origin, origins_of}
 use Rattle.kx_server_audit.specs.declared.sources.Source.{Source}
 use Rattle.kx_trace.specs.Layout.{head_text}
 use Rattle.kx_trace_audit.specs.Auditing.{fed}
@@ -72,6 +72,16 @@ module _ {I : Type 0} (remaining : I → Option (List ℕ)) where
     all_are_read os ts ss (All-tail (λ (x : Source I). x.is_ended ≡ true) s ss ended) r.1,
   )
 
+  pub unread_at : (ss : List (Source I)) (k : ℕ) (s : Source I)
+      → All (λ s. s.is_ended ≡ false) ss → slice_get ss k ≡ Some s → s.is_ended ≡ false
+  unread_at [] k s unread there = cc
+  unread_at (x ∷ ss) zero s unread there =
+      let same : x ≡ s = cc in
+      subst (λ (y : Source I). y.is_ended ≡ false) same
+      (All-head (λ (y : Source I). y.is_ended ≡ false) x ss unread)
+  unread_at (x ∷ ss) (suc k) s unread there =
+      unread_at ss k s (All-tail (λ (y : Source I). y.is_ended ≡ false) x ss unread) there
+
   -- nothing was read yet
   pub begun : (traces : List TraceOf) (ss : List (Source I)) → length traces ≡ length ss
       → All (λ s. s.is_ended ≡ false) ss
@@ -90,3 +100,78 @@ module _ {I : Type 0} (remaining : I → Option (List ℕ)) where
     },
     begun traces ss (omega arith) (All-tail (λ (x : Source I). x.is_ended ≡ false) s ss unread),
   )
+
+  -- there are as many texts and sources
+  pub count_read : (os : List Origin) (ts : List (List ℕ)) (ss : List (Source I))
+      → AreReadOf remaining os ts ss → (length ts ≡ length os) × (length ss ≡ length os)
+  count_read [] [] [] r = (refl, refl)
+  count_read [] [] (s ∷ ss) r = absurd r
+  count_read [] (text ∷ ts) ss r = absurd r
+  count_read (o ∷ os) [] ss r = absurd r
+  count_read (o ∷ os) (text ∷ ts) [] r = absurd r
+  count_read (o ∷ os) (text ∷ ts) (s ∷ ss) r =
+      let c = count_read os ts ss r.1 in
+      (omega (arith, c.0), omega (arith, c.1))
+
+  -- what was read is a part of what there was
+  pub are_parts : (os : List Origin) (ts : List (List ℕ)) (ss : List (Source I))
+      → AreReadOf remaining os ts ss → ArePartsOf os ts
+  are_parts [] [] [] r = tt
+  are_parts [] [] (s ∷ ss) r = absurd r
+  are_parts [] (text ∷ ts) ss r = absurd r
+  are_parts (o ∷ os) [] ss r = absurd r
+  are_parts (o ∷ os) (text ∷ ts) [] r = absurd r
+  are_parts (o ∷ os) (text ∷ ts) (s ∷ ss) r = (
+    record {
+      read = r.0.read;
+      left = remaining s.reader;
+      text_is = r.0.text_is;
+      consumed = r.0.consumed;
+    },
+    are_parts os ts ss r.1,
+  )
+
+  -- a source that is read to its end gave all that it had
+  pub all_at : (os : List Origin) (ts : List (List ℕ)) (ss : List (Source I)) (k : ℕ) (s : Source I)
+      → slice_get ss k ≡ Some s → s.is_ended ≡ true → AreReadOf remaining os ts ss
+      → IsAllAt os ts k
+  all_at [] [] [] k s there ended r = cc
+  all_at [] [] (x ∷ ss) k s there ended r = absurd r
+  all_at [] (text ∷ ts) ss k s there ended r = absurd r
+  all_at (o ∷ os) [] ss k s there ended r = absurd r
+  all_at (o ∷ os) (text ∷ ts) [] k s there ended r = absurd r
+  all_at (o ∷ os) (text ∷ ts) (x ∷ ss) zero s there ended r =
+      let same : x ≡ s = cc in
+      record {
+        origin = o;
+        text = text;
+        origin_there = refl;
+        text_there = refl;
+        all = all_read o text s ended (subst (IsReadOf remaining o text) same r.0);
+      }
+  all_at (o ∷ os) (text ∷ ts) (x ∷ ss) (suc k) s there ended r =
+      let a = all_at os ts ss k s there ended r.1 in
+      record {
+        origin = a.origin;
+        text = a.text;
+        origin_there = a.origin_there;
+        text_there = a.text_there;
+        all = a.all;
+      }
+
+  -- each trace begins with the head of its node
+  pub of_node : (traces : List TraceOf) (ss : List (Source I)) (k : ℕ) (t : TraceOf)
+      → length traces ≡ length ss → slice_get traces k ≡ Some t
+      → IsOfNode (origins_of remaining traces ss) k t.node
+  of_node [] ss k t e there = cc
+  of_node (x ∷ traces) [] k t e there = absurd (omega arith)
+  of_node (x ∷ traces) (s ∷ ss) zero t e there =
+      let same : x ≡ t = cc in
+      record {
+        origin = record { head = head_text x.node; rest = remaining s.reader };
+        there = refl;
+        head_is = ap (λ (y : TraceOf). head_text y.node) same;
+      }
+  of_node (x ∷ traces) (s ∷ ss) (suc k) t e there =
+      let a = of_node traces ss k t (omega arith) there in
+      record { origin = a.origin; there = a.there; head_is = a.head_is }

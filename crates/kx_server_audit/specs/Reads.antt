@@ -1,8 +1,9 @@
 -- What was read of the sources of traces.
-use Rattle.std.specs.Prelude.{◌≡◌, ◌++◌, ℕ, List, [], ◌∷◌, true, IfSome, Option}
+use Rattle.std.specs.Prelude.{◌≡◌, ◌++◌, ℕ, List, [], ◌∷◌, true, IfSome, Option, Some, slice_get}
 use Rattle.std.specs.Io.KnownBytes.{Consumes, IsAtEnd}
 use Rattle.kx_server_audit.specs.declared.sources.Source.{Source}
 use Rattle.kx_trace.specs.Layout.{head_text}
+use Rattle.kx_trace.specs.declared.node.TracedNode.{TracedNode}
 use Rattle.kx_trace_audit.specs.declared.servers.TraceOf.{TraceOf}
 
 -- what the text of a trace begins with, and what its source has to give after that, where it is known
@@ -48,3 +49,30 @@ AreAllOf [] [] = Unit {0}
 AreAllOf (o ∷ os) (t ∷ ts) = IsAllOf o t × AreAllOf os ts
 AreAllOf [] (t ∷ ts) = ⊥
 AreAllOf (o ∷ os) [] = ⊥
+
+-- the text is the head, and the first of what the source had to give
+pub record IsPartOf (origin : Origin) (text : List ℕ) : Type 0 where
+  pub read : List ℕ
+  pub left : Option (List ℕ)
+  pub text_is : text ≡ origin.head ++ read
+  pub consumed : Consumes origin.rest left read
+
+abbrev pub ArePartsOf : List Origin → List (List ℕ) → Type 0
+ArePartsOf [] [] = Unit {0}
+ArePartsOf (o ∷ os) (t ∷ ts) = IsPartOf o t × ArePartsOf os ts
+ArePartsOf [] (t ∷ ts) = ⊥
+ArePartsOf (o ∷ os) [] = ⊥
+
+-- the text of this number is all of its trace
+pub record IsAllAt (origins : List Origin) (texts : List (List ℕ)) (k : ℕ) : Type 0 where
+  pub origin : Origin
+  pub text : List ℕ
+  pub origin_there : slice_get origins k ≡ Some origin
+  pub text_there : slice_get texts k ≡ Some text
+  pub all : IsAllOf origin text
+
+-- the trace of this number is of this node: it begins with its head
+pub record IsOfNode (origins : List Origin) (k : ℕ) (node : TracedNode) : Type 0 where
+  pub origin : Origin
+  pub there : slice_get origins k ≡ Some origin
+  pub head_is : origin.head ≡ head_text node

@@ -1,13 +1,18 @@
 //! The audit of the traces of a server, which are read as far as they are needed.
-ghost use Rattle.std.specs.Prelude.{◌≡◌, ◌++◌, ℕ, [], All, IfOk, List, OnOk, map, true};
+ghost use Rattle.std.specs.Prelude.{◌≡◌, ◌<◌, ◌++◌, ℕ, [], All, IfOk, IsFalse, List};
+ghost use Rattle.std.specs.Prelude.{MatchResult, OnOk, length, map, true};
 ghost use Rattle.kx_audit.specs.Joined.{Passed};
 ghost use Rattle.kx_server_audit.specs.Counting.{AreCounts, decided_in};
-ghost use Rattle.kx_server_audit.specs.Driving.{Advances, AreAudited, IsUnderWay, SaysYes};
+ghost use Rattle.kx_server_audit.specs.Driving.{AreAudited, AreStuck, CannotRead, EndsBy, EndsIn};
+ghost use Rattle.kx_server_audit.specs.Driving.{GoesOn, HasGoneOn, IsFed, IsUnderWay, RefusesAt};
+ghost use Rattle.kx_server_audit.specs.Driving.{SaysYes};
 ghost use Rattle.kx_server_audit.specs.Finding.{AreBegun};
 ghost use Rattle.kx_server_audit.specs.Reads.{Origin, origins_of};
 ghost use Rattle.kx_server_audit.specs.Telling.{machines_in};
+ghost use Rattle.kx_server_audit.specs.declared.auditing.Ending.TheVariants.{Memory};
 ghost use Rattle.kx_trace.specs.Layout.{head_text};
 ghost use Rattle.kx_trace_audit.specs.Auditing.{fed};
+ghost use Rattle.kx_trace_audit.specs.declared.refusal.TraceRefusal.TheVariants.{Unsent};
 
 use crate::counts::{Counts, transactions};
 use crate::server_node::ServerNode;
@@ -41,8 +46,10 @@ pub enum Ending {
     Memory,
 }
 
-/// Out of memory.
+/// Out of memory is [`Ending::Memory`].
 impl From<AllocError> for Ending {
+    ghost from_gives = { λ refused ending. ending ≡ Memory };
+
     fn from(_: AllocError) -> Self {
         Ending::Memory
     }
@@ -58,7 +65,9 @@ pub struct ServerAudit {
 }
 
 // How an audit ends that refuses at a trace.
-fn refused_at<I: Read + Drop>(trace: usize, source: &Source<I>, why: TraceRefusal) -> Ending {
+fn refused_at<I: Read + Drop>(trace: usize, source: &Source<I>, why: TraceRefusal) -> Ending
+    ensures { RefusesAt trace why result }
+{
     match why {
         TraceRefusal::Memory => Ending::Memory,
         why => Ending::Refused(Refused {
@@ -70,7 +79,9 @@ fn refused_at<I: Read + Drop>(trace: usize, source: &Source<I>, why: TraceRefusa
 }
 
 // How an audit ends that has an item of this trace left, whose step takes what no step sent.
-fn unsent<I: Read + Drop>(trace: usize, sources: &[Source<I>]) -> Ending {
+fn unsent<I: Read + Drop>(trace: usize, sources: &[Source<I>]) -> Ending
+    ensures { trace < length sources.now → RefusesAt trace Unsent result }
+{
     match sources.get(trace) {
         Some(source) => refused_at(trace, source, TraceRefusal::Unsent),
         None => Ending::Read(trace),
@@ -79,7 +90,8 @@ fn unsent<I: Read + Drop>(trace: usize, sources: &[Source<I>]) -> Ending {
 
 // Whether each source was read to its end. Else the first that wasn't can't be read.
 fn all_ended<I: Read + Drop>(sources: &[Source<I>]) -> Result<(), Ending>
-    ensures { OnOk result (All (λ s. s.is_ended ≡ true) sources.now) }
+    ensures { MatchResult result (λ done. All (λ s. s.is_ended ≡ true) sources.now)
+        (λ ending. (trace : ℕ) × (trace < length sources.now) × CannotRead trace ending) }
 {
     match sources.iter().position(|source| !source.is_ended) {
         None => Ok(()),
@@ -89,8 +101,10 @@ fn all_ended<I: Read + Drop>(sources: &[Source<I>]) -> Result<(), Ending>
 
 // Feeds the next bytes of a trace to the audit; no bytes where it has no more.
 fn feed(audit: &mut TraceAudit<ServerNode>, trace: usize, bytes: &[u8]) -> Result<(), AllocError>
-    ensures { (texts : List (List ℕ)) (history : List Passed) → AreAudited texts history audit.old
+    ensures audited { (texts : List (List ℕ)) (history : List Passed)
+        → AreAudited texts history audit.old
         → OnOk result (AreAudited (fed texts trace bytes.now) history audit.new) }
+    ensures fed { OnOk result (IsFed trace bytes.now audit.old audit.new) }
 {
     audit.feed(trace, bytes)
 }
@@ -157,10 +171,9 @@ impl ServerAudit {
         trace: usize,
         source: &mut Source<I>,
     ) -> Result<(), Ending>
-        ensures { (texts : List (List ℕ)) (history : List Passed)
-            → AreAudited texts history self.old.audit → OnOk result
-            (Advances I.remaining texts history trace self.old self.new source.old
-            source.new) }
+        ensures { MatchResult result
+            (λ done. GoesOn I.remaining trace self.old self.new source.old source.new)
+            (CannotRead trace) }
     {
         match source.read(&mut self.piece) {
             Ok(count) => {
@@ -179,10 +192,9 @@ impl ServerAudit {
         trace: usize,
         source: &mut Source<I>,
     ) -> Result<bool, Ending>
-        ensures { (texts : List (List ℕ)) (history : List Passed)
-            → AreAudited texts history self.old.audit → OnOk result
-            (Advances I.remaining texts history trace self.old self.new source.old
-            source.new) }
+        ensures { MatchResult result
+            (HasGoneOn I.remaining trace self.old self.new source.old source.new)
+            (EndsIn I.remaining trace self.old self.new source.old) }
     {
         match self.audit.go(trace) {
             Ok(Progress::Made { sent }) => {
@@ -207,23 +219,40 @@ impl ServerAudit {
         }
     }
 
-    // Goes on in one trace as far as possible now; says whether that was at all.
+    // Goes on in one trace as far as possible now.
+    fn go_on_further<R: Eprint, I: Read + Drop>(
+        &mut self,
+        rt: &R,
+        trace: usize,
+        source: &mut Source<I>,
+    ) -> Result<(), Ending>
+        ensures { MatchResult result
+            (λ done. GoesOn I.remaining trace self.old self.new source.old source.new)
+            (EndsIn I.remaining trace self.old self.new source.old) }
+    {
+        for _ in 0..u64::MAX {
+            if !self.go_on(rt, trace, source)? {
+                break;
+            }
+        }
+        Ok(())
+    }
+
+    // The same, and says whether it went on at all.
     fn go_far<R: Eprint, I: Read + Drop>(
         &mut self,
         rt: &R,
         trace: usize,
         source: &mut Source<I>,
     ) -> Result<bool, Ending>
-        ensures { (texts : List (List ℕ)) (history : List Passed)
-            → AreAudited texts history self.old.audit → OnOk result
-            (Advances I.remaining texts history trace self.old self.new source.old
-            source.new) }
+        ensures { MatchResult result
+            (HasGoneOn I.remaining trace self.old self.new source.old source.new)
+            (EndsIn I.remaining trace self.old self.new source.old) }
     {
-        for done in 0..u64::MAX {
-            if !self.go_on(rt, trace, source)? {
-                return Ok(done != 0);
-            }
+        if !self.go_on(rt, trace, source)? {
+            return Ok(false);
         }
+        self.go_on_further(rt, trace, source)?;
         Ok(true)
     }
 
@@ -234,34 +263,34 @@ impl ServerAudit {
         sources: &mut Vec<Source<I>>,
     ) -> Result<bool, Ending>
         ensures { (origins : List Origin)
-            → IsUnderWay I.remaining origins self.old sources.old.items → OnOk result
-            (IsUnderWay I.remaining origins self.new sources.new.items) }
+            → IsUnderWay I.remaining origins self.old sources.old.items → MatchResult result
+            (λ went_on. IsUnderWay I.remaining origins self.new sources.new.items
+            × (IsFalse went_on → AreStuck self.new sources.new.items)) (EndsBy origins self.new) }
     {
         let mut went_on = false;
         for trace in 0..sources.len() {
-            if self.go_far(rt, trace, &mut sources[trace])? {
-                went_on = true;
-            }
+            went_on |= self.go_far(rt, trace, &mut sources[trace])?;
         }
         Ok(went_on)
     }
 
-    // Goes on until no trace goes on any more.
+    // Goes on until each trace is stuck. After 2^64 - 1 rounds it gives up, as if memory ran out.
     fn go_all<R: Eprint, I: Read + Drop>(
         &mut self,
         rt: &R,
         sources: &mut Vec<Source<I>>,
     ) -> Result<(), Ending>
         ensures { (origins : List Origin)
-            → IsUnderWay I.remaining origins self.old sources.old.items → OnOk result
-            (IsUnderWay I.remaining origins self.new sources.new.items) }
+            → IsUnderWay I.remaining origins self.old sources.old.items → MatchResult result
+            (λ done. IsUnderWay I.remaining origins self.new sources.new.items
+            × AreStuck self.new sources.new.items) (EndsBy origins self.new) }
     {
         for _ in 0..u64::MAX {
             if !self.go_round(rt, sources)? {
-                break;
+                return Ok(());
             }
         }
-        Ok(())
+        Err(Ending::Memory)
     }
 
     // Audits all that the sources give, the source of each trace at its number. Ok is a yes.
@@ -271,8 +300,8 @@ impl ServerAudit {
         sources: &mut Vec<Source<I>>,
     ) -> Result<(), Ending>
         ensures { (origins : List Origin)
-            → IsUnderWay I.remaining origins self.old sources.old.items → OnOk result
-            (SaysYes origins self.new) }
+            → IsUnderWay I.remaining origins self.old sources.old.items → MatchResult result
+            (λ done. SaysYes origins self.new) (EndsBy origins self.new) }
     {
         self.go_all(rt, sources)?;
         match self.audit.left_over() {
@@ -285,7 +314,8 @@ impl ServerAudit {
 /// Audits traces, of which nothing was read after the heads, as far as their sources give them; the
 /// source of each trace is at its number. Answers the audit, and how it ended: Ok is a yes. Then what
 /// the heads and all bytes of the sources tell is an open schedule, which keeps the promises that
-/// need no trust in clients.
+/// need no trust in clients. A refusal has its reason: the item of its trace, or that items are left
+/// and no trace goes on any more.
 ///
 /// # Errors
 ///
@@ -298,8 +328,8 @@ pub fn audit_traces<R: Eprint, I: Read + Drop>(
     tells_progress: bool,
 ) -> Result<(ServerAudit, Result<(), Ending>), TraceRefusal>
     requires { AreBegun traces.now sources.old.items }
-    ensures { IfOk result (λ x. OnOk x.1
-        (SaysYes (origins_of I.remaining traces.now sources.old.items) x.0)) }
+    ensures { let origins = origins_of I.remaining traces.now sources.old.items in
+        IfOk result (λ x. MatchResult x.1 (λ done. SaysYes origins x.0) (EndsBy origins x.0)) }
 {
     let mut audit = ServerAudit::new(alloc, traces, tells_progress)?;
     let ended = audit.run(rt, sources);

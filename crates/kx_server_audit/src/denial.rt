@@ -46,12 +46,22 @@ pub(crate) enum Stop {
 }
 
 impl From<AuditFault> for Stop {
+    ghost use Rattle.kx_server_audit.specs.declared.denial.Stop.TheVariants.{Fault};
+
+    ghost from_gives = { λ fault stop. stop ≡ Fault fault };
+
     fn from(fault: AuditFault) -> Self {
         Stop::Fault(fault)
     }
 }
 
+/// Out of memory is [`AuditFault::Memory`].
 impl From<AllocError> for Stop {
+    ghost use Rattle.kx_server_audit.specs.declared.denial.Stop.TheVariants.{Fault};
+    ghost use Rattle.kx_server_audit.specs.declared.fault.AuditFault.TheVariants.{Memory};
+
+    ghost from_gives = { λ refused stop. stop ≡ Fault Memory };
+
     fn from(_: AllocError) -> Self {
         Stop::Fault(AuditFault::Memory)
     }

@@ -1,5 +1,6 @@
 //! What an audit found.
 ghost use Rattle.std.specs.Prelude.{◌≡◌, Some};
+ghost use Rattle.kx_server_audit.specs.Telling.{AreNone};
 
 use crate::counts::Counts;
 use crate::denial::Denial;
@@ -15,7 +16,8 @@ pub(crate) struct Findings {
 impl Findings {
     /// A no before anything was counted.
     pub(crate) fn at_once(denial: Denial) -> Findings
-        ensures { result.denial ≡ Some denial }
+        ensures denial { result.denial ≡ Some denial }
+        ensures none { AreNone result.counts result.transactions }
     {
         Findings {
             counts: Counts::NONE,

@@ -1,6 +1,12 @@
 //! The logs that a server left in a folder.
-ghost use Rattle.std.specs.Prelude.{◌≡◌, All, OnOk, length};
+ghost use Rattle.std.specs.Prelude.{◌≡◌, ◌∷◌, [], All, IfErr, OnOk, drop, length, true};
+ghost use Rattle.kx_machine.specs.Meaning.{NodeState};
+ghost use Rattle.kx_machines.specs.Brokers.{broker_stands};
+ghost use Rattle.kx_server_audit.specs.Denials.{IfNo, IsBadLog, IsLogDenied, IsNoAtOnce, IsOther};
+ghost use Rattle.kx_server_audit.specs.Denials.{IsOtherLogOf};
+ghost use Rattle.kx_server_audit.specs.Logs.{LogIs};
 ghost use Rattle.kx_server_audit.specs.Telling.{HasLog};
+ghost use Rattle.kx_server_audit.specs.declared.denial.Denial.TheVariants.{OtherLog};
 
 use crate::denial::{Denial, Stop};
 use crate::fault::AuditFault;
@@ -44,7 +50,9 @@ fn note_log(
     node: &TracedNode,
     bytes: Vec<u8>,
 ) -> Result<(), Stop>
-    ensures { length of.new.items ≡ length of.old.items }
+    ensures count { length of.new.items ≡ length of.old.items }
+    ensures no { IfErr result (λ stop. IfNo stop (λ d.
+        (d ≡ OtherLog node.now) × IsBadLog node.now bytes.items)) }
 {
     let Some(trace) = trace_of(of.as_slice(), node) else {
         if bytes.is_empty() {
@@ -70,13 +78,33 @@ pub(crate) fn note_logs<R: Files + AllocGlobal>(
     folder: &str,
     of: &mut Vec<TraceOf>,
 ) -> Result<(), Stop>
-    ensures { length of.new.items ≡ length of.old.items }
+    ensures count { length of.new.items ≡ length of.old.items }
+    ensures no { IfErr result (λ stop. IfNo stop (IsNoAtOnce true)) }
 {
     for node in nodes {
         let bytes = log_bytes(rt, folder, *node)?;
         note_log(rt.alloc(), of, node, bytes)?;
     }
     Ok(())
+}
+
+// Compares these bytes with the log of the machine to which the node's trace led.
+fn compare_bytes(
+    alloc: Global,
+    machine: &mut BrokerMachine<LocalStore>,
+    node: TracedNode,
+    bytes: Vec<u8>,
+) -> Result<(), Stop>
+    ensures ok { OnOk result ((state : NodeState) → broker_stands state machine.old
+        → LogIs state bytes.items) }
+    ensures no { IfErr result (λ stop. IfNo stop (λ d.
+        (d ≡ OtherLog node) × IsOther bytes.items machine.old)) }
+{
+    if log_is(alloc, machine, bytes)? {
+        Ok(())
+    } else {
+        Err(Stop::No(Denial::OtherLog(node)))
+    }
 }
 
 // Compares a node's log with that of the machine to which its trace led.
@@ -86,33 +114,50 @@ fn compare_log<R: Files + AllocGlobal>(
     node: &TracedNode,
     folder: &str,
 ) -> Result<(), Stop>
-    ensures { OnOk result (HasLog machine.old) }
+    ensures ok { OnOk result (HasLog machine.old) }
+    ensures no { IfErr result (λ stop. IfNo stop (IsOtherLogOf machine.old node.now)) }
 {
     let bytes = log_bytes(rt, folder, *node)?;
-    if log_is(rt.alloc(), machine, bytes)? {
-        Ok(())
-    } else {
-        Err(Stop::No(Denial::OtherLog(*node)))
+    compare_bytes(rt.alloc(), machine, *node, bytes)
+}
+
+// Compares the log of a machine's node, whose trace is the first of these.
+fn compare_first<R: Files + AllocGlobal>(
+    rt: &R,
+    machine: &mut BrokerMachine<LocalStore>,
+    of: &[TraceOf],
+    folder: &str,
+) -> Result<(), Stop>
+    ensures ok { OnOk result (HasLog machine.old) }
+    ensures no { IfErr result (λ stop. IfNo stop (IsLogDenied (machine.old ∷ []) of.now)) }
+{
+    match of.first() {
+        Some(one) => compare_log(rt, machine, &one.node, folder),
+        None => Err(Stop::Fault(AuditFault::NoTraces)),
     }
 }
 
-// Compares the log of a machine's node, whose trace is the first of these. Machines are dropped by a
-// call, since each place where one is dropped is proved anew.
+// The same. Machines are dropped by a call, since each place where one is dropped is proved anew.
 fn compare_next<R: Files + AllocGlobal>(
     rt: &R,
     machine: BrokerMachine<LocalStore>,
     of: &[TraceOf],
     folder: &str,
 ) -> Result<(), Stop>
-    ensures { OnOk result (HasLog machine) }
+    ensures ok { OnOk result (HasLog machine) }
+    ensures no { IfErr result (λ stop. IfNo stop (IsLogDenied (machine ∷ []) of.now)) }
 {
     let mut machine = machine;
-    let compared = match of.first() {
-        Some(one) => compare_log(rt, &mut machine, &one.node, folder),
-        None => Err(Stop::Fault(AuditFault::NoTraces)),
-    };
+    let compared = compare_first(rt, &mut machine, of, folder);
     drop(machine);
     compared
+}
+
+// All but the first of these traces.
+fn after_first(of: &[TraceOf]) -> &[TraceOf]
+    ensures { result.now ≡ drop 1 of.now }
+{
+    if of.is_empty() { of } else { &of[1..] }
 }
 
 /// Compares the logs of all nodes with those of the machines to which their traces led.
@@ -122,12 +167,13 @@ pub(crate) fn compare_logs<R: Files + AllocGlobal>(
     of: &[TraceOf],
     folder: &str,
 ) -> Result<(), Stop>
-    ensures { OnOk result (All HasLog machines.items) }
+    ensures ok { OnOk result (All HasLog machines.items) }
+    ensures no { IfErr result (λ stop. IfNo stop (IsLogDenied machines.items of.now)) }
 {
     let mut left = of;
     for machine in machines {
         compare_next(rt, machine, left, folder)?;
-        left = left.get(1..).unwrap_or(&[]);
+        left = after_first(left);
     }
     Ok(())
 }

@@ -1,5 +1,6 @@
 //! The audit of a server that ran, by what it left in its folders.
-ghost use Rattle.std.specs.Prelude.{All, Bool, IfOk, IsSome, IsTrue, OnOk, is_some};
+ghost use Rattle.std.specs.Prelude.{All, Bool, IfErr, IfOk, IsTrue, OnOk, is_some};
+ghost use Rattle.kx_server_audit.specs.Denials.{IfNo, IsItemOf, IsLogDenied, IsNoAtOnce, IsStopped};
 ghost use Rattle.kx_server_audit.specs.Finding.{AreBegun};
 ghost use Rattle.kx_server_audit.specs.Telling.{AreFindings, HasLog, Tells, machines_in};
 
@@ -28,22 +29,23 @@ pub struct AuditOptions<'a> {
 }
 
 // What it is to an audit of a server where the audit of these traces ends so.
-fn stop_at(of: &[TraceOf], ending: Ending) -> Stop {
-    let (trace, refused) = match ending {
-        Ending::Memory => return Stop::Fault(AuditFault::Memory),
-        Ending::Read(trace) => (trace, None),
-        Ending::Refused(refused) => (refused.trace, Some(refused)),
-    };
-    let Some(one) = of.get(trace) else {
-        return Stop::Fault(AuditFault::NoTraces);
-    };
-    match refused {
-        None => Stop::Fault(AuditFault::Read(AuditFile::Trace(one.node))),
-        Some(refused) => Stop::No(Denial::Item {
-            node: one.node,
-            item: refused.item,
-            why: refused.why,
-        }),
+fn stop_at(of: &[TraceOf], ending: Ending) -> Stop
+    ensures { IfNo result (IsItemOf of.now ending) }
+{
+    match ending {
+        Ending::Refused(refused) => match of.get(refused.trace) {
+            Some(one) => Stop::No(Denial::Item {
+                node: one.node,
+                item: refused.item,
+                why: refused.why,
+            }),
+            None => Stop::Fault(AuditFault::NoTraces),
+        },
+        Ending::Read(trace) => match of.get(trace) {
+            Some(one) => Stop::Fault(AuditFault::Read(AuditFile::Trace(one.node))),
+            None => Stop::Fault(AuditFault::NoTraces),
+        },
+        Ending::Memory => Stop::Fault(AuditFault::Memory),
     }
 }
 
@@ -54,7 +56,9 @@ fn compare<R: Files + AllocGlobal>(
     audit: ServerAudit,
     of: &[TraceOf],
 ) -> Result<(), Stop>
-    ensures { OnOk result (IsTrue (is_some options.now.logs) → All HasLog (machines_in audit)) }
+    ensures ok { OnOk result (IsTrue (is_some options.now.logs) → All HasLog (machines_in audit)) }
+    ensures no { IfErr result (λ stop. IfNo stop (λ d. IsTrue (is_some options.now.logs)
+        × IsLogDenied (machines_in audit) of.now d)) }
 {
     match options.logs {
         Some(folder) => {
@@ -70,7 +74,8 @@ fn find<R: Files<File = File> + AllocGlobal>(
     rt: &R,
     options: &AuditOptions<'_>,
 ) -> Result<Traces<File>, Stop>
-    ensures { IfOk result (λ traces. AreBegun traces.of.items traces.sources.items) }
+    ensures begun { IfOk result (λ traces. AreBegun traces.of.items traces.sources.items) }
+    ensures no { IfErr result (λ stop. IfNo stop (IsNoAtOnce (is_some options.now.logs))) }
 {
     let nodes = server_nodes(rt.alloc())?;
     let mut traces = traces_in(rt, rt.alloc(), nodes.as_slice(), options.traces)?;
@@ -82,7 +87,7 @@ fn find<R: Files<File = File> + AllocGlobal>(
 
 // What is found by an audit that was stopped so.
 fn stopped(found: Findings, stop: Stop) -> Result<Findings, AuditFault>
-    ensures { IfOk result (λ f. IsSome f.denial) }
+    ensures { IfOk result (IsStopped stop found) }
 {
     match stop {
         Stop::No(denial) => Ok(Findings {

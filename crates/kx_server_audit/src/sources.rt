@@ -104,6 +104,7 @@ impl<I: Read + Drop> Source<I> {
             (I.remaining self.new.reader) (take count piece.new.items)) }
         ensures end { OnOk result (self.new.is_ended ≡ true
             → IsAtEnd (I.remaining self.new.reader)) }
+        ensures none { IfOk result (λ count. self.new.is_ended ≡ true → count ≡ 0) }
         ensures kept { OnErr result
             (Keeps (I.remaining self.old.reader) (I.remaining self.new.reader)) }
         ensures not_ended { OnErr result (self.new.is_ended ≡ self.old.is_ended) }

@@ -1,6 +1,8 @@
 //! The traces that a server left in a folder.
-ghost use Rattle.std.specs.Prelude.{◌≡◌, ◌≤◌, ◌+◌, ◌++◌, ◌∷◌, [], IfOk, OnOk, length, map};
+ghost use Rattle.std.specs.Prelude.{◌≡◌, ◌≤◌, ◌+◌, ◌++◌, ◌∷◌, [], IfErr, IfOk, OnOk, false, length};
+ghost use Rattle.std.specs.Prelude.{map};
 ghost use Rattle.std.specs.Io.KnownBytes.{Consumes};
+ghost use Rattle.kx_server_audit.specs.Denials.{IfNo, IsNoAtOnce};
 ghost use Rattle.kx_server_audit.specs.Finding.{AreBegun, all_nodes};
 ghost use Rattle.kx_trace.specs.Layout.{head_text};
 
@@ -124,7 +126,8 @@ fn add_trace<I: Read + Drop>(
     mut reader: I,
 ) -> Result<(), Stop>
     requires { AreBegun traces.old.of.items traces.old.sources.items }
-    ensures { OnOk result (AreBegun traces.new.of.items traces.new.sources.items) }
+    ensures begun { OnOk result (AreBegun traces.new.of.items traces.new.sources.items) }
+    ensures no { IfErr result (λ stop. IfNo stop (IsNoAtOnce false)) }
 {
     if head_of(&mut reader, AuditFile::Trace(node))? != node {
         return Err(Stop::No(Denial::OtherNode(node)));
@@ -140,7 +143,8 @@ pub(crate) fn traces_in<R: Files<File = File>>(
     nodes: &[TracedNode],
     folder: &str,
 ) -> Result<Traces<File>, Stop>
-    ensures { IfOk result (λ traces. AreBegun traces.of.items traces.sources.items) }
+    ensures begun { IfOk result (λ traces. AreBegun traces.of.items traces.sources.items) }
+    ensures no { IfErr result (λ stop. IfNo stop (IsNoAtOnce false)) }
 {
     let mut traces = Traces {
         of: Vec::new(alloc),

@@ -1,5 +1,7 @@
+use Rattle.std.proofs.Common.{◌∙◌, sym}
+use Rattle.std.proofs.lemmas.Bool.{false≢true}
 use Rattle.kx_server_audit.specs.Reads.{origins_of}
-use Rattle.kx_server_audit.proofs.Reading.{begun}
+use Rattle.kx_server_audit.proofs.Reading.{begun, unread_at}
 use Rattle.kx_server_audit.proofs.auditing.audit_traces.Goals as goal
 
 pub returns : goal.returns
@@ -12,5 +14,7 @@ returns g c =
       history = _;
       audited = c.in_ok-audit.ensures.audited;
       read = begun remaining traces sources c.requires.count c.requires.unread;
+      told = λ k s there r at ended. absurd (false≢true
+          (sym (unread_at remaining sources k s c.requires.unread there) ∙ ended));
       counted = c.in_ok-audit.ensures.counted;
     })

@@ -1,21 +1,56 @@
-use Rattle.std.proofs.Common.{◌∙◌, All, subst, sym}
+use Rattle.std.proofs.Common.{◌∷◌, ◌∙◌, [], All, List, ap, slice_get, subst, sym}
 use Rattle.std.proofs.lemmas.List.{nil_from_length}
+use Rattle.std.proofs.lemmas.Result.{err_from_is_err_and}
+use Rattle.kx_log.specs.Store.{StoreState}
+use Rattle.kx_machines.specs.declared.broker.BrokerMachine.{BrokerMachine}
+use Rattle.kx_server_audit.specs.Denials.{IsLogDenied}
 use Rattle.kx_server_audit.specs.Telling.{HasLog}
-use Rattle.kx_server_audit.proofs.Comparing.{all_more, all_none}
+use Rattle.kx_server_audit.proofs.Comparing.{after_first, all_more, all_none, first_denied, if_no}
+use Rattle.kx_server_audit.proofs.Comparing.{next_denied}
 use Rattle.kx_server_audit.proofs.folder.compare_logs.Goals as goal
+use Rattle.kx_trace_audit.specs.declared.servers.TraceOf.{TraceOf}
 
 pub loop-machine-init : goal.loop-machine-init
-loop-machine-init g c = λ all.
-    subst (All HasLog) c.into_iter-machine-iterator.ensures.into_iter_gives.0 all
+loop-machine-init g c =
+    let all = c.into_iter-machine-iterator.ensures.into_iter_gives.0 in
+    record {
+      found = λ logs. subst (All HasLog) all logs;
+      denied = λ d h.
+          subst (λ (ms : List (BrokerMachine StoreState)). IsLogDenied ms c.args.of.now d) all h;
+    }
 
 pub loop-machine-preserved : goal.loop-machine-preserved
-loop-machine-preserved g c = λ rest.
-    c.loop-machine.invariant (all_more c.in-Some.machine c.next.new.self.rest.items
-    c.loop-machine.machine-iterator.rest.items c.in-Some.ensures.steps.0 c.in_ok-compare_next.ensures
-    rest)
+loop-machine-preserved g c =
+    let machine = c.in-Some.machine in
+    let rest = c.next.new.self.rest.items in
+    let of = c.loop-machine.left.now in
+    let left = c.after_first-left.result.now in
+    record {
+      found = λ logs. c.loop-machine.invariant.found (all_more machine rest
+          c.loop-machine.machine-iterator.rest.items c.in-Some.ensures.steps.0
+          c.in_ok-compare_next.ensures.ok logs);
+      denied = λ d h. c.loop-machine.invariant.denied d
+          (subst (λ (ms : List (BrokerMachine StoreState)). IsLogDenied ms of d)
+          (sym c.in-Some.ensures.steps.0) (next_denied machine rest of left d
+          (λ k t there. after_first of k t
+          (sym (ap (λ (l : List TraceOf). slice_get l k) c.after_first-left.ensures) ∙ there)) h));
+    }
 
-pub returns : goal.returns
-returns g c =
+pub returns-in_err-compare_next-clause-no : goal.returns-in_err-compare_next-clause-no
+returns-in_err-compare_next-clause-no g c =
+    let machine = c.in-Some.machine in
+    let rest = c.next.new.self.rest.items in
+    let of = c.loop-machine.left.now in
+    let out = err_from_is_err_and c.from_residual.result c.from_residual.ensures.1 in
+    rw (out.1, out.2) (if_no _ (IsLogDenied (machine ∷ []) of)
+    (IsLogDenied c.args.machines.items c.args.of.now) (λ d h.
+    c.loop-machine.invariant.denied d
+    (subst (λ (ms : List (BrokerMachine StoreState)). IsLogDenied ms of d)
+    (sym c.in-Some.ensures.steps.0) (first_denied machine rest of d h)))
+    c.in_err-compare_next.ensures.no)
+
+pub returns-clause-ok : goal.returns-clause-ok
+returns-clause-ok g c =
     let left = c.loop-machine.machine-iterator.rest in
-    c.loop-machine.invariant (all_none left.items
+    c.loop-machine.invariant.found (all_none left.items
     (nil_from_length left.items (sym left.ok.0 ∙ c.in-None.ensures.steps.0)))

@@ -1,8 +1,14 @@
 use Rattle.std.proofs.Common.{All}
+use Rattle.kx_server_audit.specs.Denials.{IsLogDenied}
 use Rattle.kx_server_audit.specs.Telling.{HasLog}
+use Rattle.kx_server_audit.specs.declared.denial.Denial.{Denial}
 use Rattle.kx_server_audit.proofs.folder.compare_logs.Given as goal
 
--- if the logs of the machines that are left are found too, all are
+-- if the logs of the machines that are left are found too, all are; and one of these that is denied
+-- is one of all
 abbrev pub invariant-loop-machine : goal.invariant-loop-machine
-invariant-loop-machine g l =
-    All HasLog l.machine-iterator.rest.items → All HasLog l.fn.machines.items
+invariant-loop-machine g l = record {
+  found : All HasLog l.machine-iterator.rest.items → All HasLog l.fn.machines.items;
+  denied : (d : Denial) → IsLogDenied l.machine-iterator.rest.items l.left d
+      → IsLogDenied l.fn.machines.items l.fn.of d;
+}

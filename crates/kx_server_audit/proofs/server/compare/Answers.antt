@@ -1,9 +1,24 @@
-use Rattle.std.proofs.Common.{All, subst}
-use Rattle.kx_server_audit.specs.Telling.{HasLog}
-use Rattle.kx_server_audit.proofs.Comparing.{on_ok_so}
+use Rattle.std.proofs.Common.{All, IsTrue, List, is_some, subst}
+use Rattle.kx_log.specs.Store.{StoreState}
+use Rattle.kx_machines.specs.declared.broker.BrokerMachine.{BrokerMachine}
+use Rattle.kx_server_audit.specs.Denials.{IsLogDenied}
+use Rattle.kx_server_audit.specs.Telling.{HasLog, machines_in}
+use Rattle.kx_server_audit.proofs.Comparing.{if_err_no, on_ok_so, some_so}
 use Rattle.kx_server_audit.proofs.server.compare.Goals as goal
 
-pub returns-in_ok-machines-in-Some : goal.returns-in_ok-machines-in-Some
-returns-in_ok-machines-in-Some g c =
+pub returns-in_ok-machines-in-Some-clause-ok : goal.returns-in_ok-machines-in-Some-clause-ok
+returns-in_ok-machines-in-Some-clause-ok g c =
     on_ok_so c.compare_logs.result (λ all compares.
-    subst (All HasLog) c.in_ok-machines-in-Some.ensures all) c.compare_logs.ensures
+    subst (All HasLog) c.in_ok-machines-in-Some.ensures all) c.compare_logs.ensures.ok
+
+pub returns-in_ok-machines-in-Some-clause-no : goal.returns-in_ok-machines-in-Some-clause-no
+returns-in_ok-machines-in-Some-clause-no g c =
+    let compares = some_so c.args.options.now.logs _ c.in-Some.is in
+    let of = c.args.of.now in
+    if_err_no c.compare_logs.result (IsLogDenied c.in_ok-machines-in-Some.machines.items of)
+    (λ d. IsTrue (is_some c.args.options.now.logs) × IsLogDenied (machines_in c.args.audit) of d)
+    (λ d h. (
+      compares,
+      subst (λ (ms : List (BrokerMachine StoreState)). IsLogDenied ms of d)
+          c.in_ok-machines-in-Some.ensures h,
+    )) c.compare_logs.ensures.no

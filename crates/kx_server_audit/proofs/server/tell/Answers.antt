@@ -12,7 +12,8 @@ returns-in-None g c = λ compares are.
 pub returns-in-Some : goal.returns-in-Some
 returns-in-Some g c = λ compares are.
     let written = c.in-Ok.ensures in
-    TellsNo c.args.findings written.0 _ c.in-Some.is written.1
+    let f = c.args.findings in
+    TellsNo f written.0 _ c.in-Some.is (subst (λ d. IsFoundBy compares f d) c.in-Some.is are) written.1
 
 pub returns-in-Err : goal.returns-in-Err
 returns-in-Err g c = λ compares are. telling.Fails _

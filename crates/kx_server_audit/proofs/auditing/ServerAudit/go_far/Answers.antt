@@ -1,16 +1,18 @@
-use Rattle.kx_server_audit.proofs.Advancing.{goes_nowhere, goes_on}
+use Rattle.std.proofs.lemmas.Result.{err_from_is_err_and}
+use Rattle.kx_server_audit.proofs.Advancing.{ends_later, goes_on, has_gone}
 use Rattle.kx_server_audit.proofs.auditing.ServerAudit.go_far.Goals as goal
 
-pub loop-done-init : goal.loop-done-init
-loop-done-init g c = goes_nowhere g.I.Read.remaining c.args.trace
-    c.args.self.now c.args.source.now
+pub returns : goal.returns
+returns g c = goes_on g.I.Read.remaining c.args.trace c.args.self.now c.go_on.new.self
+    c.go_on_further.new.self c.args.source.now c.go_on.new.source c.go_on_further.new.source
+    (has_gone g.I.Read.remaining c.args.trace c.args.self.now c.go_on.new.self c.args.source.now
+    c.go_on.new.source _ c.in_ok-go_on.ensures) c.in_ok-go_on_further.ensures
 
-pub returns-then-not-branch : goal.returns-then-not-branch
-returns-then-not-branch g c = goes_on g.I.Read.remaining c.args.trace
-    c.args.self.now c.loop-done.self c.go_on.new.self c.args.source.now c.loop-done.source
-    c.go_on.new.source c.loop-done.invariant c.in_ok-go_on.ensures
-
-pub loop-done-preserved : goal.loop-done-preserved
-loop-done-preserved g c = goes_on g.I.Read.remaining c.args.trace
-    c.args.self.now c.loop-done.self c.go_on.new.self c.args.source.now c.loop-done.source
-    c.go_on.new.source c.loop-done.invariant c.in_ok-go_on.ensures
+pub returns-in_err-go_on_further : goal.returns-in_err-go_on_further
+returns-in_err-go_on_further g c =
+    let out = err_from_is_err_and c.from_residual-in_err-go_on_further.result
+    c.from_residual-in_err-go_on_further.ensures.1 in
+    rw (out.1, out.2) (ends_later g.I.Read.remaining c.args.trace c.args.self.now c.go_on.new.self
+    c.go_on_further.new.self c.args.source.now c.go_on.new.source _
+    (has_gone g.I.Read.remaining c.args.trace c.args.self.now c.go_on.new.self c.args.source.now
+    c.go_on.new.source _ c.in_ok-go_on.ensures) c.in_err-go_on_further.ensures)
