@@ -1,3 +1,4 @@
+use Rattle.std.proofs.Common.{rules}
 use Rattle.std.specs.Prelude.{codes}
 use Rattle.kx_serve.proofs.Printed.{appends_both}
 use Rattle.kx_server.specs.Lines.{line_of}
@@ -11,5 +12,5 @@ returns g c =
       listens.0,
       appends_both (contents c.args.out.now) (contents c.serve_speaking.new.out)
           (contents c.tell.new.out) (line_of (codes "listening") listens.0)
-          (line_of (codes "served") served) listens.1 c.in_ok-tell.ensures,
+          (line_of (codes "served") served) listens.1 (search rules),
     )
