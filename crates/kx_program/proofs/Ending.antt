@@ -55,10 +55,10 @@ tells_kept old mid new _ kept (Fails why other) = Fails why other
 audit_kept : (compares : Bool) (old mid new : Option (List ℕ))
     (audited : Result Bool AuditFault) → Keeps mid new → audit.Tells compares old mid audited
     → audit.Tells compares old new audited
-audit_kept compares old mid new _ kept (audit.TellsYes f words none yes printed) =
-    audit.TellsYes f words none yes (appends_kept old mid new _ printed kept)
-audit_kept compares old mid new _ kept (audit.TellsNo f words denial some no printed) =
-    audit.TellsNo f words denial some no (appends_kept old mid new _ printed kept)
+audit_kept compares old mid new _ kept (audit.TellsYes f words none says printed) =
+    audit.TellsYes f words none says (appends_kept old mid new _ printed kept)
+audit_kept compares old mid new _ kept (audit.TellsNo f words denial some why printed) =
+    audit.TellsNo f words denial some why (appends_kept old mid new _ printed kept)
 audit_kept compares old mid new _ kept (audit.Fails why) = audit.Fails why
 
 -- the audit of a server, and a flush after it

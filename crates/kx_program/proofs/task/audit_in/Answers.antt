@@ -7,7 +7,7 @@ pub returns-in-Some : goal.returns-in-Some
 returns-in-Some c = record {
   traces = sym (first_value-rows (found_of c.args.given.now) (codes "DIR"))
       ∙ sym c.get_str.ensures ∙ ap (option_map (λ s. s.now)) c.in-Some.is;
-  logs = c.get_str-2.ensures ∙ first_value-rows (found_of c.args.given.now) (codes "dir");
+  logs = c.get_str-in-Some.ensures ∙ first_value-rows (found_of c.args.given.now) (codes "dir");
   tells = refl;
 }
 
