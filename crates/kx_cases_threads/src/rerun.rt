@@ -7,7 +7,7 @@ use kx_machines::{AnyMachine, BrokerMachine, LocalStore};
 use kx_message::{NodeId, PartitionId};
 use kx_processor::Prefixed;
 use kx_rerun::{events_of, world_of};
-use std::alloc::Global;
+use std::alloc::{AllocError, Global};
 
 // Whether two nodes have the same batches in their logs.
 fn same_log<A: Machine, B: Machine>(one: &A, other: &B) -> bool {
@@ -64,19 +64,39 @@ fn is_again(
     }
 }
 
-/// Tells how many events the run is, and of each node the end of its log and whether the world in
-/// which they happen again has that log, the coordinator's rows or the client.
-pub(crate) fn tell_rerun(alloc: Global, told: &mut String, run: &Found) -> Result<(), StepFault> {
-    writeln!(told, "events {}", events_of(alloc, run)?.len())?;
-    let world = world_of(alloc, run)?;
+// How many events the run is.
+fn event_count(alloc: Global, run: &Found) -> Result<usize, AllocError> {
+    let events = events_of(alloc, run)?;
+    let count = events.len();
+    drop(events);
+    Ok(count)
+}
+
+// Tells of each node of the run the end of its log, and whether the world has what it has.
+fn tell_nodes(
+    alloc: Global,
+    told: &mut String,
+    run: &Found,
+    world: &LocalWorld<Prefixed>,
+) -> Result<(), StepFault> {
     for number in 0..run.len() {
         let (Some(trace), Some(machine)) = (run.trace(number), run.machine(number)) else {
             return Err(StepFault::Unknown);
         };
         let node = trace.node();
-        let again = is_again(alloc, &world, node, machine)?;
+        let again = is_again(alloc, world, node, machine)?;
         let word = if again { "again" } else { "otherwise" };
         writeln!(told, "{node} {} {word}", machine.log_end())?;
     }
     Ok(())
+}
+
+/// Tells how many events the run is, and of each node the end of its log and whether the world in
+/// which they happen again has that log, the coordinator's rows or the client.
+pub(crate) fn tell_rerun(alloc: Global, told: &mut String, run: &Found) -> Result<(), StepFault> {
+    writeln!(told, "events {}", event_count(alloc, run)?)?;
+    let world = world_of(alloc, run)?;
+    let done = tell_nodes(alloc, told, run, &world);
+    drop(world);
+    done
 }
