@@ -52,6 +52,23 @@ pub(crate) fn leave_out(
     Ok(())
 }
 
+// A copy of a receipt.
+fn copy_of(receipt: &Receipt) -> Result<Receipt, AllocError> {
+    let input = receipt.input.clone()?;
+    match receipt.taken.clone() {
+        Ok(taken) => Ok(Receipt {
+            node: receipt.node,
+            place: receipt.place,
+            input,
+            taken,
+        }),
+        Err(refused) => {
+            drop(input);
+            Err(refused)
+        }
+    }
+}
+
 /// Gives the receipt of a step twice.
 pub(crate) fn double(
     receipts: &mut Vec<Receipt>,
@@ -61,13 +78,7 @@ pub(crate) fn double(
     let Some(at) = find(receipts.as_slice(), node, place) else {
         return Err(StepFault::Unknown);
     };
-    let receipt = &receipts[at];
-    let copy = Receipt {
-        node,
-        place,
-        input: receipt.input.clone()?,
-        taken: receipt.taken.clone()?,
-    };
+    let copy = copy_of(&receipts[at])?;
     receipts.push(copy)?;
     Ok(())
 }

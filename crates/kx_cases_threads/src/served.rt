@@ -189,8 +189,8 @@ impl Session {
 
     // Sets the receipts of a run aside, and begins anew.
     fn go_on(&mut self) {
-        let receipts = mem::replace(&mut self.receipts, Vec::new(self.alloc));
-        drop(mem::replace(&mut self.earlier, receipts));
+        mem::swap(&mut self.earlier, &mut self.receipts);
+        self.receipts.clear();
         self.nodes.clear();
         clear(&mut self.running);
         clear(&mut self.found);
