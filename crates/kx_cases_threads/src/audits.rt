@@ -1,16 +1,19 @@
 //! Receipts as an auditor is given them, and what it finds.
 ghost use Rattle.std.specs.Prelude.{◌<◌, length, IfSome};
 
-use crate::nodes::ServedTrace;
-use kx_audit::{AuditFault, Run, audit, audit_servers};
+use crate::nodes::traces_of;
+use kx_audit::{AuditFault, Remade, Run, audit, audit_servers};
 use kx_cases::StepFault;
 use kx_cluster::AnyMaking;
-use kx_machines::{AnyMachine, BrokerMachine, LocalStore};
+use kx_machine::Machine;
+use kx_machines::{AnyMachine, BrokerMachine};
 use kx_message::{ClientId, NodeId, PartitionId};
-use kx_nodes::Receipt;
+use kx_nodes::{Node, Receipt, Trace, Traced};
 use kx_processor::Prefixed;
 use kx_reader::Committed;
 use std::alloc::{AllocError, Global};
+use std::mem;
+use std::sync::Arc;
 
 /// The node that a word names: `co`, `po`, `p` or `c` and a number.
 pub(crate) fn node_named(word: &str) -> Option<NodeId> {
@@ -49,6 +52,23 @@ pub(crate) fn leave_out(
     Ok(())
 }
 
+// A copy of a receipt.
+fn copy_of(receipt: &Receipt) -> Result<Receipt, AllocError> {
+    let input = receipt.input.clone()?;
+    match receipt.taken.clone() {
+        Ok(taken) => Ok(Receipt {
+            node: receipt.node,
+            place: receipt.place,
+            input,
+            taken,
+        }),
+        Err(refused) => {
+            drop(input);
+            Err(refused)
+        }
+    }
+}
+
 /// Gives the receipt of a step twice.
 pub(crate) fn double(
     receipts: &mut Vec<Receipt>,
@@ -58,13 +78,7 @@ pub(crate) fn double(
     let Some(at) = find(receipts.as_slice(), node, place) else {
         return Err(StepFault::Unknown);
     };
-    let receipt = &receipts[at];
-    let copy = Receipt {
-        node,
-        place,
-        input: receipt.input.clone()?,
-        taken: receipt.taken.clone()?,
-    };
+    let copy = copy_of(&receipts[at])?;
     receipts.push(copy)?;
     Ok(())
 }
@@ -92,34 +106,49 @@ pub(crate) enum Audited {
     Servers,
 }
 
-// What the audit finds.
-fn found(
+// What an audit finds.
+fn found<B: Remade>(
     alloc: Global,
     audited: Audited,
-    traces: Vec<ServedTrace>,
+    traces: Vec<Trace<B>>,
     receipts: &[Receipt],
-) -> Result<Found, AuditFault> {
+) -> Result<Run<B>, AuditFault> {
     match audited {
         Audited::All => audit(alloc, traces, receipts),
         Audited::Servers => audit_servers(alloc, traces, receipts),
     }
 }
 
-/// Audits, and tells what was found.
-pub(crate) fn judge(
-    alloc: Global,
-    audited: Audited,
-    traces: Vec<ServedTrace>,
-    receipts: &[Receipt],
-) -> Result<(String, Option<Found>), AllocError> {
-    match found(alloc, audited, traces, receipts) {
-        Ok(run) => Ok((String::from_str(alloc, "audit yes")?, Some(run))),
-        Err(fault) => Ok((format!(in alloc; "audit no {}", fault.number())?, None)),
+// Tells what an audit found.
+fn tell_found<B: Remade>(
+    told: &mut String,
+    found: &Result<Run<B>, AuditFault>,
+) -> Result<(), AllocError> {
+    match found {
+        Ok(_) => writeln!(told, "audit yes"),
+        Err(fault) => writeln!(told, "audit no {}", fault.number()),
     }
 }
 
+/// Ends these nodes and audits their traces, keeps the run that is found, and tells what was found.
+pub(crate) fn judge<M: Machine, B: Remade>(
+    alloc: Global,
+    told: &mut String,
+    kept: &mut Option<Run<B>>,
+    audited: Audited,
+    nodes: &mut Vec<Arc<Node<Traced<M, B>>>>,
+    receipts: &[Receipt],
+) -> Result<(), StepFault> {
+    let ended = mem::replace(nodes, Vec::new(alloc));
+    let traces = traces_of(alloc, ended)?;
+    let run = found(alloc, audited, traces, receipts);
+    let done = tell_found(told, &run);
+    drop(mem::replace(kept, run.ok()));
+    Ok(done?)
+}
+
 // The machine after the trace of a node.
-fn machine_of(run: &Found, node: NodeId) -> Option<&AnyMachine<LocalStore, Prefixed>> {
+fn machine_of<B: Remade>(run: &Run<B>, node: NodeId) -> Option<&B::Machine> {
     for number in 0..run.len() {
         if run.trace(number)?.node() == node {
             return run.machine(number);

@@ -4,7 +4,7 @@ use kx_cluster::{AnyMaking, LocalNode, local_node};
 use kx_core::{Event, PartitionCount};
 use kx_machine::{Machine, Making};
 use kx_message::{ClientId, NodeId, PartitionId, Timeout};
-use kx_nodes::{Made, Node, ProcessorMaking, Trace, Traced};
+use kx_nodes::{Locked, Made, Node, ProcessorMaking, Trace, Traced};
 use kx_processor::Prefixed;
 use kx_script::{Running, event_in, world_in};
 use std::alloc::{AllocError, Global};
@@ -13,8 +13,15 @@ use std::sync::Arc;
 /// A node of a served script.
 pub(crate) type Served = LocalNode<Prefixed>;
 
-/// The trace of such a node.
-pub(crate) type ServedTrace = Trace<AnyMaking<Prefixed>>;
+// One more of these.
+fn push_node<L: Locked>(
+    alloc: Global,
+    nodes: &mut Vec<Arc<Node<L>>>,
+    node: Node<L>,
+) -> Result<(), AllocError> {
+    nodes.push(Arc::new(alloc, node)?)?;
+    Ok(())
+}
 
 // One more node.
 fn add(
@@ -23,8 +30,7 @@ fn add(
     making: AnyMaking<Prefixed>,
 ) -> Result<(), AllocError> {
     let node = local_node(alloc, making)?;
-    nodes.push(Arc::new(alloc, node)?)?;
-    Ok(())
+    push_node(alloc, nodes, node)
 }
 
 // One more that isn't a processor.
@@ -130,7 +136,7 @@ fn begin(
         return Err(StepFault::Unknown);
     };
     add_world(alloc, nodes, count)?;
-    *running = Some(Running::new(alloc, count)?);
+    drop(running.replace(Running::new(alloc, count)?));
     Ok(())
 }
 
@@ -142,7 +148,9 @@ fn add_made(
     line: &str,
 ) -> Result<(), StepFault> {
     let event = event_of(alloc, running, line)?;
-    add_client(alloc, nodes, &event)
+    let added = add_client(alloc, nodes, &event);
+    drop(event);
+    added
 }
 
 /// The nodes that a line makes: the first makes a world, and each other one a client of it.
@@ -159,7 +167,7 @@ pub(crate) fn add_nodes(
 }
 
 // The numbers of the clients among these nodes, from the least on.
-fn clients_of(alloc: Global, nodes: &[Arc<Served>]) -> Result<Vec<u32>, StepFault> {
+fn clients_of<L: Locked>(alloc: Global, nodes: &[Arc<Node<L>>]) -> Result<Vec<u32>, StepFault> {
     let mut numbers = Vec::new(alloc);
     for node in nodes {
         if let NodeId::Client(number) = node.name() {
@@ -184,14 +192,11 @@ fn make_client(running: &mut Running, number: u32) -> Result<(), StepFault> {
 }
 
 /// Makes a client in the world for each among these nodes, so that lines may name it.
-pub(crate) fn make_clients(
+pub(crate) fn make_clients<L: Locked>(
     alloc: Global,
-    nodes: &[Arc<Served>],
-    running: &mut Option<Running>,
+    nodes: &[Arc<Node<L>>],
+    running: &mut Running,
 ) -> Result<(), StepFault> {
-    let Some(running) = running else {
-        return Err(StepFault::Unknown);
-    };
     for number in clients_of(alloc, nodes)? {
         make_client(running, number)?;
     }

@@ -1,13 +1,14 @@
 //! A found run as events, and the world in which they happen again.
 use crate::audits::Found;
+use kx_audit::{Remade, Run};
 use kx_cases::StepFault;
-use kx_core::LocalWorld;
-use kx_machine::Machine;
+use kx_core::{LocalWorld, World};
+use kx_machine::{Failing, Machine};
 use kx_machines::{AnyMachine, BrokerMachine, LocalStore};
 use kx_message::{NodeId, PartitionId};
-use kx_processor::Prefixed;
+use kx_processor::{Prefixed, Process};
 use kx_rerun::{events_of, world_of};
-use std::alloc::Global;
+use std::alloc::{AllocError, Global};
 
 // Whether two nodes have the same batches in their logs.
 fn same_log<A: Machine, B: Machine>(one: &A, other: &B) -> bool {
@@ -21,11 +22,11 @@ fn same_log<A: Machine, B: Machine>(one: &A, other: &B) -> bool {
     batches.is_empty() && one.log_end() == other.log_end()
 }
 
-// Whether the world has the log of a machine of this partition.
-fn has_log(
-    world: &LocalWorld<Prefixed>,
+// Whether a world has the log of a machine of this partition.
+fn has_log<C: Failing, P: Failing, O: Failing, F: Process + Copy, M: Machine>(
+    world: &World<C, P, O, F>,
     number: PartitionId,
-    machine: &AnyMachine<LocalStore, Prefixed>,
+    machine: &M,
 ) -> bool {
     if number == PartitionId::OFFSETS {
         return same_log(machine, world.offsets());
@@ -64,19 +65,45 @@ fn is_again(
     }
 }
 
+// How many events the run is.
+fn event_count(alloc: Global, run: &Found) -> Result<usize, AllocError> {
+    let events = events_of(alloc, run)?;
+    let count = events.len();
+    drop(events);
+    Ok(count)
+}
+
+// The node of the trace of this number, its machine, and the end of its log.
+fn node_at<B: Remade>(run: &Run<B>, number: usize) -> Option<(NodeId, &B::Machine, i64)> {
+    let node = run.trace(number)?.node();
+    let machine = run.machine(number)?;
+    Some((node, machine, machine.log_end()))
+}
+
+// Tells of each node of the run the end of its log, and whether the world has what it has.
+fn tell_nodes(
+    alloc: Global,
+    told: &mut String,
+    run: &Found,
+    world: &LocalWorld<Prefixed>,
+) -> Result<(), StepFault> {
+    for number in 0..run.len() {
+        let Some((node, machine, end)) = node_at(run, number) else {
+            return Err(StepFault::Unknown);
+        };
+        let again = is_again(alloc, world, node, machine)?;
+        let word = if again { "again" } else { "otherwise" };
+        writeln!(told, "{node} {end} {word}")?;
+    }
+    Ok(())
+}
+
 /// Tells how many events the run is, and of each node the end of its log and whether the world in
 /// which they happen again has that log, the coordinator's rows or the client.
 pub(crate) fn tell_rerun(alloc: Global, told: &mut String, run: &Found) -> Result<(), StepFault> {
-    writeln!(told, "events {}", events_of(alloc, run)?.len())?;
+    writeln!(told, "events {}", event_count(alloc, run)?)?;
     let world = world_of(alloc, run)?;
-    for number in 0..run.len() {
-        let (Some(trace), Some(machine)) = (run.trace(number), run.machine(number)) else {
-            return Err(StepFault::Unknown);
-        };
-        let node = trace.node();
-        let again = is_again(alloc, &world, node, machine)?;
-        let word = if again { "again" } else { "otherwise" };
-        writeln!(told, "{node} {} {word}", machine.log_end())?;
-    }
-    Ok(())
+    let done = tell_nodes(alloc, told, run, &world);
+    drop(world);
+    done
 }

@@ -20,7 +20,7 @@
 ghost use Rattle.std.specs.Prelude.{◌≡◌, ◌≤◌, IfOk};
 
 use crate::audits::{Audited, Found, committed, double, exchange, judge, leave_out, node_named};
-use crate::nodes::{Served, add_nodes, add_twin, make_clients, traces_of};
+use crate::nodes::{Served, add_nodes, add_twin};
 use crate::rerun::tell_rerun;
 use crate::serving::{Shift, serve};
 use crate::turns::tell_turns;
@@ -64,6 +64,11 @@ fn shift_of(words: &[&str]) -> Result<Shift, StepFault> {
     }
 }
 
+// Drops what is there.
+fn clear<T: Drop>(kept: &mut Option<T>) {
+    drop(kept.take());
+}
+
 impl Session {
     // One in which nothing was done.
     fn new(alloc: Global) -> Session {
@@ -89,22 +94,24 @@ impl Session {
 
     // Audits what was done.
     fn audit(&mut self, audited: Audited) -> Result<(), StepFault> {
-        let nodes = mem::replace(&mut self.nodes, Vec::new(self.alloc));
-        let traces = traces_of(self.alloc, nodes)?;
-        let (told, found) = judge(self.alloc, audited, traces, self.receipts.as_slice())?;
-        drop(mem::replace(&mut self.found, found));
-        Ok(writeln!(self.told, "{told}")?)
+        let receipts = self.receipts.as_slice();
+        let (told, found) = (&mut self.told, &mut self.found);
+        judge(self.alloc, told, found, audited, &mut self.nodes, receipts)
     }
 
     // Tells the steps in the order of the audit.
     fn tell_turns(&mut self) -> Result<(), StepFault> {
-        let run = self.found.as_ref().ok_or(StepFault::Unknown)?;
+        let Some(run) = &self.found else {
+            return Err(StepFault::Unknown);
+        };
         tell_turns(&mut self.told, run)
     }
 
     // Tells of the world in which the run's events happen again.
     fn tell_rerun(&mut self) -> Result<(), StepFault> {
-        let run = self.found.as_ref().ok_or(StepFault::Unknown)?;
+        let Some(run) = &self.found else {
+            return Err(StepFault::Unknown);
+        };
         tell_rerun(self.alloc, &mut self.told, run)
     }
 
@@ -112,7 +119,9 @@ impl Session {
     fn tell_committed(&mut self, partition: &str) -> Result<(), StepFault> {
         let number: u16 = value(partition)?;
         let number = PartitionId::try_from(number).map_err(|_| StepFault::Unknown)?;
-        let run = self.found.as_ref().ok_or(StepFault::Unknown)?;
+        let Some(run) = &self.found else {
+            return Err(StepFault::Unknown);
+        };
         let count = committed(self.alloc, run, number)?;
         Ok(writeln!(self.told, "committed {count}")?)
     }
@@ -123,10 +132,9 @@ impl Session {
         Ok(exchange(&mut self.receipts, &mut self.earlier, name)?)
     }
 
-    // Carries out a line that stands after the steps.
-    fn look(&mut self, line: &str) -> Result<(), StepFault> {
-        let words: Vec<&str> = line.split(' ').collect(self.alloc)?;
-        match words.as_slice() {
+    // Carries out a line that tells of the receipts, or changes them.
+    fn look_at_receipts(&mut self, words: &[&str]) -> Result<(), StepFault> {
+        match words {
             ["receipts"] => Ok(writeln!(self.told, "receipts {}", self.receipts.len())?),
             ["leave", name, place] => {
                 let name = node_named(name).ok_or(StepFault::Unknown)?;
@@ -137,12 +145,20 @@ impl Session {
                 double(&mut self.receipts, name, value(place)?)
             }
             ["exchange", name] => self.exchange(name),
+            _ => Err(StepFault::Unknown),
+        }
+    }
+
+    // Carries out a line that stands after the steps.
+    fn look(&mut self, line: &str) -> Result<(), StepFault> {
+        let words: Vec<&str> = line.split(' ').collect(self.alloc)?;
+        match words.as_slice() {
             ["audit"] => self.audit(Audited::All),
             ["audit_servers"] => self.audit(Audited::Servers),
             ["turns"] => self.tell_turns(),
             ["rerun"] => self.tell_rerun(),
             ["committed", partition] => self.tell_committed(partition),
-            _ => Err(StepFault::Unknown),
+            words => self.look_at_receipts(words),
         }
     }
 
@@ -162,9 +178,8 @@ impl Session {
         }
         let words: Vec<&str> = shift.split(' ').collect(self.alloc)?;
         let shift = shift_of(words.as_slice())?;
-        make_clients(self.alloc, self.nodes.as_slice(), &mut self.running)?;
-        let running = self.running.as_ref().ok_or(StepFault::Unknown)?;
-        let receipts = serve(rt, self.alloc, self.nodes.as_slice(), running, shift, lines)?;
+        let (nodes, running) = (self.nodes.as_slice(), &mut self.running);
+        let receipts = serve(rt, self.alloc, nodes, running, shift, lines)?;
         drop(mem::replace(&mut self.receipts, receipts));
         for line in behind.lines() {
             self.look(line)?;
@@ -174,11 +189,24 @@ impl Session {
 
     // Sets the receipts of a run aside, and begins anew.
     fn go_on(&mut self) {
-        let receipts = mem::replace(&mut self.receipts, Vec::new(self.alloc));
-        drop(mem::replace(&mut self.earlier, receipts));
-        drop(mem::replace(&mut self.nodes, Vec::new(self.alloc)));
-        drop(self.running.take());
-        drop(self.found.take());
+        mem::swap(&mut self.earlier, &mut self.receipts);
+        self.receipts.clear();
+        self.nodes.clear();
+        clear(&mut self.running);
+        clear(&mut self.found);
+    }
+
+    // Carries out all runs of a script.
+    fn run_all<R: Threads + Wait + Copy + Send + 'static>(
+        &mut self,
+        rt: R,
+        script: &str,
+    ) -> Result<(), StepFault> {
+        for run in script.split("\nagain\n") {
+            self.go_on();
+            self.run(rt, run)?;
+        }
+        Ok(())
     }
 }
 
@@ -189,11 +217,11 @@ fn told<R: Threads + Wait + Copy + Send + 'static>(
     script: &str,
 ) -> Result<String, StepFault> {
     let mut session = Session::new(alloc);
-    for run in script.split("\nagain\n") {
-        session.go_on();
-        session.run(rt, run)?;
-    }
-    Ok(session.told)
+    let done = session.run_all(rt, script);
+    let told = mem::replace(&mut session.told, String::new(alloc));
+    drop(session);
+    done?;
+    Ok(told)
 }
 
 /// Carries out the script NAME.served, which has to tell NAME.out, and prints `ok NAME` or

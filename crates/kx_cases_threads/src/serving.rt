@@ -1,6 +1,6 @@
 //! The lines that are carried out while workers run.
 use crate::gate::Hold;
-use crate::nodes::event_of;
+use crate::nodes::{event_of, make_clients};
 use kx_cases::{StepFault, Texts};
 use kx_core::Event;
 use kx_machine::Input;
@@ -36,8 +36,12 @@ fn hand<L: Locked + Send + Sync + 'static, R: Threads + Wait + Copy + Send + 'st
     name: NodeId,
     input: Input,
 ) -> Result<(), StepFault> {
-    let place = place_of(nodes, name)?;
+    let Ok(place) = place_of(nodes, name) else {
+        drop(input);
+        return Err(StepFault::Unknown);
+    };
     if place >= workers.served() || matches!(input, Input::Restart(_)) {
+        drop(input);
         return Err(StepFault::Unknown);
     }
     let _ticket = workers
@@ -80,7 +84,10 @@ fn carry_out<L: Locked + Send + Sync + 'static, R: Threads + Wait + Copy + Send 
     }
     match event_of(alloc, running, line)? {
         Event::Hand { to, input, .. } => hand(workers, nodes, to, input),
-        _ => Err(StepFault::Unknown),
+        other => {
+            drop(other);
+            Err(StepFault::Unknown)
+        }
     }
 }
 
@@ -100,9 +107,9 @@ fn carry_all<L: Locked + Send + Sync + 'static, R: Threads + Wait + Copy + Send 
     Ok(())
 }
 
-/// Serves these nodes while lines are carried out, each read in the world of the script, and gives
-/// the receipts of all steps.
-pub(crate) fn serve<L: Locked + Send + Sync + 'static, R: Threads + Wait + Copy + Send + 'static>(
+// Serves these nodes while lines are carried out, each read in the world of the script, and gives
+// the receipts of all steps.
+fn serve_lines<L: Locked + Send + Sync + 'static, R: Threads + Wait + Copy + Send + 'static>(
     rt: R,
     alloc: Global,
     nodes: &[Arc<Node<L>>],
@@ -126,4 +133,21 @@ pub(crate) fn serve<L: Locked + Send + Sync + 'static, R: Threads + Wait + Copy 
         return Err(StepFault::Unknown);
     }
     Ok(ended?)
+}
+
+/// Makes the clients among these nodes in the world of the script, in which lines are then read;
+/// serves the nodes while the lines are carried out, and gives the receipts of all steps.
+pub(crate) fn serve<L: Locked + Send + Sync + 'static, R: Threads + Wait + Copy + Send + 'static>(
+    rt: R,
+    alloc: Global,
+    nodes: &[Arc<Node<L>>],
+    running: &mut Option<Running>,
+    shift: Shift,
+    lines: &str,
+) -> Result<Vec<Receipt>, StepFault> {
+    let Some(running) = running else {
+        return Err(StepFault::Unknown);
+    };
+    make_clients(alloc, nodes, running)?;
+    serve_lines(rt, alloc, nodes, running, shift, lines)
 }

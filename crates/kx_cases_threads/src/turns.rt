@@ -1,6 +1,5 @@
 //! The order into which an audit put the steps, as it is told.
-use crate::audits::Found;
-use kx_audit::Turn;
+use kx_audit::{Remade, Run, Turn};
 use kx_cases::StepFault;
 use kx_machine::{Command, Input, Note, Taken};
 use std::alloc::AllocError;
@@ -53,7 +52,7 @@ fn tell_taken(told: &mut String, taken: &Taken) -> Result<(), AllocError> {
 }
 
 // Tells a step: the node, its place in the node's trace, the input and the answer.
-fn tell_turn(told: &mut String, run: &Found, turn: Turn) -> Result<(), StepFault> {
+fn tell_turn<B: Remade>(told: &mut String, run: &Run<B>, turn: Turn) -> Result<(), StepFault> {
     let Some(trace) = run.trace(turn.trace) else {
         return Err(StepFault::Unknown);
     };
@@ -67,7 +66,7 @@ fn tell_turn(told: &mut String, run: &Found, turn: Turn) -> Result<(), StepFault
 }
 
 /// Tells all steps, a line each, in the order into which the audit put them.
-pub(crate) fn tell_turns(told: &mut String, run: &Found) -> Result<(), StepFault> {
+pub(crate) fn tell_turns<B: Remade>(told: &mut String, run: &Run<B>) -> Result<(), StepFault> {
     for turn in run.turns() {
         tell_turn(told, run, *turn)?;
     }

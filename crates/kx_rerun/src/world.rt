@@ -46,6 +46,9 @@ pub fn world_of<F: Process + Copy>(
     let mut world = new_world(alloc)?;
     match world.run(events.as_slice()) {
         Ok(()) => Ok(world),
-        Err(_) => Err(AllocError),
+        Err(_) => {
+            drop(world);
+            Err(AllocError)
+        }
     }
 }
