@@ -1,6 +1,6 @@
 -- What the program does for its words: what it reads and writes, and how it ends.
-use Rattle.std.specs.Prelude.{◌≡◌, ◌⊎◌, Bool, true, List, ℕ, Option, Result, Err, IfSome, MatchOption}
-use Rattle.std.specs.Prelude.{MatchResult, OnOk, is_some, map, string_bytes}
+use Rattle.std.specs.Prelude.{◌≡◌, ◌⊎◌, Bool, List, ℕ, Option, Result, IfSome, MatchOption}
+use Rattle.std.specs.Prelude.{OnOk, is_some}
 use Rattle.std.specs.Io.KnownBytes.{Keeps}
 use Rattle.std.specs.declared.io.ErrorKind.{ErrorKind as IoKind}
 use Rattle.std.specs.declared.io.ErrorKind.TheVariants as io

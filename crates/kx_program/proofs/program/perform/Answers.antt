@@ -10,5 +10,5 @@ returns-in-Demo g c = rw c.in-Demo.is (plays_flushed _ _ _ _ _ c.flushed.ensures
     c.flushed.ensures.ends c.demo-ending.ensures)
 
 pub returns-in-Audit : goal.returns-in-Audit
-returns-in-Audit g c = rw c.in-Audit.is (audits_flushed _ _ _ _ _ _ c.flushed-2.ensures.keeps
-    c.flushed-2.ensures.ends c.audit-ending.ensures)
+returns-in-Audit g c = rw c.in-Audit.is (audits_flushed _ _ _ _ _ _ c.flushed-in-Audit.ensures.keeps
+    c.flushed-in-Audit.ensures.ends c.audit-ending.ensures)
