@@ -18,7 +18,7 @@ use kx_machines::BrokerMachine;
 use kx_message::{NodeId, PartitionId};
 use kx_nodes::Untraced;
 use kx_published::book::{Naming, Opened};
-use kx_server::{Connections, MOST_READERS, Nodes, Partitions, Place, placed, unpublished};
+use kx_server::{Connections, MOST_READERS, Member, Nodes, Partitions, Place, placed, unpublished};
 use kx_trace::TracedNode;
 use kx_trace_files::{OpenedTrace, TraceFile};
 use kx_txnlog::TxnLog;
@@ -120,15 +120,22 @@ impl<'a, F: Folder, R: Files<File = File> + AllocGlobal + Eprint + Wait + Drop +
             Stands (AtCoordinator (opened_coordinator m.log.notes self.now.time)) m) }
     {
         match CoordinatorMachine::open(self.alloc, store, self.time) {
-            Ok((machine, _markers)) => {
-                if let Some(partition) = first_missing(machine.coordinator().rows(), kept) {
-                    return Err(ServeFault::NotWhole {
-                        file: LogFile::of(partition),
-                    });
+            Ok((machine, markers)) => {
+                drop(markers);
+                match first_missing(machine.coordinator().rows(), kept) {
+                    None => Ok(machine),
+                    Some(partition) => {
+                        drop(machine);
+                        Err(ServeFault::NotWhole {
+                            file: LogFile::of(partition),
+                        })
+                    }
                 }
-                Ok(machine)
             }
-            Err((fault, _store)) => Err(fault_in(LogFile::Coordinator, fault)),
+            Err((fault, store)) => {
+                drop(store);
+                Err(fault_in(LogFile::Coordinator, fault))
+            }
         }
     }
 
@@ -139,7 +146,10 @@ impl<'a, F: Folder, R: Files<File = File> + AllocGlobal + Eprint + Wait + Drop +
     {
         match CoordinatorMachine::new(self.alloc, store) {
             Ok(machine) => Ok(machine),
-            Err((fault, _store)) => Err(fault_in(LogFile::Coordinator, fault)),
+            Err((fault, store)) => {
+                drop(store);
+                Err(fault_in(LogFile::Coordinator, fault))
+            }
         }
     }
 
@@ -151,7 +161,10 @@ impl<'a, F: Folder, R: Files<File = File> + AllocGlobal + Eprint + Wait + Drop +
                 let count = log.entries().len();
                 Ok((log.into_store(), count))
             }
-            Err((fault, _store)) => Err(fault_in(LogFile::Coordinator, fault)),
+            Err((fault, store)) => {
+                drop(store);
+                Err(fault_in(LogFile::Coordinator, fault))
+            }
         }
     }
 
@@ -164,8 +177,13 @@ impl<'a, F: Folder, R: Files<File = File> + AllocGlobal + Eprint + Wait + Drop +
     ) -> Result<ServerMachine<F::Kept, R>, ServeFault>
         ensures { IfOk result StandsForCoordinator }
     {
-        let machine = self.reopened(kept, store)?;
-        Ok(recorded(self.alloc, BrokerMachine::Coordinator(machine), trace))
+        match self.reopened(kept, store) {
+            Ok(machine) => Ok(recorded(self.alloc, BrokerMachine::Coordinator(machine), trace)),
+            Err(fault) => {
+                drop(trace);
+                Err(fault)
+            }
+        }
     }
 
     // The coordinator of a log and a trace that have nothing.
@@ -176,9 +194,17 @@ impl<'a, F: Folder, R: Files<File = File> + AllocGlobal + Eprint + Wait + Drop +
     ) -> Result<ServerMachine<F::Kept, R>, ServeFault>
         ensures { IfOk result StandsForCoordinator }
     {
-        let machine = BrokerMachine::Coordinator(self.begun(store)?);
-        let made = recorded(self.alloc, machine, Some(trace));
-        restarted(made, self.time)
+        match self.begun(store) {
+            Ok(machine) => {
+                let machine = BrokerMachine::Coordinator(machine);
+                let made = recorded(self.alloc, machine, Some(trace));
+                restarted(made, self.time)
+            }
+            Err(fault) => {
+                drop(trace);
+                Err(fault)
+            }
+        }
     }
 
     // The coordinator with a trace. One of a single entry was made, and its process ended before the
@@ -238,7 +264,10 @@ impl<'a, F: Folder, R: Files<File = File> + AllocGlobal + Eprint + Wait + Drop +
         let store = self.folder.store(self.alloc, file)?;
         match PartitionMachine::new(self.alloc, number, store) {
             Ok(machine) => Ok(BrokerMachine::Partition(machine)),
-            Err((fault, _store)) => Err(fault_in(file, fault)),
+            Err((fault, store)) => {
+                drop(store);
+                Err(fault_in(file, fault))
+            }
         }
     }
 
@@ -249,7 +278,10 @@ impl<'a, F: Folder, R: Files<File = File> + AllocGlobal + Eprint + Wait + Drop +
         let store = self.folder.store(self.alloc, file)?;
         match OffsetsMachine::new(self.alloc, store) {
             Ok(machine) => Ok(BrokerMachine::Offsets(machine)),
-            Err((fault, _kept)) => Err(fault_in(file, fault)),
+            Err((fault, kept)) => {
+                drop(kept);
+                Err(fault_in(file, fault))
+            }
         }
     }
 
@@ -278,8 +310,13 @@ impl<'a, F: Folder, R: Files<File = File> + AllocGlobal + Eprint + Wait + Drop +
     ) -> Result<ServerMachine<F::Kept, R>, ServeFault>
         ensures { IfOk result (λ r. r.machine ≡ machine) }
     {
-        let trace = self.trace_of(file, partition)?;
-        Ok(recorded(self.alloc, machine, trace))
+        match self.trace_of(file, partition) {
+            Ok(trace) => Ok(recorded(self.alloc, machine, trace)),
+            Err(fault) => {
+                drop(machine);
+                Err(fault)
+            }
+        }
     }
 
     // The node of a partition whose log was opened.
@@ -328,6 +365,48 @@ impl<'a, F: Folder, R: Files<File = File> + AllocGlobal + Eprint + Wait + Drop +
         self.node(LogFile::Offsets, machine, opened)
     }
 
+    // The members of all groups of the offsets partition, and its node.
+    fn offsets_place<J: Naming>(
+        &self,
+        places: &mut Vec<Place<Kept<F, R>, J, R>>,
+        opened: Opened,
+    ) -> Result<Vec<Member>, ServeFault>
+        requires opened { opened.partition ≡ offsets_partition }
+        requires book { opened.seen.book ≡ J.book offsets_partition }
+    {
+        let machine = self.offsets(LogFile::Offsets)?;
+        match members_of(self.alloc, &machine) {
+            Ok(members) => {
+                add(places, self.offsets_node(machine, opened)?)?;
+                Ok(members)
+            }
+            Err(refused) => {
+                drop(machine);
+                Err(refused.into())
+            }
+        }
+    }
+
+    // Puts the nodes in order, and returns the members of all groups.
+    fn place_all<J: Naming>(
+        &self,
+        places: &mut Vec<Place<Kept<F, R>, J, R>>,
+        books: Vec<Opened>,
+        offsets: Opened,
+    ) -> Result<Vec<Member>, ServeFault>
+        requires books { All (HasBook J.book) books.items }
+        requires offsets { (offsets.partition ≡ offsets_partition)
+            × (offsets.seen.book ≡ J.book offsets_partition) }
+    {
+        let kept = self.kept()?;
+        self.warn_of_files(kept.as_slice())?;
+        add(places, self.coordinator(kept.as_slice())?)?;
+        for opened in books {
+            add(places, self.data_node(opened)?)?;
+        }
+        self.offsets_place(places, offsets)
+    }
+
     /// The nodes, whose published logs have these books.
     pub(crate) fn nodes<J: Naming>(
         &self,
@@ -338,16 +417,13 @@ impl<'a, F: Folder, R: Files<File = File> + AllocGlobal + Eprint + Wait + Drop +
         requires offsets { (offsets.partition ≡ offsets_partition)
             × (offsets.seen.book ≡ J.book offsets_partition) }
     {
-        let kept = self.kept()?;
-        self.warn_of_files(kept.as_slice())?;
         let mut places = Vec::new(self.alloc);
-        add(&mut places, self.coordinator(kept.as_slice())?)?;
-        for opened in books {
-            add(&mut places, self.data_node(opened)?)?;
+        match self.place_all(&mut places, books, offsets) {
+            Ok(members) => Ok(Nodes { places, members }),
+            Err(fault) => {
+                drop(places);
+                Err(fault)
+            }
         }
-        let machine = self.offsets(LogFile::Offsets)?;
-        let members = members_of(self.alloc, &machine)?;
-        add(&mut places, self.offsets_node(machine, offsets)?)?;
-        Ok(Nodes { places, members })
     }
 }

@@ -46,8 +46,14 @@ pub(crate) fn restarted<S: Store, R: Eprint + Drop>(
     ensures { IfOk result StandsForCoordinator }
 {
     match machine.record(&Input::Restart(time)) {
-        Ok(_taken) => Ok(machine),
-        Err(_) => Err(ServeFault::Memory),
+        Ok(taken) => {
+            drop(taken);
+            Ok(machine)
+        }
+        Err(_) => {
+            drop(machine);
+            Err(ServeFault::Memory)
+        }
     }
 }
 

@@ -4,5 +4,5 @@ use Rattle.kx_serve.proofs.opening.Making.first_coordinator.Goals as goal
 
 pub restarted-requires : goal.restarted-requires
 restarted-requires g c =
-    made c.recorded-made.result _ (opened_coordinator c.in_ok-begun.field-0.log.notes 0)
-    c.recorded-made.ensures.machine c.in_ok-begun.ensures
+    made c.recorded-made.result _ (opened_coordinator c.in-Ok.machine.log.notes 0)
+    c.recorded-made.ensures.machine c.in-Ok.ensures
