@@ -44,7 +44,7 @@ load() {
 }
 
 for _ in 1 2 3; do
-  for load in '16 10000 1' '16 5000 100' '16 5000 1 idempotent' '16 5000 100 idempotent'; do
+  for load in '16 10000 1' '16 5000 100' '16 20000 1 idempotent' '16 20000 100 idempotent'; do
     for traced in no yes; do
       # shellcheck disable=SC2086
       load "$work" "$traced" $load
@@ -54,6 +54,6 @@ for _ in 1 2 3; do
 done
 
 # A million steps, each of which appends a batch of one record of 100 bytes.
-load "$memory" yes 16 62500 1 idempotent
+load "$memory" yes 16 1000000 1 idempotent
 du -b -s "$memory/traces" "$memory/logs"
 /usr/bin/time -f '%e s, %U s of a processor, %M KiB of memory' "$program" audit "$memory/traces" --dir "$memory/logs"

@@ -1,12 +1,9 @@
 -- The coordinator's machine, as it is made and restarted.
 use Rattle.std.proofs.Common.{◌≡◌, subst, sym}
-use Rattle.kx_coord.specs.CoordinatorState.{CoordinatorState}
-use Rattle.kx_coord_node.specs.Stands.{Stands}
 use Rattle.kx_machine.specs.Meaning.{AtCoordinator, IsTaken, NodeState}
 use Rattle.kx_machine.specs.declared.taken.Taken.{Taken}
 use Rattle.kx_machines.specs.Brokers.{broker_allows, broker_stands}
 use Rattle.kx_machines.specs.declared.broker.BrokerMachine.{BrokerMachine}
-use Rattle.kx_machines.specs.declared.broker.BrokerMachine.TheVariants as broker
 use Rattle.kx_model.specs.CoordinatorNode.{Coordinator}
 use Rattle.kx_model.specs.Step.{Input}
 use Rattle.kx_recording.specs.Recorded.{Recorded}
