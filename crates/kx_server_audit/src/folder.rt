@@ -137,7 +137,8 @@ fn compare_first<R: Files + AllocGlobal>(
     }
 }
 
-// The same. Machines are dropped by a call, since each place where one is dropped is proved anew.
+// Compares the log of the first machine. Machines are dropped by a call, since each place where one
+// is dropped is proved anew.
 fn compare_next<R: Files + AllocGlobal>(
     rt: &R,
     machine: BrokerMachine<LocalStore>,

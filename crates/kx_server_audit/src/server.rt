@@ -65,7 +65,10 @@ fn compare<R: Files + AllocGlobal>(
             let machines = audit.into_machines()?;
             compare_logs(rt, machines, of, folder)
         }
-        None => Ok(()),
+        None => {
+            drop(audit);
+            Ok(())
+        }
     }
 }
 
@@ -119,6 +122,7 @@ fn audit_found<R: Files<File = File> + AllocGlobal + Eprint>(
         denial: None,
     };
     if let Err(ending) = ended {
+        drop(audit);
         return stopped(found, stop_at(of, ending));
     }
     match compare(rt, options, audit, of) {
