@@ -13,7 +13,7 @@ use std::sync::Arc;
 /// A node of a served script.
 pub(crate) type Served = LocalNode<Prefixed>;
 
-// One more of these.
+// Puts a node after these nodes, to be shared.
 fn push_node<L: Locked>(
     alloc: Global,
     nodes: &mut Vec<Arc<Node<L>>>,

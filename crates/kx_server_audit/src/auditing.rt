@@ -219,7 +219,7 @@ impl ServerAudit {
         }
     }
 
-    // Goes on in one trace as far as possible now.
+    // Goes on in one trace until it goes no further now.
     fn go_on_further<R: Eprint, I: Read + Drop>(
         &mut self,
         rt: &R,
@@ -238,7 +238,7 @@ impl ServerAudit {
         Ok(())
     }
 
-    // The same, and says whether it went on at all.
+    // Goes on in one trace as far as possible now, and says whether it went on at all.
     fn go_far<R: Eprint, I: Read + Drop>(
         &mut self,
         rt: &R,
