@@ -26,7 +26,7 @@ import calls  # noqa: E402
 # The most characters of a cell, lines of README, and words of README and docs/ together.
 LONGEST_CELL = 400
 MOST_LINES = 150
-MOST_WORDS = 30_000
+MOST_WORDS = 31_000
 
 TOP = os.path.dirname(os.path.dirname(os.path.realpath(__file__)))
 PAGES = sorted(f"docs/{it}" for it in os.listdir(f"{TOP}/docs") if it.endswith(".md"))

@@ -8,10 +8,23 @@
 //! - NAME.program: runs of the program with words and streams, which have to tell NAME.out.
 //!
 //! Prints of each case and each file whether its answers came, and how many failed.
+//!
+//! `runs` and `trial` try runs of the program, with its arguments and streams passed in and what
+//! each has to write; `demos`, with `events` and `happened`, demonstrations, with what each has to
+//! print and what happened in it; `output` keeps what is written.
 #![tactic(auto)]
 
 ghost use Rattle.std.specs.Prelude.{◌≤◌, IfOk};
 
+mod demos;
+mod events;
+mod happened;
+mod output;
+mod runs;
+mod trial;
+
+use crate::demos::try_demo;
+use crate::trial::try_program;
 use kx_cases::{Tally, tell};
 use kx_cases_clients::try_clients;
 use kx_cases_example::try_example;
@@ -19,7 +32,6 @@ use kx_cases_formats::try_formats;
 use kx_cases_groups::try_groups;
 use kx_cases_logs::try_logs;
 use kx_cases_nodes::{try_nodes, try_pair};
-use kx_cases_program::{try_demo, try_program};
 use kx_cases_published::try_shown;
 use kx_cases_server::try_session;
 use kx_cases_streams::try_streams;

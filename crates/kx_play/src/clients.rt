@@ -2,13 +2,15 @@
 //!
 //! Turns, not timers: the rule counts looks, and a pause of a tenth of a millisecond keeps clients
 //! from sending again before an answer can arrive.
+use crate::client::Client;
 use crate::fault::PlayFault;
 use crate::members::{Committed, Member};
-use crate::nodes::{CoreOperator, INPUTS};
+use crate::nodes::{CoreOperator, INPUTS, partition};
 use crate::options::Records;
 use crate::producers::Producer;
 use kx_message::{ClientId, GroupId};
 use kx_nodes::Receipt;
+use kx_publishing::Readable;
 use std::alloc::{AllocError, Global};
 use std::sync::Wait;
 use std::thread;
@@ -22,16 +24,16 @@ const PAUSE_MICROS: u64 = 100;
 
 /// How a member of a group is dropped.
 #[derive(Drop)]
-pub(crate) struct Dropping<R: Wait + Drop> {
+pub(crate) struct Dropping<L: Readable, R: Wait + Drop> {
     /// Who drops it.
-    pub(crate) operator: CoreOperator<R>,
+    pub(crate) operator: CoreOperator<L, R>,
     /// The group.
     pub(crate) group: GroupId,
     /// The member's client.
     pub(crate) member: ClientId,
 }
 
-impl<R: Wait + Drop> Dropping<R> {
+impl<L: Readable, R: Wait + Drop> Dropping<L, R> {
     // Drops it.
     fn drop_member(&self, rt: &R) -> Result<(), PlayFault> {
         if self.operator.drop_member(rt, self.group, self.member) {
@@ -42,14 +44,14 @@ impl<R: Wait + Drop> Dropping<R> {
     }
 }
 
-/// The clients: producers, a member that stays, and one that is dropped.
+/// The clients: a producer for each input partition, and members of a group, the last of which is
+/// dropped.
 #[derive(Drop)]
-pub(crate) struct Clients<R: Wait + Drop> {
+pub(crate) struct Clients<L: Readable, R: Wait + Drop> {
     alloc: Global,
-    producers: Vec<Producer>,
-    staying: Member,
-    leaving: Member,
-    dropping: Dropping<R>,
+    producers: Vec<Producer<L>>,
+    members: Vec<Member<L>>,
+    dropping: Dropping<L, R>,
     records: Records,
     has_begun: bool,
     is_at_work: bool,
@@ -58,21 +60,23 @@ pub(crate) struct Clients<R: Wait + Drop> {
     committed: [i64; INPUTS as usize],
 }
 
-impl<R: Wait + Drop> Clients<R> {
-    /// Clients that have done nothing.
-    pub(crate) fn new(
-        alloc: Global,
-        producers: Vec<Producer>,
-        staying: Member,
-        leaving: Member,
-        dropping: Dropping<R>,
-        records: Records,
-    ) -> Self {
+// Notes an offset that the group has committed.
+fn note(known: &mut [i64], committed: Option<Committed>) {
+    let Some(Committed { partition, offset }) = committed else {
+        return;
+    };
+    if let Some(known) = known.get_mut(usize::from(partition.get())) {
+        *known = offset;
+    }
+}
+
+impl<L: Readable, R: Wait + Drop> Clients<L, R> {
+    /// No clients yet.
+    pub(crate) fn new(alloc: Global, dropping: Dropping<L, R>, records: Records) -> Self {
         Clients {
             alloc,
-            producers,
-            staying,
-            leaving,
+            producers: Vec::new(alloc),
+            members: Vec::new(alloc),
             dropping,
             records,
             has_begun: false,
@@ -80,6 +84,19 @@ impl<R: Wait + Drop> Clients<R> {
             has_dropped: false,
             committed: [0; INPUTS as usize],
         }
+    }
+
+    /// Adds a client that has done nothing. The first ones are the producers of the input
+    /// partitions, in their order, and the others are members of the group.
+    pub(crate) fn add(&mut self, client: Client<L>) -> Result<(), AllocError> {
+        match u8::try_from(self.producers.len()) {
+            Ok(input) if input < INPUTS => {
+                let producer = Producer::new(self.alloc, client, partition(input), self.records);
+                self.producers.push(producer)?;
+            }
+            _ => self.members.push(Member::new(client))?,
+        }
+        Ok(())
     }
 
     // Lets the producers begin.
@@ -105,43 +122,54 @@ impl<R: Wait + Drop> Clients<R> {
             return Ok(());
         }
         self.has_begun = true;
-        self.staying.begin(rt)?;
-        self.leaving.begin(rt)
+        for member in self.members.iter_mut() {
+            member.begin(rt)?;
+        }
+        Ok(())
     }
 
-    // Lets the members work once both have joined.
+    // Lets the members work once all have joined.
     fn begin_work(&mut self, rt: &R) -> Result<(), PlayFault> {
-        if self.is_at_work || !self.staying.has_joined() || !self.leaving.has_joined() {
+        if self.is_at_work || !self.members.iter().all(|member| member.has_joined()) {
             return Ok(());
         }
         self.is_at_work = true;
-        self.staying.poll(rt)?;
-        self.leaving.poll(rt)
-    }
-
-    // Notes an offset that the group has committed.
-    fn note(&mut self, committed: Option<Committed>) {
-        let Some(Committed { partition, offset }) = committed else {
-            return;
-        };
-        if let Some(known) = self.committed.get_mut(usize::from(partition.get())) {
-            *known = offset;
+        for member in self.members.iter_mut() {
+            member.poll(rt)?;
         }
+        Ok(())
     }
 
     // Lets the members look, and says whether a frame came.
     fn consume(&mut self, rt: &R) -> Result<bool, PlayFault> {
-        let staying = self.staying.turn(rt, self.is_at_work)?;
-        let leaving = self.leaving.turn(rt, self.is_at_work)?;
-        self.note(staying.committed);
-        self.note(leaving.committed);
-        Ok(staying.has_come || leaving.has_come)
+        let is_at_work = self.is_at_work;
+        let mut has_moved = false;
+        for member in self.members.iter_mut() {
+            let seen = member.turn(rt, is_at_work)?;
+            note(&mut self.committed, seen.committed);
+            has_moved = seen.has_come || has_moved;
+        }
+        Ok(has_moved)
     }
 
-    // Drops the one member when it has sent the images of half an input partition.
-    fn drop_member(&mut self, rt: &R) -> Result<(), PlayFault> {
+    // The member that is dropped.
+    fn leaving(&self) -> Option<&Member<L>> {
+        self.members.last()
+    }
+
+    // Whether a member is to be dropped now: the last, when it has sent the images of half an input
+    // partition.
+    fn is_to_drop(&self) -> bool {
         let half = usize::from(self.records.get()).div_ceil(2);
-        if self.has_dropped || self.leaving.written() < half {
+        match self.leaving() {
+            Some(leaving) => !self.has_dropped && leaving.written() >= half,
+            None => false,
+        }
+    }
+
+    // Drops the one member when it is time for that.
+    fn drop_member(&mut self, rt: &R) -> Result<(), PlayFault> {
+        if !self.is_to_drop() {
             return Ok(());
         }
         self.has_dropped = true;
@@ -151,7 +179,12 @@ impl<R: Wait + Drop> Clients<R> {
     // Whether the group has read all, and the dropped member has found out that it was dropped.
     fn is_over(&self) -> bool {
         let all = i64::from(self.records.get());
-        self.leaving.has_failed() && self.committed.iter().all(|committed| *committed >= all)
+        match self.leaving() {
+            Some(leaving) => {
+                leaving.has_failed() && self.committed.iter().all(|committed| *committed >= all)
+            }
+            None => false,
+        }
     }
 
     // One look of each client. All wait briefly where no frame came.
@@ -185,24 +218,31 @@ impl<R: Wait + Drop> Clients<R> {
         Err(PlayFault::GaveUp)
     }
 
-    // The receipts of the steps of all.
-    fn receipts(&mut self) -> Result<Vec<Receipt>, AllocError> {
-        let mut receipts = Vec::new(self.alloc);
+    // Appends the receipts of the steps of all to others.
+    fn hand_over(&mut self, receipts: &mut Vec<Receipt>) -> Result<(), AllocError> {
         for producer in self.producers.iter_mut() {
-            producer.hand_over(&mut receipts)?;
+            producer.hand_over(receipts)?;
         }
-        self.staying.hand_over(&mut receipts)?;
-        self.leaving.hand_over(&mut receipts)?;
-        Ok(receipts)
+        for member in self.members.iter_mut() {
+            member.hand_over(receipts)?;
+        }
+        Ok(())
     }
 
-    /// Plays to the end, and gives the receipts of all steps.
+    /// Plays to the end, and returns the receipts of all steps.
     pub(crate) fn play(&mut self, rt: &R) -> Result<Vec<Receipt>, PlayFault>
     where
         R: Clock,
     {
         self.play_on(rt)?;
-        Ok(self.receipts()?)
+        let mut receipts = Vec::new(self.alloc);
+        match self.hand_over(&mut receipts) {
+            Ok(()) => Ok(receipts),
+            Err(refused) => {
+                drop(receipts);
+                Err(refused.into())
+            }
+        }
     }
 
     /// Closes the connections of all.
@@ -210,7 +250,8 @@ impl<R: Wait + Drop> Clients<R> {
         for producer in &self.producers {
             producer.close();
         }
-        self.staying.close();
-        self.leaving.close();
+        for member in &self.members {
+            member.close();
+        }
     }
 }

@@ -62,3 +62,13 @@ impl From<ServerFault> for PlayFault {
         }
     }
 }
+
+/// What was returned, if what came after it succeeded as well.
+pub(crate) fn confirmed<T: Drop>(
+    returned: Result<T, PlayFault>,
+    after: Result<(), AllocError>,
+) -> Result<T, PlayFault> {
+    let value = returned?;
+    after?;
+    Ok(value)
+}

@@ -8,8 +8,8 @@
 //! `options` and `fault` are what is asked for and what may fail. `nodes` makes the nodes, and
 //! `wires` the connections with the relay's threads. `client` is a client before its end of a
 //! connection, `producers` and `members` are what the clients do, and `clients` all of them in
-//! turn. `setup` makes all of these, and `playing` goes from the first connection to the last
-//! thread.
+//! turn. `setup` makes the clients of a server, and `playing` goes from the first connection to the
+//! last thread. What only passes on nodes is generic in their machines.
 #![tactic(auto)]
 
 mod client;

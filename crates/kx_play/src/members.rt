@@ -1,11 +1,10 @@
 //! The members of the group: processors, each of which reads what it owns of the input partitions.
-use crate::client::{Client, Done};
+use crate::client::Client;
 use crate::fault::PlayFault;
 use kx_batch::BatchView;
-use kx_client::ClientFault;
-use kx_machine::{Command, Note};
+use kx_machine::Command;
 use kx_message::{ErrorCode, Message, PartitionId};
-use kx_nodes::Receipt;
+use kx_nodes::{Locked, Receipt};
 use std::alloc::AllocError;
 use std::sync::Wait;
 
@@ -25,8 +24,8 @@ pub(crate) struct Committed {
 
 /// A processor, and what it has come to.
 #[derive(Drop)]
-pub(crate) struct Member {
-    client: Client,
+pub(crate) struct Member<L: Locked> {
+    client: Client<L>,
     asked: Option<Asked>,
     has_begun: bool,
     has_joined: bool,
@@ -42,9 +41,57 @@ fn records_in(batch: &[u8]) -> usize {
     }
 }
 
-impl Member {
+// For which offset the last of these messages asked that asks for one.
+fn asked_in(sent: &[Message]) -> Option<Asked> {
+    let mut asked = None;
+    for message in sent {
+        if let Message::OffsetFetch(request) = message {
+            asked = Some(Asked {
+                correlation: request.caller.correlation,
+                partition: request.partition,
+            });
+        }
+    }
+    asked
+}
+
+// How many images these messages send.
+fn images_in(sent: &[Message]) -> usize {
+    let mut images: usize = 0;
+    for message in sent {
+        if let Message::Produce(request) = message {
+            images = images.saturating_add(records_in(request.batch.as_slice()));
+        }
+    }
+    images
+}
+
+// The committed offset that a reply tells, where it is the one that was asked for.
+fn committed_in(reply: &Message, asked: Option<Asked>) -> Option<Committed> {
+    let Message::OffsetFetchReply(reply) = reply else {
+        return None;
+    };
+    let asked = asked?;
+    if reply.code != ErrorCode::NoError || reply.caller.correlation != asked.correlation {
+        return None;
+    }
+    Some(Committed {
+        partition: asked.partition,
+        offset: reply.offset,
+    })
+}
+
+// Whether a reply takes its client into the group.
+fn takes_in(reply: &Message) -> bool {
+    match reply {
+        Message::JoinReply(reply) => reply.code == ErrorCode::NoError,
+        _ => false,
+    }
+}
+
+impl<L: Locked> Member<L> {
     /// A member that has asked for nothing.
-    pub(crate) fn new(client: Client) -> Member {
+    pub(crate) fn new(client: Client<L>) -> Self {
         Member {
             client,
             asked: None,
@@ -73,52 +120,20 @@ impl Member {
     /// Begins: it asks for a producer id.
     pub(crate) fn begin<R: Wait>(&mut self, rt: &R) -> Result<(), PlayFault> {
         self.has_begun = true;
-        self.client.tell(rt, Command::Init)?;
-        Ok(())
-    }
-
-    // Notes what it sends.
-    fn note(&mut self, sent: &[Message]) {
-        for message in sent {
-            match message {
-                Message::OffsetFetch(request) => {
-                    self.asked = Some(Asked {
-                        correlation: request.caller.correlation,
-                        partition: request.partition,
-                    });
-                }
-                Message::Produce(request) => {
-                    let images = records_in(request.batch.as_slice());
-                    self.written = self.written.saturating_add(images);
-                }
-                _ => {}
-            }
-        }
+        self.client.tell(rt, Command::Init)
     }
 
     /// Sends its next request, if none is unanswered.
     pub(crate) fn poll<R: Wait>(&mut self, rt: &R) -> Result<(), PlayFault> {
-        let Done { sent, note } = self.client.tell(rt, Command::Poll)?;
-        if note == Note::Refused(ClientFault::Failed) {
-            self.has_failed = true;
+        self.client.tell(rt, Command::Poll)?;
+        self.has_failed = self.has_failed || self.client.has_failed();
+        let asked = asked_in(self.client.sent());
+        let images = images_in(self.client.sent());
+        if asked.is_some() {
+            self.asked = asked;
         }
-        self.note(sent.as_slice());
+        self.written = self.written.saturating_add(images);
         Ok(())
-    }
-
-    // The committed offset that a reply tells, where it is the one that was asked for last.
-    fn committed_in(&self, reply: &Message) -> Option<Committed> {
-        let Message::OffsetFetchReply(reply) = reply else {
-            return None;
-        };
-        let asked = self.asked?;
-        if reply.code != ErrorCode::NoError || reply.caller.correlation != asked.correlation {
-            return None;
-        }
-        Some(Committed {
-            partition: asked.partition,
-            offset: reply.offset,
-        })
     }
 
     /// Sends no more.
@@ -131,21 +146,27 @@ impl Member {
         self.client.hand_over(receipts)
     }
 
+    // Takes in the message that came last, and returns the committed offset that it tells.
+    fn hear(&mut self) -> Option<Committed> {
+        let reply = self.client.received()?;
+        let is_taken_in = takes_in(reply);
+        let committed = committed_in(reply, self.asked);
+        self.has_joined = self.has_joined || is_taken_in;
+        committed
+    }
+
     /// Looks for the next frame, and sends what comes next; a member of the group only where it is
     /// to work.
     pub(crate) fn turn<R: Wait>(&mut self, rt: &R, is_to_work: bool) -> Result<Seen, PlayFault> {
         let goes_on = is_to_work || !self.has_joined;
         let is_waiting = self.has_begun && goes_on && !self.has_failed;
-        let Some(message) = self.client.look(rt, is_waiting)? else {
+        if !self.client.look(rt, is_waiting)? {
             return Ok(Seen {
                 has_come: false,
                 committed: None,
             });
-        };
-        if let Message::JoinReply(reply) = &message {
-            self.has_joined = self.has_joined || reply.code == ErrorCode::NoError;
         }
-        let committed = self.committed_in(&message);
+        let committed = self.hear();
         if is_to_work || !self.has_joined {
             self.poll(rt)?;
         }

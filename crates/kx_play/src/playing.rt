@@ -1,16 +1,16 @@
 //! Playing, from the first connection to the last thread that ends.
 use crate::clients::Clients;
-use crate::fault::PlayFault;
-use crate::nodes::{CoreServer, INPUTS, PlayMaking, core_nodes, serve_core, traces_of};
+use crate::fault::{PlayFault, confirmed};
+use crate::nodes::{CLIENTS, CoreServer, INPUTS, Nodes, PlayMaking, machines};
 use crate::options::PlayOptions;
-use crate::setup::{CLIENTS, Setup};
+use crate::setup::set_up;
 use crate::wires::{Wires, listen_on_any, port_of};
-use kx_nodes::{Receipt, Trace};
-use kx_relay::Draw;
+use kx_nodes::{Made, Receipt, Trace, Traced};
+use kx_publishing::{Logging, Readable};
 use kx_server::{Connections, Partitions, ServerOptions};
-use std::alloc::Global;
+use std::alloc::{AllocError, Global};
 use std::net::{Net, TcpListener, TcpStream};
-use std::sync::{Arc, Wait};
+use std::sync::Wait;
 use std::thread;
 use std::thread::{JoinHandle, Threads};
 use std::time::Clock;
@@ -29,30 +29,28 @@ pub struct Played {
 type Playing = JoinHandle<Result<Vec<Receipt>, PlayFault>>;
 
 // Lets the clients play, and closes their connections then.
-fn run_clients<R: Wait + Clock + Drop>(
+fn run_clients<L: Readable, R: Wait + Clock + Drop>(
     rt: &R,
-    mut clients: Clients<R>,
+    mut clients: Clients<L, R>,
 ) -> Result<Vec<Receipt>, PlayFault> {
     let played = clients.play(rt);
     clients.close();
+    drop(clients);
     played
 }
 
 // Starts the thread of the clients.
-fn start_clients<R: Threads + Wait + Clock + Copy + Send + Sync + Drop + 'static>(
-    rt: R,
-    clients: Clients<R>,
-) -> Result<Playing, PlayFault> {
-    let Ok(handle) = thread::spawn(&rt, move || run_clients(&rt, clients)) else {
-        return Err(PlayFault::Memory);
-    };
-    Ok(handle)
+fn start_clients<
+    L: Readable + Send + Sync + 'static,
+    R: Threads + Wait + Clock + Copy + Send + Sync + Drop + 'static,
+>(rt: R, clients: Clients<L, R>) -> Result<Playing, AllocError> {
+    Ok(thread::spawn(&rt, move || run_clients(&rt, clients))?)
 }
 
 // Waits until the thread of the clients has ended.
 fn join_clients<R: Threads + Wait>(
     rt: &R,
-    playing: Result<Playing, PlayFault>,
+    playing: Result<Playing, AllocError>,
 ) -> Result<Vec<Receipt>, PlayFault> {
     playing?.join(rt)
 }
@@ -67,9 +65,23 @@ fn serving() -> ServerOptions {
     }
 }
 
+// The one list and then the other, if there are both.
+fn both<T: Drop, E>(
+    first: Result<Vec<T>, E>,
+    second: Result<Vec<T>, PlayFault>,
+) -> Result<Vec<T>, PlayFault>
+where
+    PlayFault: From<E>,
+{
+    let mut all = first?;
+    all.append(&mut second?)?;
+    Ok(all)
+}
+
 // Serves the clients, which have a thread of their own, until all have closed. Returns the receipts
 // of all steps.
 fn serve<
+    L: Readable + Send + Sync + 'static,
     R: Net<Listener = TcpListener, Stream = TcpStream>
         + Eprint
         + Threads
@@ -82,8 +94,8 @@ fn serve<
         + 'static,
 >(
     rt: R,
-    clients: Clients<R>,
-    server: CoreServer<R>,
+    clients: Clients<L, R>,
+    server: CoreServer<L, R>,
     listener: &TcpListener,
     wires: Wires<R>,
 ) -> Result<Vec<Receipt>, PlayFault> {
@@ -94,13 +106,12 @@ fn serve<
     let served = server.serve(listener, &serving());
     let played = join_clients(&rt, playing);
     wires.join();
-    let mut receipts = served?;
-    receipts.append(&mut played?)?;
-    Ok(receipts)
+    both(served, played)
 }
 
-// The clients of a server, as soon as their connections stand.
-fn set_up<
+// Plays with a server that has served nothing yet.
+fn play_with<
+    L: Readable + Send + Sync + 'static,
     R: Net<Listener = TcpListener, Stream = TcpStream>
         + Eprint
         + Threads
@@ -111,8 +122,122 @@ fn set_up<
         + Sync
         + Drop
         + 'static,
->(setup: &mut Setup<R>, server: &CoreServer<R>) -> Result<Clients<R>, PlayFault> {
-    setup.clients(server.operator()?)
+>(
+    rt: R,
+    alloc: Global,
+    options: &PlayOptions,
+    nodes: &Nodes<L, R>,
+    server: CoreServer<L, R>,
+    listener: &TcpListener,
+    mut wires: Wires<R>,
+) -> Result<Vec<Receipt>, PlayFault> {
+    match set_up(
+        alloc,
+        options.records,
+        nodes.clients.as_slice(),
+        &server,
+        &mut wires,
+    ) {
+        Ok(clients) => serve(rt, clients, server, listener, wires),
+        Err(fault) => {
+            wires.close();
+            wires.join();
+            // It served nothing.
+            drop(server.end());
+            Err(fault)
+        }
+    }
+}
+
+// Plays with a server that listens here.
+fn play_at<
+    L: Readable + Send + Sync + 'static,
+    R: Net<Listener = TcpListener, Stream = TcpStream>
+        + Eprint
+        + Threads
+        + Wait
+        + Clock
+        + Copy
+        + Send
+        + Sync
+        + Drop
+        + 'static,
+>(
+    rt: R,
+    alloc: Global,
+    options: &PlayOptions,
+    nodes: &Nodes<L, R>,
+    listener: &TcpListener,
+) -> Result<Vec<Receipt>, PlayFault> {
+    let wires = Wires::new(rt, alloc, options, port_of(listener)?)?;
+    match nodes.serve(rt, alloc, options.workers) {
+        Ok(server) => play_with(rt, alloc, options, nodes, server, listener, wires),
+        Err(refused) => {
+            drop(wires);
+            Err(refused.into())
+        }
+    }
+}
+
+// Plays with these nodes, and returns the receipts of all steps.
+fn play_nodes<
+    L: Readable + Send + Sync + 'static,
+    R: Net<Listener = TcpListener, Stream = TcpStream>
+        + Eprint
+        + Threads
+        + Wait
+        + Clock
+        + Copy
+        + Send
+        + Sync
+        + Drop
+        + 'static,
+>(
+    rt: R,
+    alloc: Global,
+    options: &PlayOptions,
+    nodes: &Nodes<L, R>,
+) -> Result<Vec<Receipt>, PlayFault> {
+    let listener = listen_on_any(&rt)?;
+    let played = play_at(rt, alloc, options, nodes, &listener);
+    drop(listener);
+    played
+}
+
+// Plays with the nodes of these machines. Returns the traces of all, and the receipts of all steps.
+fn play_machines<
+    M: Logging + Send + Sync + 'static,
+    B: Made + Send + Sync + 'static,
+    R: Net<Listener = TcpListener, Stream = TcpStream>
+        + Eprint
+        + Threads
+        + Wait
+        + Clock
+        + Copy
+        + Send
+        + Sync
+        + Drop
+        + 'static,
+>(
+    rt: R,
+    alloc: Global,
+    options: &PlayOptions,
+    machines: Vec<Traced<M, B>>,
+) -> Result<(Vec<Trace<B>>, Vec<Receipt>), PlayFault> {
+    let mut nodes = Nodes::new(alloc);
+    let played = match nodes.add_all(alloc, machines) {
+        Ok(()) => play_nodes(rt, alloc, options, &nodes),
+        Err(refused) => Err(refused.into()),
+    };
+    let mut traces = Vec::new(alloc);
+    let ended = nodes.end(&mut traces);
+    match confirmed(played, ended) {
+        Ok(receipts) => Ok((traces, receipts)),
+        Err(fault) => {
+            drop(traces);
+            Err(fault)
+        }
+    }
 }
 
 /// Plays over loopback: starts all threads, and joins them.
@@ -135,25 +260,7 @@ pub fn play<
         + 'static,
 >(rt: R, options: &PlayOptions) -> Result<Played, PlayFault> {
     let alloc = rt.alloc();
-    let listener = listen_on_any(&rt)?;
-    let draw = Arc::new(alloc, Draw::new(options.lose, options.seed))?;
-    let wires = Wires::new(rt, alloc, draw, options.hold, port_of(&listener)?);
-    let core = core_nodes(alloc)?;
-    let server = serve_core(rt, alloc, core.as_slice(), options.workers)?;
-    let mut setup = Setup::new(alloc, *options, wires);
-    let clients = match set_up(&mut setup, &server) {
-        Ok(clients) => clients,
-        Err(fault) => {
-            setup.undo();
-            // It served nothing.
-            let _ = server.end();
-            return Err(fault);
-        }
-    };
-    let (nodes, wires) = setup.into_parts();
-    let receipts = serve(rt, clients, server, &listener, wires)?;
-    Ok(Played {
-        traces: traces_of(alloc, core, nodes)?,
-        receipts,
-    })
+    let machines = machines(alloc)?;
+    let (traces, receipts) = play_machines(rt, alloc, options, machines)?;
+    Ok(Played { traces, receipts })
 }

@@ -1,11 +1,11 @@
 //! The producers, which fill the input partitions.
-use crate::client::{Client, Done};
+use crate::client::Client;
 use crate::fault::PlayFault;
 use crate::options::Records;
 use kx_client::{ValueList, Values};
 use kx_machine::Command;
 use kx_message::{Bytes, ErrorCode, Message, PartitionId};
-use kx_nodes::Receipt;
+use kx_nodes::{Locked, Receipt};
 use std::alloc::{AllocError, Global};
 use std::sync::Wait;
 
@@ -14,9 +14,9 @@ const BATCH: usize = 100;
 
 /// A producer: it sends its values batch by batch, each when the one before was appended.
 #[derive(Drop)]
-pub(crate) struct Producer {
+pub(crate) struct Producer<L: Locked> {
     alloc: Global,
-    client: Client,
+    client: Client<L>,
     partition: PartitionId,
     records: Records,
     sent: usize,
@@ -70,14 +70,14 @@ fn granted_by(reply: &Message) -> Option<u32> {
     }
 }
 
-impl Producer {
+impl<L: Locked> Producer<L> {
     /// A producer that is to send this many records to a partition.
     pub(crate) fn new(
         alloc: Global,
-        client: Client,
+        client: Client<L>,
         partition: PartitionId,
         records: Records,
-    ) -> Producer {
+    ) -> Self {
         Producer {
             alloc,
             client,
@@ -90,8 +90,8 @@ impl Producer {
 
     // Tells it what to do next, and waits for that from now on.
     fn ask<R: Wait>(&mut self, rt: &R, command: Command) -> Result<(), PlayFault> {
-        let Done { sent, .. } = self.client.tell(rt, command)?;
-        self.awaited = correlation_of(sent.as_slice());
+        self.client.tell(rt, command)?;
+        self.awaited = correlation_of(self.client.sent());
         Ok(())
     }
 
@@ -123,13 +123,21 @@ impl Producer {
         self.client.hand_over(receipts)
     }
 
-    /// Looks for the next frame, and goes on where it is what is waited for.
-    pub(crate) fn turn<R: Wait>(&mut self, rt: &R) -> Result<bool, PlayFault> {
-        let Some(message) = self.client.look(rt, self.awaited.is_some())? else {
-            return Ok(false);
+    // Whether the message that came last grants what is waited for.
+    fn is_granted(&self) -> bool {
+        let Some(reply) = self.client.received() else {
+            return false;
         };
-        let granted = granted_by(&message);
-        if granted.is_some() && granted == self.awaited {
+        let granted = granted_by(reply);
+        granted.is_some() && granted == self.awaited
+    }
+
+    /// Looks for the next frame, goes on where it is what is waited for, and says whether one came.
+    pub(crate) fn turn<R: Wait>(&mut self, rt: &R) -> Result<bool, PlayFault> {
+        if !self.client.look(rt, self.awaited.is_some())? {
+            return Ok(false);
+        }
+        if self.is_granted() {
             self.go_on(rt)?;
         }
         Ok(true)

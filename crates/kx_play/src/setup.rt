@@ -2,36 +2,21 @@
 use crate::client::Client;
 use crate::clients::{Clients, Dropping};
 use crate::fault::PlayFault;
-use crate::members::Member;
-use crate::nodes::{ClientNode, CoreOperator, INPUTS, partition, processor, producer};
-use crate::options::PlayOptions;
-use crate::producers::Producer;
+use crate::nodes::{CoreServer, LEAVING, group};
+use crate::options::Records;
 use crate::wires::Wires;
-use kx_message::{ClientId, GroupId, TxnId};
+use kx_message::ClientId;
+use kx_nodes::{Locked, Node};
+use kx_publishing::Readable;
 use std::alloc::Global;
 use std::net::{Net, TcpListener, TcpStream};
 use std::sync::{Arc, Wait};
 use std::thread::Threads;
+use std::time::Clock;
 
-// The number of the processor that stays.
-const STAYING: u32 = 3;
-
-// The number of the one that is dropped.
-const LEAVING: u32 = 4;
-
-/// How many clients there are, and so how many connections to the server.
-pub(crate) const CLIENTS: u16 = INPUTS as u16 + 2;
-
-/// What stands before anything is asked for: the clients' nodes and their connections.
-#[derive(Drop)]
-pub(crate) struct Setup<R: Threads + Wait + Drop> {
-    alloc: Global,
-    options: PlayOptions,
-    nodes: Vec<Arc<ClientNode>>,
-    wires: Wires<R>,
-}
-
-impl<
+// A client with this node, before its end of a new connection.
+fn client_of<
+    L: Locked,
     R: Net<Listener = TcpListener, Stream = TcpStream>
         + Threads
         + Wait
@@ -40,68 +25,71 @@ impl<
         + Sync
         + Drop
         + 'static,
-> Setup<R> {
-    /// A setup without clients.
-    pub(crate) fn new(alloc: Global, options: PlayOptions, wires: Wires<R>) -> Self {
-        Setup {
-            alloc,
-            options,
-            nodes: Vec::new(alloc),
-            wires,
+>(alloc: Global, node: &Arc<Node<L>>, wires: &mut Wires<R>) -> Result<Client<L>, PlayFault> {
+    let node = Arc::try_clone(node)?;
+    match wires.add() {
+        Ok(end) => Ok(Client::new(alloc, node, end)),
+        Err(fault) => {
+            drop(node);
+            Err(fault)
         }
     }
+}
 
-    // A client with this node, before its end of a new connection.
-    fn client(&mut self, node: Arc<ClientNode>) -> Result<Client, PlayFault> {
-        self.nodes.push(Arc::try_clone(&node)?)?;
-        let end = self.wires.add()?;
-        Ok(Client::new(self.alloc, node, end))
+// Adds a client for each of these nodes.
+fn add_clients<
+    L: Readable,
+    R: Net<Listener = TcpListener, Stream = TcpStream>
+        + Threads
+        + Wait
+        + Copy
+        + Send
+        + Sync
+        + Drop
+        + 'static,
+>(
+    alloc: Global,
+    clients: &mut Clients<L, R>,
+    nodes: &[Arc<Node<L>>],
+    wires: &mut Wires<R>,
+) -> Result<(), PlayFault> {
+    for node in nodes {
+        clients.add(client_of(alloc, node, wires)?)?;
     }
+    Ok(())
+}
 
-    // The producers, clients 1 and up, in order of their input partitions.
-    fn producers(&mut self) -> Result<Vec<Producer>, PlayFault> {
-        let (alloc, records) = (self.alloc, self.options.records);
-        let mut producers = Vec::new(alloc);
-        for input in 0..INPUTS {
-            let number = ClientId::from(u32::from(input) + 1);
-            let client = self.client(producer(alloc, number)?)?;
-            producers.push(Producer::new(alloc, client, partition(input), records))?;
+/// The clients of a server, each with one of these nodes and before its end of a new connection.
+pub(crate) fn set_up<
+    L: Readable + Send + Sync + 'static,
+    R: Net<Listener = TcpListener, Stream = TcpStream>
+        + Eprint
+        + Threads
+        + Wait
+        + Clock
+        + Copy
+        + Send
+        + Sync
+        + Drop
+        + 'static,
+>(
+    alloc: Global,
+    records: Records,
+    nodes: &[Arc<Node<L>>],
+    server: &CoreServer<L, R>,
+    wires: &mut Wires<R>,
+) -> Result<Clients<L, R>, PlayFault> {
+    let dropping = Dropping {
+        operator: server.operator()?,
+        group: group(),
+        member: ClientId::from(LEAVING),
+    };
+    let mut clients = Clients::new(alloc, dropping, records);
+    match add_clients(alloc, &mut clients, nodes, wires) {
+        Ok(()) => Ok(clients),
+        Err(fault) => {
+            drop(clients);
+            Err(fault)
         }
-        Ok(producers)
-    }
-
-    // A member of the group.
-    fn member(&mut self, number: u32, txn: TxnId, group: GroupId) -> Result<Member, PlayFault> {
-        let node = processor(self.alloc, ClientId::from(number), txn, group)?;
-        Ok(Member::new(self.client(node)?))
-    }
-
-    /// The clients before their ends of new connections. The one member is dropped by this operator
-    /// of the server.
-    pub(crate) fn clients(&mut self, operator: CoreOperator<R>) -> Result<Clients<R>, PlayFault> {
-        let group = "demo".parse().unwrap();
-        let dropping = Dropping {
-            operator,
-            group,
-            member: ClientId::from(LEAVING),
-        };
-        let producers = self.producers()?;
-        let staying = self.member(STAYING, "stays".parse().unwrap(), group)?;
-        let leaving = self.member(LEAVING, "leaves".parse().unwrap(), group)?;
-        let records = self.options.records;
-        Ok(Clients::new(self.alloc, producers, staying, leaving, dropping, records))
-    }
-
-    /// Closes the connections, and waits until their threads have ended.
-    pub(crate) fn undo(self) {
-        let Setup { wires, .. } = self;
-        wires.close();
-        wires.join();
-    }
-
-    /// The clients' nodes and the connections.
-    pub(crate) fn into_parts(self) -> (Vec<Arc<ClientNode>>, Wires<R>) {
-        let Setup { nodes, wires, .. } = self;
-        (nodes, wires)
     }
 }

@@ -2,6 +2,7 @@
 //! relay has one for it to the server.
 use crate::client::listen;
 use crate::fault::PlayFault;
+use crate::options::PlayOptions;
 use crossbeam_channel::{Receiver, Sender};
 use kx_message::Message;
 use kx_nodes::JoinSet;
@@ -21,19 +22,24 @@ pub(crate) struct ClientEnd {
     pub(crate) inbox: Receiver<Message>,
 }
 
+// What a call of the network returned.
+fn done<T, E: Drop>(called: Result<T, E>) -> Result<T, PlayFault> {
+    match called {
+        Ok(value) => Ok(value),
+        Err(_) => Err(PlayFault::Net),
+    }
+}
+
 /// Listens on a free port of 127.0.0.1.
 pub(crate) fn listen_on_any<R: Net<Listener = TcpListener, Stream = TcpStream>>(
     rt: &R,
 ) -> Result<TcpListener, PlayFault> {
-    TcpListener::bind(rt, ("127.0.0.1", 0)).map_err(|_| PlayFault::Net)
+    done(TcpListener::bind(rt, ("127.0.0.1", 0)))
 }
 
 /// The port on which a listener listens.
 pub(crate) fn port_of(listener: &TcpListener) -> Result<u16, PlayFault> {
-    match listener.local_addr() {
-        Ok(address) => Ok(address.port()),
-        Err(_) => Err(PlayFault::Net),
-    }
+    Ok(done(listener.local_addr())?.port())
 }
 
 // Connects to a port of 127.0.0.1. Frames are small and are waited for, so they aren't delayed
@@ -42,11 +48,31 @@ fn connect<R: Net<Listener = TcpListener, Stream = TcpStream>>(
     rt: &R,
     port: u16,
 ) -> Result<TcpStream, PlayFault> {
-    let Ok(stream) = TcpStream::connect(rt, ("127.0.0.1", port)) else {
-        return Err(PlayFault::Net);
-    };
+    let stream = done(TcpStream::connect(rt, ("127.0.0.1", port)))?;
     let _ = stream.set_nodelay(true);
     Ok(stream)
+}
+
+// The next connection to a listener. Its frames aren't delayed either.
+fn accept(listener: &TcpListener) -> Result<TcpStream, PlayFault> {
+    let (stream, _) = done(listener.accept())?;
+    let _ = stream.set_nodelay(true);
+    Ok(stream)
+}
+
+// Both ends of a new connection to a listener: the one that called, and the one that was called.
+fn pair_at<R: Net<Listener = TcpListener, Stream = TcpStream>>(
+    rt: &R,
+    listener: &TcpListener,
+) -> Result<(TcpStream, TcpStream), PlayFault> {
+    let calling = connect(rt, port_of(listener)?)?;
+    match accept(listener) {
+        Ok(called) => Ok((calling, called)),
+        Err(fault) => {
+            drop(calling);
+            Err(fault)
+        }
+    }
 }
 
 // Both ends of a connection over loopback.
@@ -54,17 +80,37 @@ fn pair<R: Net<Listener = TcpListener, Stream = TcpStream>>(
     rt: &R,
 ) -> Result<(TcpStream, TcpStream), PlayFault> {
     let listener = listen_on_any(rt)?;
-    let calling = connect(rt, port_of(&listener)?)?;
-    let Ok((called, _)) = listener.accept() else {
-        return Err(PlayFault::Net);
-    };
-    let _ = called.set_nodelay(true);
-    Ok((calling, called))
+    let ends = pair_at(rt, &listener);
+    drop(listener);
+    ends
 }
 
 // Another handle of a connection.
 fn twin(stream: &TcpStream) -> Result<TcpStream, PlayFault> {
-    stream.try_clone().map_err(|_| PlayFault::Net)
+    done(stream.try_clone())
+}
+
+// The frames that come over a connection.
+fn frames_of(alloc: Global, stream: &TcpStream) -> Result<FrameStream, PlayFault> {
+    Ok(FrameStream::new(alloc, twin(stream)?)?)
+}
+
+// One direction of the relay: the frames that come over one connection go out over another.
+#[derive(Drop)]
+struct Line {
+    draw: Arc<Draw>,
+    frames: FrameStream,
+    to: TcpStream,
+}
+
+impl Line {
+    // Carries the frames over until no more come.
+    fn carry<R: Wait>(self, rt: &R, alloc: Global, holding: Holding) {
+        let Line { draw, frames, to } = self;
+        relay(rt, alloc, &*draw, holding, frames, &to);
+        drop(draw);
+        drop(to);
+    }
 }
 
 /// The connections with the relay in their middle, and the threads that carry their frames.
@@ -92,60 +138,116 @@ impl<
         + 'static,
 > Wires<R> {
     /// A set of no connection yet. They will go to the server on this port.
-    pub(crate) fn new(rt: R, alloc: Global, draw: Arc<Draw>, holding: Holding, port: u16) -> Self {
-        Wires {
+    pub(crate) fn new(
+        rt: R,
+        alloc: Global,
+        options: &PlayOptions,
+        port: u16,
+    ) -> Result<Self, AllocError> {
+        Ok(Wires {
             rt,
             alloc,
-            draw,
-            holding,
+            draw: Arc::new(alloc, Draw::new(options.lose, options.seed))?,
+            holding: options.hold,
             port,
             threads: JoinSet::new(rt, alloc),
             streams: Vec::new(alloc),
-        }
+        })
     }
 
-    // Starts what listens for a client.
-    fn add_listener(
-        &mut self,
-        stream: TcpStream,
-        inbox: Sender<Message>,
-    ) -> Result<(), AllocError> {
-        let (rt, frames) = (self.rt, FrameStream::new(self.alloc, stream)?);
+    // Starts a thread.
+    fn start<F: FnOnce() + Send + Drop + 'static>(&mut self, work: F) -> Result<(), AllocError>
+        requires { F.pre work }
+    {
+        let rt = self.rt;
         self.threads.make_room()?;
-        let Ok(handle) = thread::spawn(&rt, move || listen(&rt, frames, &inbox)) else {
-            return Err(AllocError);
-        };
+        let handle = thread::spawn(&rt, work)?;
         self.threads.push(handle);
         Ok(())
+    }
+
+    // One direction of the relay between two connections.
+    fn line(&self, from: &TcpStream, to: &TcpStream) -> Result<Line, PlayFault> {
+        let to = twin(to)?;
+        let frames = frames_of(self.alloc, from)?;
+        let draw = Arc::try_clone(&self.draw)?;
+        Ok(Line { draw, frames, to })
     }
 
     // Starts one direction of the relay.
-    fn add_line(&mut self, from: TcpStream, to: TcpStream) -> Result<(), AllocError> {
+    fn add_line(&mut self, from: &TcpStream, to: &TcpStream) -> Result<(), PlayFault> {
+        let line = self.line(from, to)?;
         let (rt, alloc, holding) = (self.rt, self.alloc, self.holding);
-        let draw = Arc::try_clone(&self.draw)?;
-        let frames = FrameStream::new(alloc, from)?;
-        self.threads.make_room()?;
-        let carrying = move || relay(&rt, alloc, &*draw, holding, frames, &to);
-        let Ok(handle) = thread::spawn(&rt, carrying) else {
-            return Err(AllocError);
-        };
-        self.threads.push(handle);
-        Ok(())
+        Ok(self.start(move || line.carry(&rt, alloc, holding))?)
+    }
+
+    // Starts both directions of the relay.
+    fn add_lines(&mut self, near: &TcpStream, far: &TcpStream) -> Result<(), PlayFault> {
+        self.add_line(near, far)?;
+        self.add_line(far, near)
+    }
+
+    // Starts the relay between its end of a client's connection and a new one to the server.
+    fn add_relay(&mut self, near: &TcpStream) -> Result<(), PlayFault> {
+        let far = connect(&self.rt, self.port)?;
+        let added = self.add_lines(near, &far);
+        drop(far);
+        added
+    }
+
+    // Starts what puts the messages that come to a client into this channel.
+    fn add_listener(
+        &mut self,
+        client: &TcpStream,
+        inbox: Sender<Message>,
+    ) -> Result<(), PlayFault> {
+        match frames_of(self.alloc, client) {
+            Ok(frames) => {
+                let rt = self.rt;
+                Ok(self.start(move || listen(&rt, frames, inbox))?)
+            }
+            Err(fault) => {
+                drop(inbox);
+                Err(fault)
+            }
+        }
+    }
+
+    // Starts what listens for a client, and returns the inbox in which it finds what arrives.
+    fn add_inbox(&mut self, client: &TcpStream) -> Result<Receiver<Message>, PlayFault> {
+        let (sender, inbox) = crossbeam_channel::unbounded(self.alloc)?;
+        match self.add_listener(client, sender) {
+            Ok(()) => Ok(inbox),
+            Err(fault) => {
+                drop(inbox);
+                Err(fault)
+            }
+        }
+    }
+
+    // Starts the threads that carry the frames of a connection, and returns the client's inbox.
+    fn carry(
+        &mut self,
+        client: &TcpStream,
+        near: &TcpStream,
+    ) -> Result<Receiver<Message>, PlayFault> {
+        self.streams.push(twin(client)?)?;
+        self.add_relay(near)?;
+        self.add_inbox(client)
     }
 
     /// Makes a connection, starts the threads that carry its frames, and returns the client's end.
     pub(crate) fn add(&mut self) -> Result<ClientEnd, PlayFault> {
-        let (client, near) = pair(&self.rt)?;
-        let far = connect(&self.rt, self.port)?;
-        self.streams.push(twin(&client)?)?;
-        let (to_inbox, inbox) = crossbeam_channel::unbounded(self.alloc)?;
-        self.add_listener(twin(&client)?, to_inbox)?;
-        self.add_line(twin(&near)?, twin(&far)?)?;
-        self.add_line(far, near)?;
-        Ok(ClientEnd {
-            stream: client,
-            inbox,
-        })
+        let (stream, near) = pair(&self.rt)?;
+        let inbox = self.carry(&stream, &near);
+        drop(near);
+        match inbox {
+            Ok(inbox) => Ok(ClientEnd { stream, inbox }),
+            Err(fault) => {
+                drop(stream);
+                Err(fault)
+            }
+        }
     }
 
     /// Closes the clients' ends, whatever they still wait for.
@@ -157,7 +259,14 @@ impl<
 
     /// Waits until the threads have ended.
     pub(crate) fn join(self) {
-        let Wires { threads, .. } = self;
+        let Wires {
+            draw,
+            threads,
+            streams,
+            ..
+        } = self;
         threads.join();
+        drop(draw);
+        drop(streams);
     }
 }

@@ -40,8 +40,9 @@ asks found name rows is_watched what named rowed =
 pub asks_no_file : (name : Text) (rows : List Row) (is_watched : Bool) (what : Task)
     → name ≡ codes "dump" → first_of (codes "FILE") rows ≡ None
     → IsAsked name rows is_watched what → ⊥
-asks_no_file name rows is_watched task.Sim is none asked =
-    let bad : 100 ≡ 115 = ap (λ (t : Text). slice_index t 0) (sym is ∙ asked) in
+asks_no_file name rows is_watched (task.Sim pictures) is none asked =
+    let named : name ≡ codes "sim" = asked.0 in
+    let bad : 100 ≡ 115 = ap (λ (t : Text). slice_index t 0) (sym is ∙ named) in
     absurd (omega (arith, bad))
 asks_no_file name rows is_watched (task.Dump path) is none asked =
     let bad : None ≡ Some path.now = sym none ∙ asked.1 in absurd cc

@@ -1,6 +1,6 @@
 -- What the program does for its words: what it reads and writes, and how it ends.
 use Rattle.std.specs.Prelude.{◌≡◌, ◌⊎◌, Bool, List, ℕ, Option, Result, IfSome, MatchOption}
-use Rattle.std.specs.Prelude.{OnOk, is_some}
+use Rattle.std.specs.Prelude.{◌||◌, IsTrue, OnOk, is_some}
 use Rattle.std.specs.Io.KnownBytes.{Keeps}
 use Rattle.std.specs.declared.io.ErrorKind.{ErrorKind as IoKind}
 use Rattle.std.specs.declared.io.ErrorKind.TheVariants as io
@@ -11,6 +11,7 @@ use Rattle.kx_program.specs.Asking.{EndsRefused, IsRefusedFor}
 use Rattle.kx_program.specs.Endings.{ending_of_audit, ending_of_demo}
 use Rattle.kx_program.specs.Tasks.{WordsAskFor}
 use Rattle.kx_program.specs.declared.asking.Refusal.{Refusal}
+use Rattle.kx_program.specs.declared.task.Pictures.{Pictures}
 use Rattle.kx_program.specs.declared.task.Task.{Task}
 use Rattle.kx_program.specs.declared.task.Task.TheVariants as task
 use Rattle.kx_script.specs.Script.{Ends}
@@ -25,10 +26,20 @@ use Rattle.kx_text.specs.declared.fault.ScriptFault.{ScriptFault}
 use Rattle.kx_text.specs.declared.program.Ending.{Ending}
 use Rattle.kx_text.specs.declared.program.Ending.TheVariants as ending
 
+-- a picture is asked for
+abbrev pub asks_pictures : Pictures → Bool
+asks_pictures asked = is_some asked.page || is_some asked.diagram
+
 -- the script on standard input was run
 abbrev pub Simulates : Option (List ℕ) → Option (List ℕ) → Option (List ℕ) → Ending → Type 0
 Simulates input old new how = IfSome input (λ script. (ran : Result (Unit {0}) ScriptFault)
     × Ends script old new ran × (how ≡ ending_of ran))
+
+-- the script was run, and drawn where that was asked for; else the program failed
+abbrev pub Draws : Pictures → Option (List ℕ) → Option (List ℕ) → Option (List ℕ) → Ending
+    → Type 0
+Draws asked input old new how =
+    Simulates input old new how ⊎ (IsTrue (asks_pictures asked) × (how ≡ ending.Failed))
 
 -- these bytes of a file were dumped
 abbrev pub DumpsBytes : List ℕ → Option (List ℕ) → Option (List ℕ) → Ending → Type 0
@@ -65,7 +76,7 @@ Audits compares old new how = (how ≡ ending.Failed) ⊎ ((audited : Result Boo
 
 -- what was asked for was done
 abbrev pub Performs : Option (List ℕ) → Option (List ℕ) → Option (List ℕ) → Task → Ending → Type 0
-Performs input old new task.Sim how = Simulates input old new how
+Performs input old new (task.Sim asked) how = Draws asked input old new how
 Performs input old new (task.Dump path) how = DumpsFile old new how
 Performs input old new (task.Serve options) how = ServesAll options.connections old new how
 Performs input old new (task.Kafka asked) how = ServesStock old new how

@@ -7,6 +7,7 @@ use Rattle.kx_bounded.specs.Bounds.{IsWithin}
 use Rattle.kx_play.specs.declared.options.PlayOptions.{PlayOptions}
 use Rattle.kx_program.specs.Usage.{program_app}
 use Rattle.kx_program.specs.declared.task.Demonstration.{Demonstration}
+use Rattle.kx_program.specs.declared.task.Pictures.{Pictures}
 use Rattle.kx_program.specs.declared.task.StockClients.{StockClients}
 use Rattle.kx_program.specs.declared.task.Task.{Task}
 use Rattle.kx_program.specs.declared.task.Task.TheVariants as task
@@ -74,6 +75,11 @@ pub record IsDemo (rows : List Row) (asked : Demonstration) : Type 0 where
   pub plays : IsPlay rows asked.options
   pub trace : option_map (λ t. t.now) asked.trace ≡ first_of (codes "trace") rows
 
+-- the pictures that `sim` is asked for
+pub record IsSim (rows : List Row) (asked : Pictures) : Type 0 where
+  pub page : option_map (λ p. p.now) asked.page ≡ first_of (codes "page") rows
+  pub diagram : option_map (λ d. d.now) asked.diagram ≡ first_of (codes "svg") rows
+
 -- the options of `audit`
 pub record IsAudit (rows : List Row) (is_watched : Bool) (asked : AuditOptions) : Type 0 where
   pub traces : first_of (codes "DIR") rows ≡ Some asked.traces.now
@@ -82,7 +88,7 @@ pub record IsAudit (rows : List Row) (is_watched : Bool) (asked : AuditOptions) 
 
 -- the subcommand of this name asks for this, with these options
 abbrev pub IsAsked : Text → List Row → Bool → Task → Type 0
-IsAsked name rows is_watched task.Sim = name ≡ codes "sim"
+IsAsked name rows is_watched (task.Sim asked) = (name ≡ codes "sim") × IsSim rows asked
 IsAsked name rows is_watched (task.Dump path) =
     (name ≡ codes "dump") × (first_of (codes "FILE") rows ≡ Some path.now)
 IsAsked name rows is_watched (task.Serve options) =

@@ -23,8 +23,14 @@ needed rule = record rule { required = true }
 abbrev pub between : ℕ → ℕ → ValueParser
 between least most = parser.Signed (pos least) (pos most)
 
+abbrev pub page_rule : Rule
+page_rule = read_by parser.NonEmptyString (option_of (codes "page"))
+
+abbrev pub svg_rule : Rule
+svg_rule = read_by parser.NonEmptyString (option_of (codes "svg"))
+
 abbrev pub sim_app : App
-sim_app = new_app (codes "sim")
+sim_app = with_rule (with_rule (new_app (codes "sim")) page_rule) svg_rule
 
 abbrev pub dump_app : App
 dump_app = with_rule (new_app (codes "dump"))

@@ -9,6 +9,7 @@
 #![tactic(auto)]
 
 mod asking;
+mod drawing;
 mod kafka;
 mod program;
 mod streams;

@@ -8,10 +8,9 @@ ghost use Rattle.kx_program.specs.Program.{Audits, DoesWords, IsWithoutWords, Pe
 ghost use Rattle.kx_text.specs.declared.program.Ending.TheVariants as ending;
 
 use crate::asking::{Refusal, asked};
+use crate::drawing::sim_with;
 use crate::kafka::kafka;
-use crate::streams::{
-    audit_ending, dump_read, failed, played_ending, served_ending, sim, usage_ending,
-};
+use crate::streams::{audit_ending, dump_read, failed, played_ending, served_ending, usage_ending};
 use crate::task::{Demonstration, Task};
 use kx_demo::DemoFault;
 use kx_play::PlayOptions;
@@ -135,7 +134,7 @@ fn perform<
         (writer_contents O.contents out.new) task.now result }
 {
     match task {
-        Task::Sim => sim(rt.alloc(), input, out, errors),
+        Task::Sim(asked) => sim_with(rt, *asked, input, out, errors),
         Task::Dump(path) => dump_read(path, fs::read(rt, *path), out, errors),
         Task::Serve(options) => served_ending(kx_serve::serve(*rt, options, out), errors),
         Task::Kafka(asked) => kafka(rt, asked, out, errors),

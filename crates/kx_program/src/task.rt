@@ -3,7 +3,7 @@ ghost use Rattle.std.specs.Prelude.{ℕ, ◌≡◌, MatchOption, Option, codes};
 ghost use Rattle.clap.specs.Words.{found_of, one_of, rows_of, subcommand_rows_of};
 ghost use Rattle.kx_play.specs.declared.options.PlayOptions.{PlayOptions};
 ghost use Rattle.kx_program.specs.Tasks.{AsksFor, IsAudit, IsDemo, IsKafka, IsPlay, IsServe};
-ghost use Rattle.kx_program.specs.Tasks.{IsSession, Writes, millis_of};
+ghost use Rattle.kx_program.specs.Tasks.{IsSession, IsSim, Writes, millis_of};
 ghost use Rattle.kx_program.specs.declared.task.Demonstration.{Demonstration};
 ghost use Rattle.kx_program.specs.declared.task.StockClients.{StockClients};
 ghost use Rattle.kx_program.specs.declared.task.Task.{Task};
@@ -17,6 +17,15 @@ use kx_relay::{Holding, Losses};
 use kx_serve::ServeOptions;
 use kx_server::{Connections, Partitions};
 use kx_server_audit::AuditOptions;
+
+/// Which pictures of a run are asked for.
+#[derive(Clone, Copy)]
+pub struct Pictures<'a> {
+    /// The file into which the run's page is written, if any.
+    pub page: Option<&'a str>,
+    /// The file into which the run's diagram is written, if any.
+    pub diagram: Option<&'a str>,
+}
 
 /// What `demo` is asked for.
 #[derive(Clone, Copy)]
@@ -48,7 +57,7 @@ pub struct StockClients<'a> {
 #[derive(Clone, Copy)]
 pub enum Task<'a> {
     /// Run the script on standard input.
-    Sim,
+    Sim(Pictures<'a>),
     /// Print the record batches of the file at this path.
     Dump(&'a str),
     /// Serve clients.
@@ -177,6 +186,16 @@ fn demo_in<'a>(given: &ArgMatches<'a>) -> Option<Demonstration<'a>>
     })
 }
 
+// Which pictures `sim` is asked for.
+fn pictures_in<'a>(given: &ArgMatches<'a>) -> Pictures<'a>
+    ensures { IsSim (rows_of (found_of given.now)) result }
+{
+    Pictures {
+        page: given.get_str("page"),
+        diagram: given.get_str("svg"),
+    }
+}
+
 // What `audit` is asked for.
 fn audit_in<'a>(given: &ArgMatches<'a>, is_watched: bool) -> Option<AuditOptions<'a>>
     ensures { MatchOption result
@@ -203,7 +222,7 @@ pub fn task_in<'a>(found: &ArgMatches<'a>, is_watched: bool) -> Option<Task<'a>>
         (AsksFor (subcommand_rows_of found.now) is_watched) }
 {
     match found.subcommand() {
-        Some(("sim", _)) => Some(Task::Sim),
+        Some(("sim", given)) => Some(Task::Sim(pictures_in(given))),
         Some(("dump", given)) => match given.get_str("FILE") {
             Some(path) => Some(Task::Dump(path)),
             None => None,

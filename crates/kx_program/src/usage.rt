@@ -1,15 +1,16 @@
 //! The command line: subcommands, options and their ranges.
-ghost use Rattle.std.specs.Prelude.{◌≡◌, IfOk, false};
-ghost use Rattle.clap.specs.Words.{app_of, rule_of};
+ghost use Rattle.std.specs.Prelude.{◌≡◌, IfOk, codes, false};
+ghost use Rattle.clap.specs.Words.{app_of, new_app, rule_of};
 ghost use Rattle.clap.specs.declared.builder.command.Command.TheViews.{out-Command};
 ghost use Rattle.kx_program.specs.Usage.{audit_app, audited_rule, session_timeout_rule};
 ghost use Rattle.kx_program.specs.Usage.{connections_rule, demo_app, dir_rule, dump_app, expire_rule};
 ghost use Rattle.kx_program.specs.Usage.{hold_rule, kafka_app, kafka_port_rule, logs_rule, lose_rule};
 ghost use Rattle.kx_program.specs.Usage.{needed};
-ghost use Rattle.kx_program.specs.Usage.{no_auto_topics_rule, option_of, partitions_rule, port_rule};
+ghost use Rattle.kx_program.specs.Usage.{no_auto_topics_rule, option_of, page_rule};
+ghost use Rattle.kx_program.specs.Usage.{partitions_rule, port_rule, svg_rule};
 ghost use Rattle.kx_program.specs.Usage.{program_app, records_rule, seed_rule, serve_app, sim_app};
 ghost use Rattle.kx_program.specs.Usage.{topics_rule, trace_rule, traces_rule, with_default};
-ghost use Rattle.kx_program.specs.Usage.{workers_rule};
+ghost use Rattle.kx_program.specs.Usage.{with_needed_subcommand, workers_rule};
 
 use clap::builder::ValueParser;
 use clap::{Arg, ArgAction, Command};
@@ -215,14 +216,41 @@ fn trace<'a>(alloc: Global) -> Arg<'a>
         .help("Writes what happened into this file, one line an event")
 }
 
-// `sim`.
-fn sim_usage<'a>(alloc: Global) -> Command<'a>
-    ensures app { app_of result ≡ sim_app }
-    ensures local { (out-Command result).has_globals ≡ false }
+// The file of a run's page.
+fn page<'a>(alloc: Global) -> Arg<'a>
+    ensures rule { rule_of result ≡ page_rule }
+    ensures local { result.global ≡ false }
 {
-    Command::new(alloc, "sim").about(
-        "Runs the script on standard input and writes its answers to standard output",
-    )
+    Arg::new(alloc, "page")
+        .long("page")
+        .value_name("FILE")
+        .action(ArgAction::Set)
+        .value_parser(ValueParser::NonEmptyString)
+        .help("Writes what happened into this file, as a page in HTML")
+}
+
+// The file of a run's diagram.
+fn svg<'a>(alloc: Global) -> Arg<'a>
+    ensures rule { rule_of result ≡ svg_rule }
+    ensures local { result.global ≡ false }
+{
+    Arg::new(alloc, "svg")
+        .long("svg")
+        .value_name("FILE")
+        .action(ArgAction::Set)
+        .value_parser(ValueParser::NonEmptyString)
+        .help("Writes what happened into this file, as a diagram in SVG")
+}
+
+// `sim`.
+fn sim_usage<'a>(alloc: Global) -> Result<Command<'a>, AllocError>
+    ensures app { IfOk result (λ command. app_of command ≡ sim_app) }
+    ensures local { IfOk result (λ command. (out-Command command).has_globals ≡ false) }
+{
+    Command::new(alloc, "sim")
+        .about("Runs the script on standard input and writes its answers to standard output")
+        .arg(page(alloc))?
+        .arg(svg(alloc))
 }
 
 // `dump`.
@@ -318,6 +346,16 @@ fn audit_usage<'a>(alloc: Global) -> Result<Command<'a>, AllocError>
         .arg(logs(alloc))
 }
 
+// The program, of which a subcommand has to be named.
+fn program_usage<'a>(alloc: Global) -> Command<'a>
+    ensures app { app_of result ≡ with_needed_subcommand (new_app (codes "kx_main")) }
+    ensures local { (out-Command result).has_globals ≡ false }
+{
+    Command::new(alloc, "kx_main")
+        .about("An exactly-once core for Kafka's protocol")
+        .subcommand_required(true)
+}
+
 /// The command line: `kx_main sim`, `kx_main dump FILE`, `kx_main serve`, `kx_main kafka`,
 /// `kx_main demo` or `kx_main audit DIR`.
 ///
@@ -327,10 +365,8 @@ fn audit_usage<'a>(alloc: Global) -> Result<Command<'a>, AllocError>
 pub fn command_line<'a>(alloc: Global) -> Result<Command<'a>, AllocError>
     ensures { IfOk result (λ command. app_of command ≡ program_app) }
 {
-    Command::new(alloc, "kx_main")
-        .about("An exactly-once core for Kafka's protocol")
-        .subcommand_required(true)
-        .subcommand(sim_usage(alloc))?
+    program_usage(alloc)
+        .subcommand(sim_usage(alloc)?)?
         .subcommand(dump_usage(alloc)?)?
         .subcommand(serve_usage(alloc)?)?
         .subcommand(kafka_usage(alloc)?)?

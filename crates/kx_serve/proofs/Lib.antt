@@ -1,3 +1,4 @@
 mod Books
 mod Coordinators
+mod Named
 mod Printed

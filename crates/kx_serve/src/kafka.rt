@@ -1,5 +1,6 @@
 //! Serving stock Kafka clients.
-ghost use Rattle.std.specs.Prelude.{OnOk};
+ghost use Rattle.std.specs.Prelude.{OnOk, option_map};
+ghost use Rattle.kx_serve.specs.Files.{IsNamed};
 ghost use Rattle.kx_server.specs.Lines.{Listens};
 
 use crate::fault::ServeFault;
@@ -126,7 +127,9 @@ pub fn serve_kafka<
     W: Write,
 >(rt: R, options: &KafkaOptions<'_>, out: &mut W) -> Result<(), ServeFault>
     // What it printed when it has ended.
-    ensures { OnOk result (Listens (W.contents out.old) (W.contents out.new)) }
+    ensures listens { OnOk result (Listens (W.contents out.old) (W.contents out.new)) }
+    ensures named { OnOk result (IsNamed (option_map (λ d. d.now) options.now.dir)
+        × IsNamed (option_map (λ d. d.now) options.now.traces)) }
 {
     let locks = lock_folders(&rt, options.dir, options.traces)?;
     let served = serve_locked(rt, options, out);

@@ -14,6 +14,7 @@ mod members;
 mod opening;
 mod options;
 mod owed;
+mod placing;
 mod server;
 mod tracing;
 

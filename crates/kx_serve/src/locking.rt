@@ -1,5 +1,6 @@
 //! Folders that one server has at a time.
-ghost use Rattle.std.specs.Prelude.{◌≡◌, [], IfSome, OnOk};
+ghost use Rattle.std.specs.Prelude.{◌≡◌, [], OnOk, option_map};
+ghost use Rattle.kx_serve.specs.Files.{IsNamed};
 
 use crate::fault::ServeFault;
 use kx_files::make_folder;
@@ -56,7 +57,7 @@ fn lock_logs<R: Files<File = File> + AllocGlobal>(
     rt: &R,
     dir: Option<&str>,
 ) -> Result<Option<File>, ServeFault>
-    ensures { OnOk result (IfSome dir.entry (λ d. d.now ≡ [] → ⊥)) }
+    ensures { OnOk result (IsNamed (option_map (λ d. d.now) dir.entry)) }
 {
     let Some(dir) = dir else {
         return Ok(None);
@@ -74,7 +75,7 @@ fn lock_traces<R: Files<File = File> + AllocGlobal>(
     rt: &R,
     dir: Option<&str>,
 ) -> Result<Option<File>, ServeFault>
-    ensures { OnOk result (IfSome dir.entry (λ d. d.now ≡ [] → ⊥)) }
+    ensures { OnOk result (IsNamed (option_map (λ d. d.now) dir.entry)) }
 {
     let Some(dir) = dir else {
         return Ok(None);
@@ -106,8 +107,8 @@ pub(crate) fn lock_folders<R: Files<File = File> + AllocGlobal>(
     logs: Option<&str>,
     traces: Option<&str>,
 ) -> Result<Locks, ServeFault>
-    ensures { OnOk result (IfSome logs.entry (λ d. d.now ≡ [] → ⊥)
-        × IfSome traces.entry (λ d. d.now ≡ [] → ⊥)) }
+    ensures { OnOk result (IsNamed (option_map (λ d. d.now) logs.entry)
+        × IsNamed (option_map (λ d. d.now) traces.entry)) }
 {
     Ok(Locks {
         _logs: lock_logs(rt, logs)?,

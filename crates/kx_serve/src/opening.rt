@@ -11,6 +11,7 @@ use crate::files::LogFile;
 use crate::folder::{Folder, fault_in};
 use crate::members::members_of;
 use crate::owed::{first_missing, names};
+use crate::placing::{placed, unpublished};
 use crate::tracing::{ServerMachine, Traces, recorded, restarted};
 use kx_broker::{OffsetsMachine, PartitionMachine};
 use kx_coord_node::CoordinatorMachine;
@@ -18,7 +19,7 @@ use kx_machines::BrokerMachine;
 use kx_message::{NodeId, PartitionId};
 use kx_nodes::Untraced;
 use kx_published::book::{Naming, Opened};
-use kx_server::{Connections, MOST_READERS, Member, Nodes, Partitions, Place, placed, unpublished};
+use kx_server::{Connections, MOST_READERS, Member, Nodes, Partitions, Place};
 use kx_trace::TracedNode;
 use kx_trace_files::{OpenedTrace, TraceFile};
 use kx_txnlog::TxnLog;
@@ -351,20 +352,6 @@ impl<'a, F: Folder, R: Files<File = File> + AllocGlobal + Eprint + Wait + Drop +
         self.node(file, machine, opened)
     }
 
-    // The node of the offsets partition, whose log was opened.
-    fn offsets_node<J: Naming>(
-        &self,
-        machine: BrokerMachine<F::Kept>,
-        opened: Opened,
-    ) -> Result<Place<Kept<F, R>, J, R>, ServeFault>
-        requires machine { IsOpened offsets_partition machine }
-        requires opened { opened.partition ≡ offsets_partition }
-        requires book { opened.seen.book ≡ J.book offsets_partition }
-    {
-        let machine = self.traced(LogFile::Offsets, opened.partition, machine)?;
-        self.node(LogFile::Offsets, machine, opened)
-    }
-
     // The members of all groups of the offsets partition, and its node.
     fn offsets_place<J: Naming>(
         &self,
@@ -377,7 +364,8 @@ impl<'a, F: Folder, R: Files<File = File> + AllocGlobal + Eprint + Wait + Drop +
         let machine = self.offsets(LogFile::Offsets)?;
         match members_of(self.alloc, &machine) {
             Ok(members) => {
-                add(places, self.offsets_node(machine, opened)?)?;
+                let machine = self.traced(LogFile::Offsets, opened.partition, machine)?;
+                add(places, self.node(LogFile::Offsets, machine, opened)?)?;
                 Ok(members)
             }
             Err(refused) => {

@@ -1,6 +1,7 @@
 //! Serving nodes whose logs are in memory or in a folder.
-ghost use Rattle.std.specs.Prelude.{◌≡◌, ◌≤◌, All, IfOk, OnOk, length};
+ghost use Rattle.std.specs.Prelude.{◌≡◌, ◌≤◌, All, IfOk, OnOk, length, option_map};
 ghost use Rattle.kx_message.specs.Ranges.{data_partitions, offsets_partition};
+ghost use Rattle.kx_serve.specs.Files.{IsNamed};
 ghost use Rattle.kx_serve.specs.Opening.{HasBook, InOrder};
 ghost use Rattle.kx_server.specs.Lines.{Listens, Prints};
 
@@ -215,8 +216,10 @@ pub fn serve<
     W: Write,
 >(rt: R, options: &ServeOptions<'_>, out: &mut W) -> Result<(), ServeFault>
     // What it printed when it has ended.
-    ensures { OnOk result (Prints options.now.connections (W.contents out.old)
+    ensures prints { OnOk result (Prints options.now.connections (W.contents out.old)
         (W.contents out.new)) }
+    ensures named { OnOk result (IsNamed (option_map (λ d. d.now) options.now.dir)
+        × IsNamed (option_map (λ d. d.now) options.now.traces)) }
 {
     let locks = lock_folders(&rt, options.dir, options.traces)?;
     let served = serve_own(rt, options, out);

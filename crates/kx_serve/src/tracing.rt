@@ -42,8 +42,7 @@ pub(crate) fn restarted<S: Store, R: Eprint + Drop>(
     mut machine: ServerMachine<S, R>,
     time: u64,
 ) -> Result<ServerMachine<S, R>, ServeFault>
-    requires { StandsForCoordinator machine }
-    ensures { IfOk result StandsForCoordinator }
+    ensures { StandsForCoordinator machine → IfOk result StandsForCoordinator }
 {
     match machine.record(&Input::Restart(time)) {
         Ok(taken) => {

@@ -39,11 +39,6 @@ pub struct Place<L: Readable, J: Naming, R: Wait + Drop> {
 }
 
 impl<L: Readable, J: Naming, R: Wait + Drop> Place<L, J, R> {
-    /// Whether pages are read from the published log of the node; else each is a step of it.
-    pub fn is_published(&self) -> bool {
-        self.readers.is_some()
-    }
-
     /// A node without readers: each page is a step of the node.
     pub fn unread(node: Arc<ServedNode<L, J, R>>) -> Self {
         Place {
@@ -51,6 +46,28 @@ impl<L: Readable, J: Naming, R: Wait + Drop> Place<L, J, R> {
             node,
         }
     }
+
+    /// A node with readers of its published log, from which pages are read.
+    pub fn published(node: Arc<ServedNode<L, J, R>>, readers: Readers<J>) -> Self {
+        Place {
+            readers: Some(readers),
+            node,
+        }
+    }
+
+    /// Whether pages are read from the published log of the node; else each is a step of it.
+    pub fn is_published(&self) -> bool {
+        self.readers.is_some()
+    }
+}
+
+/// The nodes of a server, and who is a member of a group by their logs.
+#[derive(Drop)]
+pub struct Nodes<L: Readable, J: Naming, R: Wait + Drop> {
+    /// The coordinator, the data partitions in order, and the offsets partition.
+    pub places: Vec<Place<L, J, R>>,
+    /// The members.
+    pub members: Vec<Member>,
 }
 
 // Whether a step with this input may append to a partition's log what readers are to see.

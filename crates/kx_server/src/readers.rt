@@ -13,7 +13,7 @@ pub const MOST_READERS: usize = 16;
 
 /// The readers of a published log that no connection has. None of them is in the log.
 #[derive(Drop)]
-pub(crate) struct Readers<J: Naming> {
+pub struct Readers<J: Naming> {
     idle: Mutex<Vec<PageReader<J>>>,
     returned: Condvar,
 }
@@ -24,7 +24,7 @@ impl<J: Naming> Readers<J> {
     /// # Errors
     ///
     /// Where they can't be had.
-    pub(crate) fn of<L: Readable, R: Wait + Drop>(
+    pub fn of<L: Readable, R: Wait + Drop>(
         rt: &R,
         alloc: Global,
         node: &ServedNode<L, J, R>,

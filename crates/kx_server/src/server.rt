@@ -3,13 +3,12 @@ ghost use Rattle.std.specs.Prelude.{◌≤◌, OnOk};
 ghost use Rattle.kx_server.specs.Lines.{Listens};
 
 use crate::fault::{NetFault, ServerFault};
-use crate::hub::{Answers, Hub, Place};
+use crate::hub::{Answers, Hub, Nodes, Place};
 use crate::lines::tell;
 use crate::listening::{fault_of, listen, port_of};
 use crate::operator::Operator;
 use crate::options::ServerOptions;
 use crate::peer::Peer;
-use crate::placing::Nodes;
 use crate::protocol::{OwnFrames, Protocol};
 use crate::routes::Routes;
 use crate::seats::Seats;

@@ -8,11 +8,13 @@ use Rattle.kx_program.proofs.usage.command_line.Goals as goal
 
 pub returns : goal.returns
 returns c =
-    let made_0 : Makes c.subcommand_required.result
+    let made_0 : Makes c.program_usage.result
     (with_needed_subcommand (new_app (codes "kx_main"))) =
-    record { is = search rules; local = search rules } in
-    let sim : Makes c.sim_usage.result sim_app =
-    record { is = c.sim_usage.ensures.app; local = c.sim_usage.ensures.local } in
+    record { is = c.program_usage.ensures.app; local = c.program_usage.ensures.local } in
+    let sim : Makes c.in_ok-sim_usage.field-0 sim_app = record {
+      is = c.in_ok-sim_usage.ensures.app;
+      local = c.in_ok-sim_usage.ensures.local;
+    } in
     let made_1 = with_command _ _ _ _ _ c.in_ok-subcommand.ensures made_0 sim in
     let dump : Makes c.in_ok-dump_usage.field-0 dump_app = record {
       is = c.in_ok-dump_usage.ensures.app;

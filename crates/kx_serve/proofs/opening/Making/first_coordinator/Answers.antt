@@ -2,7 +2,7 @@ use Rattle.kx_coord_node.specs.Stands.{opened_coordinator}
 use Rattle.kx_serve.proofs.Coordinators.{made}
 use Rattle.kx_serve.proofs.opening.Making.first_coordinator.Goals as goal
 
-pub restarted-requires : goal.restarted-requires
-restarted-requires g c =
-    made c.recorded-made.result _ (opened_coordinator c.in-Ok.machine.log.notes 0)
-    c.recorded-made.ensures.machine c.in-Ok.ensures
+pub returns-in-Ok : goal.returns-in-Ok
+returns-in-Ok g c = c.restarted.ensures
+    (made c.recorded-made.result _ (opened_coordinator c.in-Ok.machine.log.notes 0)
+    c.recorded-made.ensures.machine c.in-Ok.ensures)

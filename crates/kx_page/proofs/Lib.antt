@@ -1,0 +1,2 @@
+mod Markup
+mod Rows

@@ -1,0 +1,5 @@
+use Rattle.kx_page.specs.Rows.{KeepsRows}
+use Rattle.kx_page.proofs.drawing.lane_lines.Given as goal
+
+abbrev pub invariant-loop-lane : goal.invariant-loop-lane
+invariant-loop-lane l = KeepsRows l.fn.html.items l.html.items

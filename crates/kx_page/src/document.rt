@@ -1,0 +1,289 @@
+//! The whole page of a run, in HTML.
+ghost use Rattle.std.specs.Prelude.{◌≡◌, ◌++◌, ◌∷◌, [], IfOk, OnOk};
+ghost use Rattle.kx_page.specs.Rows.{IsDrawn, IsPageOf, KeepsRows, rows_from, rows_of, told};
+
+use crate::drawing::{Part, about, fated, lane_names, shown, svg_head};
+use crate::html::{Html, markup, number, numbered, row, value, valued};
+use crate::piece::{Row, text};
+use crate::places::{ROW, top_of, written};
+use crate::rules::RULES;
+use crate::run::{Log, LoggedBatch, Run, Step};
+use crate::script::SCRIPT;
+use crate::style::{DIAGRAM, PAGE, TIPS};
+use std::alloc::{AllocError, Global};
+
+// How many steps a part of a page has at most: what isn't looked at isn't laid out, part by part.
+const PART: usize = 200;
+
+// How high the names of the lanes are.
+const NAMES: i64 = 28;
+
+const FORM: &str =
+    "<form><label>Node <select id=\"by-n\"><option value=\"\">all</option></select></label>
+<label>Client <select id=\"by-c\"><option value=\"\">all</option></select></label>
+<label>Transactions of <select id=\"by-t\"><option value=\"\">all</option></select></label></form>
+<p class=\"key\"><span><i class=\"o\"></i>open</span><span><i class=\"c\"></i>committed</span><span><i class=\"a\"></i>aborted</span><span><i class=\"n\"></i>no transaction</span><span>dashed: arrived again</span><span>cross: never arrived</span><span>dotted across a lane: the last stable offset</span><span>keys: arrows or j and k, Escape</span></p></header>
+<main><div id=\"run\">
+";
+
+// Adds how many there are of something.
+fn count(html: &mut Html<'_>, many: usize, what: &'static str) -> Result<(), AllocError>
+    ensures { OnOk result (KeepsRows html.old.items html.new.items) }
+{
+    number(html, written(many))?;
+    markup(html, what)
+}
+
+// Adds the head of a page.
+fn head<'a>(html: &mut Html<'a>, run: &'a Run) -> Result<(), AllocError>
+    ensures { OnOk result (KeepsRows html.old.items html.new.items) }
+{
+    let title = run.title.as_bytes();
+    markup(
+        html,
+        "<!DOCTYPE html>\n<html lang=\"en\"><head><meta charset=\"utf-8\">\n",
+    )?;
+    markup(
+        html,
+        "<meta name=\"viewport\" content=\"width=device-width,initial-scale=1\">\n",
+    )?;
+    valued(html, "<title>", title, "</title>\n<style>\n")?;
+    markup(html, DIAGRAM)?;
+    markup(html, PAGE)?;
+    valued(
+        html,
+        "</style></head>\n<body><header><h1>",
+        title,
+        "</h1><p>",
+    )?;
+    count(html, run.steps.len(), " steps, ")?;
+    count(html, run.arrows.len(), " messages</p>\n")?;
+    markup(html, FORM)
+}
+
+// Adds the names of the lanes, which stay in sight.
+fn names<'a>(html: &mut Html<'a>, run: &'a Run) -> Result<(), AllocError>
+    ensures { OnOk result (KeepsRows html.old.items html.new.items) }
+{
+    markup(html, "<div class=\"names\">")?;
+    svg_head(html, run.lanes.len(), 0, NAMES)?;
+    markup(html, TIPS)?;
+    lane_names(html, run.lanes.as_slice())?;
+    markup(html, "</svg></div>\n")
+}
+
+// Adds the diagram of a part, and the head of the list of its rows.
+fn part_head<'a>(html: &mut Html<'a>, run: &'a Run, first: usize) -> Result<(), AllocError>
+    ensures { OnOk result (KeepsRows html.old.items html.new.items) }
+{
+    let end = first.saturating_add(PART).min(run.steps.len());
+    let top = top_of(first);
+    let height = top_of(end).saturating_sub(top);
+    numbered(
+        html,
+        "<section class=\"part\" style=\"--h:",
+        height,
+        "px\">\n",
+    )?;
+    svg_head(html, run.lanes.len(), top, height)?;
+    shown(html, run, Part { first, end })?;
+    numbered(html, "</svg>\n<ol start=\"", written(first), "\">\n")
+}
+
+// Adds what stands between the parts of a page.
+fn part_begins<'a>(html: &mut Html<'a>, run: &'a Run, first: usize) -> Result<(), AllocError>
+    ensures { OnOk result (KeepsRows html.old.items html.new.items) }
+{
+    if first != 0 {
+        markup(html, "</ol></section>\n")?;
+    }
+    part_head(html, run, first)
+}
+
+// Adds the link to the rule by which a step answered.
+fn rule_of(html: &mut Html<'_>, step: &Step) -> Result<(), AllocError>
+    ensures { OnOk result (KeepsRows html.old.items html.new.items) }
+{
+    let Some(rule) = step.rule else {
+        return markup(html, "</li>\n");
+    };
+    let anchor = rule.anchor();
+    markup(html, " <a class=\"rule\" href=\"#")?;
+    markup(html, anchor)?;
+    markup(html, "\">")?;
+    markup(html, anchor)?;
+    markup(html, "</a></li>\n")
+}
+
+// Adds the row of a step.
+fn row_of<'a>(html: &mut Html<'a>, number: usize, step: &'a Step) -> Result<(), AllocError>
+    ensures { OnOk result (rows_of html.new.items
+        ≡ rows_of html.old.items ++ told number step.now ∷ []) }
+{
+    markup(html, "<li")?;
+    about(html, step.lane, step.client, step.producer)?;
+    let told = Row {
+        number: number as u64,
+        title: step.title.as_bytes(),
+        detail: step.detail.as_bytes(),
+    };
+    row(html, told)?;
+    rule_of(html, step)
+}
+
+// Adds the row of a step, and before it the head of the part that begins with it, if one does.
+fn next_row<'a>(
+    html: &mut Html<'a>,
+    run: &'a Run,
+    number: usize,
+    step: &'a Step,
+) -> Result<(), AllocError>
+    ensures { OnOk result (rows_of html.new.items
+        ≡ rows_of html.old.items ++ told number step.now ∷ []) }
+{
+    if number % PART == 0 {
+        part_begins(html, run, number)?;
+    }
+    row_of(html, number, step)
+}
+
+// Adds all rows, part by part.
+fn rows<'a>(html: &mut Html<'a>, run: &'a Run) -> Result<(), AllocError>
+    ensures { OnOk result (rows_of html.new.items
+        ≡ rows_of html.old.items ++ rows_from 0 run.now.steps.items) }
+{
+    let steps = run.steps.as_slice();
+    for number in 0..steps.len() {
+        next_row(html, run, number, &steps[number])?;
+    }
+    Ok(())
+}
+
+// Adds a batch of a log.
+fn batch<'a>(html: &mut Html<'a>, batch: &'a LoggedBatch) -> Result<(), AllocError>
+    ensures { OnOk result (KeepsRows html.old.items html.new.items) }
+{
+    markup(html, "<tr class=\"")?;
+    fated(html, batch.fate)?;
+    numbered(html, "\"><td class=\"k\">", batch.offset, "</td>")?;
+    valued(html, "<td>", batch.kind.as_bytes(), "</td>")?;
+    valued(html, "<td>", batch.records.as_slice(), "</td>")?;
+    valued(html, "<td>", batch.reading.as_bytes(), "</td></tr>\n")
+}
+
+// Adds the batches of a log.
+fn batches<'a>(html: &mut Html<'a>, all: &'a [LoggedBatch]) -> Result<(), AllocError>
+    ensures { OnOk result (KeepsRows html.old.items html.new.items) }
+{
+    for given in all {
+        batch(html, given)?;
+    }
+    Ok(())
+}
+
+// Adds a log.
+fn log<'a>(html: &mut Html<'a>, log: &'a Log) -> Result<(), AllocError>
+    ensures { OnOk result (KeepsRows html.old.items html.new.items) }
+{
+    valued(html, "<h3>", log.name.as_bytes(), "</h3>")?;
+    numbered(html, "<p>last stable offset ", log.stable, "")?;
+    numbered(html, ", end ", log.end, "</p>\n")?;
+    markup(
+        html,
+        "<table><tr><th>offset</th><th>batch</th><th>records</th>",
+    )?;
+    markup(html, "<th>a reader of committed records</th></tr>\n")?;
+    batches(html, log.batches.as_slice())?;
+    markup(html, "</table>\n")
+}
+
+// Adds the logs.
+fn logs<'a>(html: &mut Html<'a>, all: &'a [Log]) -> Result<(), AllocError>
+    ensures { OnOk result (KeepsRows html.old.items html.new.items) }
+{
+    for given in all {
+        log(html, given)?;
+    }
+    Ok(())
+}
+
+// Adds what stands beside and below the steps.
+fn tail<'a>(html: &mut Html<'a>, run: &'a Run) -> Result<(), AllocError>
+    ensures { OnOk result (KeepsRows html.old.items html.new.items) }
+{
+    if !run.steps.is_empty() {
+        markup(html, "</ol></section>\n")?;
+    }
+    markup(
+        html,
+        "</div>\n<aside><div id=\"chosen\">Point at a step, or choose it by a key.</div>\n<h2>Logs as they end</h2>\n",
+    )?;
+    logs(html, run.logs.as_slice())?;
+    markup(
+        html,
+        "</aside></main>\n<section id=\"rules\"><h2>Rules</h2>\n",
+    )?;
+    markup(html, RULES)?;
+    markup(html, "</section>\n<script>\n")?;
+    markup(html, SCRIPT)?;
+    markup(html, "</script></body></html>\n")
+}
+
+// Adds a whole page.
+fn whole<'a>(html: &mut Html<'a>, run: &'a Run) -> Result<(), AllocError>
+    ensures { OnOk result (rows_of html.new.items
+        ≡ rows_of html.old.items ++ rows_from 0 run.now.steps.items) }
+{
+    head(html, run)?;
+    names(html, run)?;
+    rows(html, run)?;
+    tail(html, run)
+}
+
+/// The page of a run, in HTML: the diagram with a row for each step, in order; the logs as they end;
+/// the rules. It loads nothing from elsewhere. No value of the run can become markup.
+///
+/// # Errors
+///
+/// Only where memory runs out.
+pub fn page(alloc: Global, run: &Run) -> Result<Vec<u8>, AllocError>
+    ensures { IfOk result (λ page. IsPageOf run.now page.items) }
+{
+    let mut html = Vec::new(alloc);
+    whole(&mut html, run)?;
+    text(alloc, html.as_slice())
+}
+
+// Adds the diagram of a whole run as an image of its own.
+fn drawn<'a>(html: &mut Html<'a>, run: &'a Run) -> Result<(), AllocError>
+    ensures { OnOk result (KeepsRows html.old.items html.new.items) }
+{
+    let end = run.steps.len();
+    let height = top_of(end).saturating_add(NAMES).saturating_add(ROW);
+    svg_head(html, run.lanes.len(), -NAMES, height)?;
+    valued(html, "<title>", run.title.as_bytes(), "</title>\n<style>")?;
+    markup(html, DIAGRAM)?;
+    markup(
+        html,
+        "</style>\n<rect class=\"back\" x=\"0\" y=\"-28\" width=\"100%\" height=\"100%\"/>",
+    )?;
+    markup(html, TIPS)?;
+    numbered(html, "<g transform=\"translate(0 ", -NAMES, ")\">\n")?;
+    lane_names(html, run.lanes.as_slice())?;
+    markup(html, "</g>\n")?;
+    shown(html, run, Part { first: 0, end })?;
+    markup(html, "</svg>\n")
+}
+
+/// The diagram of a run alone, in SVG. No value of the run can become markup.
+///
+/// # Errors
+///
+/// Only where memory runs out.
+pub fn diagram(alloc: Global, run: &Run) -> Result<Vec<u8>, AllocError>
+    ensures { IfOk result (λ image. IsDrawn image.items) }
+{
+    let mut html = Vec::new(alloc);
+    drawn(&mut html, run)?;
+    text(alloc, html.as_slice())
+}

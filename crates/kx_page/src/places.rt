@@ -1,0 +1,40 @@
+//! Where things stand in the diagram, in pixels. A place past what an i64 holds is the last one.
+
+/// How far one step is below the step before.
+pub(crate) const ROW: i64 = 26;
+
+// How far a lane is right of the lane before.
+const LANE: i64 = 152;
+
+// How far a box reaches to each side of the middle of its lane.
+pub(crate) const HALF: i64 = 58;
+
+// As a signed number.
+fn signed(number: usize) -> i64 {
+    i64::try_from(number).unwrap_or(i64::MAX)
+}
+
+/// The middle of a lane.
+pub(crate) fn x_of(lane: usize) -> i64 {
+    signed(lane).saturating_mul(LANE).saturating_add(LANE / 2)
+}
+
+/// The middle of a step's row.
+pub(crate) fn y_of(step: usize) -> i64 {
+    top_of(step).saturating_add(ROW / 2)
+}
+
+/// Where a step's row begins.
+pub(crate) fn top_of(step: usize) -> i64 {
+    signed(step).saturating_mul(ROW)
+}
+
+/// How wide this many lanes are, with room for what the last one says.
+pub(crate) fn width_of(lanes: usize) -> i64 {
+    signed(lanes).saturating_mul(LANE).saturating_add(LANE / 3)
+}
+
+/// A number as it is written.
+pub(crate) fn written(number: usize) -> i64 {
+    signed(number)
+}

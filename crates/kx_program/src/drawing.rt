@@ -1,0 +1,116 @@
+//! Scripts that are run and drawn.
+ghost use Rattle.std.specs.Prelude.{◌≡◌, ◌⊎◌, Some};
+ghost use Rattle.std.specs.Io.Buffered.{writer_contents};
+ghost use Rattle.kx_program.specs.Program.{Draws, Simulates};
+ghost use Rattle.kx_text.specs.declared.program.Ending.TheVariants as ending;
+
+use crate::streams::{failed, sim};
+use crate::task::Pictures;
+use kx_page::{Run, diagram, page};
+use kx_text::{Ending, ScriptFault};
+use kx_watch::run_of_script;
+use std::alloc::AllocError;
+use std::fs;
+use std::fs::{File, Files};
+use std::io::{BufRead, BufWriter, Read, Write};
+
+// Writes a picture into a file, and says whether it stands there; if not, a line on standard error
+// says why.
+fn drawn<R: Files<File = File>, E: Write>(
+    rt: &R,
+    path: &str,
+    picture: Result<Vec<u8>, AllocError>,
+    errors: &mut E,
+) -> bool {
+    let Ok(picture) = picture else {
+        let _ = failed(errors, ScriptFault::Memory);
+        return false;
+    };
+    match fs::write(rt, path, picture) {
+        Ok(()) => true,
+        Err(error) => {
+            let _ = failed(errors, format_args!("{path}: {error}"));
+            false
+        }
+    }
+}
+
+// Draws a run into the files that are asked for, and says whether all of them stand.
+fn draw_run<R: Files<File = File> + AllocGlobal, E: Write>(
+    rt: &R,
+    asked: Pictures<'_>,
+    run: &Run,
+    errors: &mut E,
+) -> bool {
+    if let Some(path) = asked.page {
+        if !drawn(rt, path, page(rt.alloc(), run), errors) {
+            return false;
+        }
+    }
+    match asked.diagram {
+        Some(path) => drawn(rt, path, diagram(rt.alloc(), run), errors),
+        None => true,
+    }
+}
+
+// Draws what a script did, and says whether the pictures stand.
+fn draw<R: Files<File = File> + AllocGlobal, E: Write>(
+    rt: &R,
+    asked: Pictures<'_>,
+    script: &[u8],
+    errors: &mut E,
+) -> bool {
+    let Ok(title) = String::from_str(rt.alloc(), "A script") else {
+        let _ = failed(errors, ScriptFault::Memory);
+        return false;
+    };
+    match run_of_script(rt.alloc(), title, script) {
+        Ok(run) => draw_run(rt, asked, &run, errors),
+        Err(fault) => {
+            let _ = failed(errors, fault);
+            false
+        }
+    }
+}
+
+// Runs a script of which all bytes are there, and then draws it.
+fn sim_and_draw<R: Files<File = File> + AllocGlobal, O: Write + Drop, E: Write>(
+    rt: &R,
+    asked: Pictures<'_>,
+    script: &[u8],
+    out: &mut BufWriter<O>,
+    errors: &mut E,
+) -> Ending
+    ensures { Simulates (Some script.now) (writer_contents O.contents out.old)
+        (writer_contents O.contents out.new) result ⊎ (result ≡ ending.Failed) }
+{
+    let mut rest = script;
+    let ran = sim(rt.alloc(), &mut rest, out, errors);
+    if draw(rt, asked, script, errors) {
+        ran
+    } else {
+        Ending::Failed
+    }
+}
+
+/// Runs the script that the input has, draws it if that is asked for, and says how the program ends:
+/// as without pictures, or `Failed` if the input can't be read whole or a picture can't be written.
+pub(crate) fn sim_with<R: Files<File = File> + AllocGlobal, I: BufRead, O: Write + Drop, E: Write>(
+    rt: &R,
+    asked: Pictures<'_>,
+    input: &mut I,
+    out: &mut BufWriter<O>,
+    errors: &mut E,
+) -> Ending
+    ensures { Draws asked.entry (I.remaining input.old) (writer_contents O.contents out.old)
+        (writer_contents O.contents out.new) result }
+{
+    if asked.page.is_none() && asked.diagram.is_none() {
+        return sim(rt.alloc(), input, out, errors);
+    }
+    let mut script = Vec::new(rt.alloc());
+    match input.read_to_end(&mut script) {
+        Ok(_) => sim_and_draw(rt, asked, script.as_slice(), out, errors),
+        Err(error) => failed(errors, error),
+    }
+}

@@ -1,0 +1,113 @@
+//! What is read of messages: whose they are, which transaction they are about, and how they answer.
+use kx_batch::BatchView;
+use kx_message::{ClientId, ErrorCode, Held, Message, Produce};
+
+// Whose producer id a batch has; none where it has none, or its bytes are no batch.
+fn producer_in(produce: &Produce) -> Option<i64> {
+    let Ok((batch, _)) = BatchView::read(produce.batch.as_slice()) else {
+        return None;
+    };
+    let id = batch.producer_id();
+    if id < 0 { None } else { Some(id) }
+}
+
+// The producer id of what a producer holds.
+fn id_of(held: Held) -> Option<i64> {
+    Some(held.id.get())
+}
+
+// The producer id of what a producer may hold.
+fn id_in(held: Option<Held>) -> Option<i64> {
+    id_of(held?)
+}
+
+/// The producer id that a message names, if any.
+pub(crate) fn producer_of(message: &Message) -> Option<i64> {
+    match message {
+        Message::Produce(produce) => producer_in(produce),
+        Message::InitReply(reply) => id_in(reply.held),
+        Message::EndTxn(request) => id_of(request.held),
+        Message::EndReply(reply) => id_in(reply.held),
+        Message::AddPartition(request) => id_of(request.held),
+        Message::AddReply(reply) => id_of(reply.held),
+        Message::WriteMarker(marker) => id_of(marker.held.get()),
+        Message::MarkerReply(reply) => id_of(reply.held.get()),
+        Message::TxnOffsetCommit(request) => id_of(request.held),
+        _ => None,
+    }
+}
+
+// The client of a request, if the message is one.
+fn asking(message: &Message) -> Option<ClientId> {
+    match message {
+        Message::InitProducerId(request) => Some(request.caller.client),
+        Message::EndTxn(request) => Some(request.caller.client),
+        Message::Produce(request) => Some(request.caller.client),
+        Message::Fetch(request) => Some(request.caller.client),
+        Message::Join(request) => Some(request.caller.client),
+        Message::Leave(request) => Some(request.caller.client),
+        Message::TxnOffsetCommit(request) => Some(request.caller.client),
+        Message::OffsetFetch(request) => Some(request.caller.client),
+        _ => None,
+    }
+}
+
+// The client of a reply, if the message is one to a client.
+fn answered(message: &Message) -> Option<ClientId> {
+    match message {
+        Message::InitReply(reply) => Some(reply.caller.client),
+        Message::EndReply(reply) => Some(reply.caller.client),
+        Message::ProduceReply(reply) => Some(reply.caller.client),
+        Message::FetchReply(reply) => Some(reply.caller.client),
+        Message::JoinReply(reply) => Some(reply.caller.client),
+        Message::LeaveReply(reply) => Some(reply.caller.client),
+        Message::OffsetsReply(reply) => Some(reply.caller.client),
+        Message::OffsetFetchReply(reply) => Some(reply.caller.client),
+        _ => None,
+    }
+}
+
+/// The client that a message is from or for, if any.
+pub(crate) fn client_of(message: &Message) -> Option<ClientId> {
+    match asking(message) {
+        Some(client) => Some(client),
+        None => answered(message),
+    }
+}
+
+/// The code of a reply, if the message is one.
+pub(crate) fn code_of(message: &Message) -> Option<ErrorCode> {
+    match message {
+        Message::InitReply(reply) => Some(reply.code),
+        Message::EndReply(reply) => Some(reply.code),
+        Message::ProduceReply(reply) => Some(reply.code),
+        Message::AddReply(reply) => Some(reply.code),
+        Message::MarkerReply(reply) => Some(reply.code),
+        Message::FetchReply(reply) => Some(reply.code),
+        Message::JoinReply(reply) => Some(reply.code),
+        Message::LeaveReply(reply) => Some(reply.code),
+        Message::OffsetsReply(reply) => Some(reply.code),
+        Message::OffsetFetchReply(reply) => Some(reply.code),
+        _ => None,
+    }
+}
+
+/// The code of the first reply among these messages, if one is a reply.
+pub(crate) fn answer_in(messages: &[Message]) -> Option<ErrorCode> {
+    for message in messages {
+        if let Some(code) = code_of(message) {
+            return Some(code);
+        }
+    }
+    None
+}
+
+/// Whether a marker is among these messages.
+pub(crate) fn has_marker(messages: &[Message]) -> bool {
+    for message in messages {
+        if matches!(message, Message::WriteMarker(_)) {
+            return true;
+        }
+    }
+    false
+}

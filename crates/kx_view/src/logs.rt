@@ -1,0 +1,243 @@
+//! Logs as they end: of each batch, what became of its transaction, and what readers are shown.
+use crate::seen::LogAt;
+use kx_batch::{BatchView, RecordView};
+use kx_message::Outcome;
+use kx_page::{Fate, Log, LoggedBatch};
+use std::alloc::{AllocError, Global};
+use std::collections::HashMap;
+
+// How many records of a batch are written out, and how many bytes of each.
+const MOST_RECORDS: usize = 8;
+
+const MOST_BYTES: usize = 48;
+
+// A marker: how a producer's transaction ended, and at which offset that stands.
+#[derive(Clone, Copy)]
+struct Ended {
+    outcome: Outcome,
+    offset: i64,
+}
+
+// What a batch of the log is.
+#[derive(Clone, Copy)]
+struct Kind {
+    producer: i64,
+    is_transactional: bool,
+    marker: Option<Outcome>,
+}
+
+/// A log as it is read.
+#[derive(Drop)]
+pub(crate) struct ReadLog {
+    alloc: Global,
+    log: Log,
+    kinds: Vec<Kind>,
+    // of each batch, the offset of the marker that ended its transaction
+    ends: Vec<Option<i64>>,
+}
+
+// What became of a transaction that ended so.
+fn fate_of(outcome: Outcome) -> Fate {
+    match outcome {
+        Outcome::Commit => Fate::Committed,
+        Outcome::Abort => Fate::Aborted,
+    }
+}
+
+// Adds the first bytes of a key or a value.
+fn add_bytes(text: &mut Vec<u8>, bytes: &[u8]) -> Result<(), AllocError> {
+    let (first, others) = bytes.split_at(bytes.len().min(MOST_BYTES));
+    text.extend_from_slice(first)?;
+    if others.is_empty() {
+        return Ok(());
+    }
+    text.extend_from_slice(b"..")
+}
+
+// Adds a record: its key, if it has one, and its value.
+fn add_record(text: &mut Vec<u8>, record: &RecordView<'_>) -> Result<(), AllocError> {
+    if let Some(key) = record.key() {
+        add_bytes(text, key)?;
+        text.extend_from_slice(b"=")?;
+    }
+    match record.value() {
+        Some(value) => add_bytes(text, value),
+        None => text.extend_from_slice(b"null"),
+    }
+}
+
+// The first records of a batch; none of a control batch.
+fn records_of(alloc: Global, batch: &BatchView<'_>) -> Result<Vec<u8>, AllocError> {
+    let mut text = Vec::new(alloc);
+    if batch.is_control() {
+        return Ok(text);
+    }
+    for (number, record) in batch.records().enumerate() {
+        if number == MOST_RECORDS {
+            text.extend_from_slice(b", ..")?;
+            return Ok(text);
+        }
+        if number != 0 {
+            text.extend_from_slice(b", ")?;
+        }
+        add_record(&mut text, &record)?;
+    }
+    Ok(text)
+}
+
+// Who wrote a batch, and what it is.
+fn words_of(alloc: Global, batch: &BatchView<'_>, kind: Kind) -> Result<String, AllocError> {
+    let (id, epoch) = (kind.producer, batch.producer_epoch());
+    match kind.marker {
+        Some(outcome) => format!(in alloc; "{outcome} marker, producer {id} epoch {epoch}"),
+        None if id < 0 => String::from_str(alloc, "no producer"),
+        None => {
+            let first = batch.base_sequence();
+            format!(in alloc; "producer {id} epoch {epoch} sequence {first}")
+        }
+    }
+}
+
+// What a reader of committed records is shown of a batch, and why.
+fn reading(kind: Kind, fate: Fate, offset: i64, stable: i64) -> &'static str {
+    if kind.marker.is_some() {
+        return "no: control batch";
+    }
+    match fate {
+        Fate::Aborted => "no: its transaction is aborted",
+        Fate::Open => "no: its transaction is open",
+        _ if offset >= stable => "not yet: an earlier transaction is open",
+        Fate::Committed => "yes: its transaction is committed",
+        Fate::Plain => "yes: it is in no transaction",
+    }
+}
+
+impl ReadLog {
+    /// A log of which no batch was read.
+    pub(crate) fn new(alloc: Global, name: String, at: LogAt) -> ReadLog {
+        ReadLog {
+            alloc,
+            log: Log {
+                name,
+                stable: at.stable,
+                end: at.end,
+                batches: Vec::new(alloc),
+            },
+            kinds: Vec::new(alloc),
+            ends: Vec::new(alloc),
+        }
+    }
+
+    // Adds a batch, of whose transaction nothing is known yet.
+    fn add(&mut self, batch: &BatchView<'_>) -> Result<(), AllocError> {
+        let kind = Kind {
+            producer: batch.producer_id(),
+            is_transactional: batch.is_transactional(),
+            marker: match batch.end_marker() {
+                Some((outcome, _)) => Some(outcome),
+                None => None,
+            },
+        };
+        let logged = LoggedBatch {
+            offset: batch.base_offset(),
+            kind: words_of(self.alloc, batch, kind)?,
+            records: records_of(self.alloc, batch)?,
+            fate: Fate::Plain,
+            reading: String::new(self.alloc),
+        };
+        self.kinds.push(kind)?;
+        self.ends.push(None)?;
+        self.log.batches.push(logged)?;
+        Ok(())
+    }
+
+    /// Adds the batches that these bytes are.
+    ///
+    /// # Errors
+    ///
+    /// Only where memory runs out.
+    pub(crate) fn read(&mut self, bytes: &[u8]) -> Result<(), AllocError> {
+        let mut rest = bytes;
+        while let Ok((batch, behind)) = BatchView::read(rest) {
+            self.add(&batch)?;
+            rest = behind;
+        }
+        Ok(())
+    }
+}
+
+impl ReadLog {
+    // What became of a batch's transaction, by the first marker of its producer after it.
+    fn judged(kind: Kind, after: Option<&Ended>) -> (Fate, Option<i64>) {
+        if let Some(outcome) = kind.marker {
+            return (fate_of(outcome), None);
+        }
+        if !kind.is_transactional {
+            return (Fate::Plain, None);
+        }
+        match after {
+            Some(ended) => (fate_of(ended.outcome), Some(ended.offset)),
+            None => (Fate::Open, None),
+        }
+    }
+
+    // Says of a batch what became of it.
+    fn settle(&mut self, number: usize, fate: Fate, end: Option<i64>) -> Result<(), AllocError> {
+        let Some(kind) = self.kinds.get(number).copied() else {
+            return Ok(());
+        };
+        let Some(logged) = self.log.batches.get_mut(number) else {
+            return Ok(());
+        };
+        let words = reading(kind, fate, logged.offset, self.log.stable);
+        logged.fate = fate;
+        logged.reading.push_str(words)?;
+        if let Some(place) = self.ends.get_mut(number) {
+            *place = end;
+        }
+        Ok(())
+    }
+
+    /// Says of all batches that were read what became of them, from the end on.
+    ///
+    /// # Errors
+    ///
+    /// Only where memory runs out.
+    pub(crate) fn judge(&mut self) -> Result<(), AllocError> {
+        let mut after: HashMap<i64, Ended> = HashMap::new(self.alloc);
+        for number in (0..self.kinds.len()).rev() {
+            let Some(kind) = self.kinds.get(number).copied() else {
+                continue;
+            };
+            let (fate, end) = ReadLog::judged(kind, after.get(&kind.producer));
+            self.settle(number, fate, end)?;
+            if let (Some(outcome), Some(offset)) = (kind.marker, self.offset_of(number)) {
+                after.insert(kind.producer, Ended { outcome, offset })?;
+            }
+        }
+        Ok(())
+    }
+
+    // The offset of a batch.
+    fn offset_of(&self, number: usize) -> Option<i64> {
+        Some(self.log.batches.get(number)?.offset)
+    }
+
+    /// What became of the batch at an offset, and at which offset the marker stands that ended its
+    /// transaction.
+    pub(crate) fn at(&self, offset: i64) -> Option<(Fate, Option<i64>)> {
+        let found = self.log.batches.as_slice();
+        let number = found.partition_point(|logged: &LoggedBatch| logged.offset < offset);
+        let logged = found.get(number)?;
+        if logged.offset != offset {
+            return None;
+        }
+        Some((logged.fate, self.ends.get(number).copied()?))
+    }
+
+    /// The log, as a page shows it.
+    pub(crate) fn into_log(self) -> Log {
+        let ReadLog { log, .. } = self;
+        log
+    }
+}
