@@ -78,7 +78,7 @@ fn played<
     let options = options_in(alloc, line)?;
     let mut out = Vec::new(alloc);
     let mut trace = Vec::new(alloc);
-    let ended = demo(*rt, &options, &mut out, Some(&mut trace));
+    let ended = demo(*rt, &options, &mut out, Some(&mut trace), None);
     let mut told = String::from_utf8(out).map_err(|_| StepFault::Unknown)?;
     match ended {
         Ok(true) => tell_trace(alloc, trace.as_slice(), facts, &mut told)?,

@@ -7,5 +7,6 @@ abbrev pub fault_number : DemoFault → ℕ
 fault_number fault.Net = 1
 fault_number fault.Write = 2
 fault_number fault.Trace = 2
+fault_number fault.Page = 2
 fault_number fault.Memory = 4
 fault_number fault.GaveUp = 5

@@ -1,3 +1,4 @@
 pub mod Counting
 pub mod Faults
+pub mod Pages
 pub mod Telling

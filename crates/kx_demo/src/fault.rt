@@ -17,6 +17,9 @@ pub enum DemoFault {
     /// What happened can't be written down.
     #[error("the trace cannot be written")]
     Trace,
+    /// The page of what happened can't be written.
+    #[error("the page cannot be written")]
+    Page,
     /// Memory ran out, or a thread can't be started.
     #[error("out of memory")]
     Memory,
@@ -27,14 +30,14 @@ pub enum DemoFault {
 }
 
 impl DemoFault {
-    /// The number of the fault, by which another program knows it: `Net` 1, `Write` and `Trace` 2,
-    /// `Memory` 4, `GaveUp` 5.
+    /// The number of the fault, by which another program knows it: `Net` 1, `Write`, `Trace` and
+    /// `Page` 2, `Memory` 4, `GaveUp` 5.
     pub fn number(self) -> u8
         ensures { result ≡ fault_number self }
     {
         match self {
             DemoFault::Net => 1,
-            DemoFault::Write | DemoFault::Trace => 2,
+            DemoFault::Write | DemoFault::Trace | DemoFault::Page => 2,
             DemoFault::Memory => 4,
             DemoFault::GaveUp => 5,
         }

@@ -7,6 +7,7 @@ ghost use Rattle.kx_demo.specs.declared.fault.DemoFault.TheVariants.{GaveUp, Wri
 use crate::counting::{Counts, Found, count};
 use crate::events::write_run;
 use crate::fault::DemoFault;
+use crate::pages::write_page;
 use kx_audit::{AuditFault, audit};
 use kx_play::{PlayFault, PlayOptions, Played, play};
 use std::alloc::Global;
@@ -51,8 +52,8 @@ fn write_yes<W: Write>(out: &mut W, counts: Counts) -> Result<(), DemoFault>
     write_text(out, "audit yes\n")
 }
 
-// Writes what happened.
-fn show<P: Write>(alloc: Global, run: &Found, events: &mut P) -> Result<(), DemoFault>
+// Writes what happened, one line an event.
+fn trace<P: Write>(alloc: Global, run: &Found, events: &mut P) -> Result<(), DemoFault>
     ensures { IfErr result (λ fault. fault ≢ GaveUp) }
 {
     match write_run(alloc, run, events) {
@@ -62,20 +63,37 @@ fn show<P: Write>(alloc: Global, run: &Found, events: &mut P) -> Result<(), Demo
     }
 }
 
+// Writes what happened, as lines and as a page, if that is asked for.
+fn show<P: Write>(
+    alloc: Global,
+    run: &Found,
+    events: Option<&mut P>,
+    page: Option<&mut P>,
+) -> Result<(), DemoFault>
+    ensures { IfErr result (λ fault. fault ≢ GaveUp) }
+{
+    if let Some(events) = events {
+        trace(alloc, run, events)?;
+    }
+    if let Some(page) = page {
+        write_page(alloc, run, page)?;
+    }
+    Ok(())
+}
+
 // Counts what a run has that the audit found, and prints it.
 fn tell<W: Write, P: Write>(
     alloc: Global,
     run: &Found,
     out: &mut W,
     events: Option<&mut P>,
+    page: Option<&mut P>,
 ) -> Result<(), DemoFault>
     ensures told { OnOk result (TellsCounts run.now (W.contents out.old) (W.contents out.new)) }
     ensures fault { IfErr result (λ fault. fault ≢ GaveUp) }
 {
     let counts = count(alloc, run)?;
-    if let Some(events) = events {
-        show(alloc, run, events)?;
-    }
+    show(alloc, run, events, page)?;
     write_yes(out, counts)
 }
 
@@ -85,13 +103,14 @@ fn judge<W: Write, P: Write>(
     played: Played,
     out: &mut W,
     events: Option<&mut P>,
+    page: Option<&mut P>,
 ) -> Result<bool, DemoFault>
     ensures { Tells (W.contents out.old) (W.contents out.new) result }
 {
     let Played { traces, receipts } = played;
     match audit(alloc, traces, receipts.as_slice()) {
         Ok(run) => {
-            tell(alloc, &run, out, events)?;
+            tell(alloc, &run, out, events, page)?;
             Ok(true)
         }
         Err(AuditFault::Memory) => Err(DemoFault::Memory),
@@ -104,8 +123,8 @@ fn judge<W: Write, P: Write>(
 
 /// Plays the demonstration, audits it, and prints what the audited run has: `inputs`, `outputs` and
 /// `doubles`, each with its count, and `audit yes`; or else `audit no` and the number of the
-/// audit's fault, or `gave up`. Says whether the audit said yes. What happened is written into
-/// `events`, if that is asked for.
+/// audit's fault, or `gave up`. Says whether the audit said yes. If it did, what happened is written
+/// into `events`, one line an event, and into `page`, as a page in HTML, where these are asked for.
 ///
 /// # Errors
 ///
@@ -124,12 +143,18 @@ pub fn demo<
         + 'static,
     W: Write,
     P: Write,
->(rt: R, options: &PlayOptions, out: &mut W, events: Option<&mut P>) -> Result<bool, DemoFault>
+>(
+    rt: R,
+    options: &PlayOptions,
+    out: &mut W,
+    events: Option<&mut P>,
+    page: Option<&mut P>,
+) -> Result<bool, DemoFault>
     // What it printed: of a yes, what was counted in a run that keeps the guarantees.
     ensures { Tells (W.contents out.old) (W.contents out.new) result }
 {
     match play(rt, options) {
-        Ok(played) => judge(rt.alloc(), played, out, events),
+        Ok(played) => judge(rt.alloc(), played, out, events, page),
         Err(PlayFault::GaveUp) => {
             write_text(out, "gave up\n")?;
             Err(DemoFault::GaveUp)

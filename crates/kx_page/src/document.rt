@@ -22,7 +22,7 @@ const FORM: &str =
     "<form><label>Node <select id=\"by-n\"><option value=\"\">all</option></select></label>
 <label>Client <select id=\"by-c\"><option value=\"\">all</option></select></label>
 <label>Transactions of <select id=\"by-t\"><option value=\"\">all</option></select></label></form>
-<p class=\"key\"><span><i class=\"o\"></i>open</span><span><i class=\"c\"></i>committed</span><span><i class=\"a\"></i>aborted</span><span><i class=\"n\"></i>no transaction</span><span>dashed: arrived again</span><span>cross: never arrived</span><span>dotted across a lane: the last stable offset</span><span>keys: arrows or j and k, Escape</span></p></header>
+<p class=\"key\"><span><i class=\"o\"></i>open</span><span><i class=\"c\"></i>committed</span><span><i class=\"a\"></i>aborted</span><span><i class=\"n\"></i>no transaction</span><span>dashed: arrived again</span><span>cross: never arrived</span><span>thin: to a client outside, who may have got it</span><span>dotted across a lane: the last stable offset</span><span>keys: arrows or j and k, Escape</span></p></header>
 <main><div id=\"run\">
 ";
 

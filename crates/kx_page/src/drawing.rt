@@ -218,17 +218,18 @@ fn way_class(way: Way) -> &'static str {
         Way::First => "m ",
         Way::Again => "m again ",
         Way::Lost => "m lost ",
+        Way::Outside => "m out ",
     }
 }
 
-// Where an arrow ends: at the step that took its message; a lost one ends on its way there.
+// Where an arrow ends: at the step that took its message, or in the lane of a client outside; a lost
+// one ends on its way there.
 fn end_of(arrow: &Arrow) -> (i64, i64) {
+    let below = y_of(arrow.sent).saturating_add(ROW / 2);
     match arrow.way {
         Way::First | Way::Again => (x_of(arrow.to), y_of(arrow.taken)),
-        Way::Lost => {
-            let x = x_of(arrow.from) / 2 + x_of(arrow.to) / 2;
-            (x, y_of(arrow.sent).saturating_add(ROW / 2))
-        }
+        Way::Outside => (x_of(arrow.to), below),
+        Way::Lost => (x_of(arrow.from) / 2 + x_of(arrow.to) / 2, below),
     }
 }
 

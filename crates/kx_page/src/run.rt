@@ -72,6 +72,8 @@ pub enum Way {
     Again,
     /// It never arrived.
     Lost,
+    /// It went to a client outside, of which nothing is seen.
+    Outside,
 }
 
 /// A message on its way from the step that sent it to one that took it.

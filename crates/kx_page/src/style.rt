@@ -26,6 +26,7 @@ text.lso{font-size:9px;fill:var(--dim);text-anchor:end}
 .m.c path{marker-end:url(#tip-c)}.m.a path{marker-end:url(#tip-a)}.m.o path{marker-end:url(#tip-o)}
 .m.again path{stroke-dasharray:5 4}
 .m.lost path{stroke-dasharray:2 3;marker-end:url(#cross)}
+.m.out path{stroke-width:var(--w,.8)}
 .name{font-size:9px;fill:var(--dim);text-anchor:middle;paint-order:stroke;stroke:var(--bg);stroke-width:3px}
 ";
 

@@ -1,4 +1,5 @@
 pub mod Asking
+pub mod Drawing
 pub mod Endings
 pub mod Program
 pub mod Tasks

@@ -81,7 +81,7 @@ Performs input old new (task.Dump path) how = DumpsFile old new how
 Performs input old new (task.Serve options) how = ServesAll options.connections old new how
 Performs input old new (task.Kafka asked) how = ServesStock old new how
 Performs input old new (task.Demo asked) how = Plays old new how
-Performs input old new (task.Audit asked) how = Audits (is_some asked.logs) old new how
+Performs input old new (task.Audit asked) how = Audits (is_some asked.options.logs) old new how
 
 -- where the words can't be had: one that isn't text is wrong
 abbrev pub IsWithoutWords : IoKind → Ending → Type 0

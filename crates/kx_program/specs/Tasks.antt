@@ -6,13 +6,13 @@ use Rattle.clap.specs.Words.{Row, Text, first_of, one_of, subcommand_of}
 use Rattle.kx_bounded.specs.Bounds.{IsWithin}
 use Rattle.kx_play.specs.declared.options.PlayOptions.{PlayOptions}
 use Rattle.kx_program.specs.Usage.{program_app}
+use Rattle.kx_program.specs.declared.task.Auditing.{Auditing}
 use Rattle.kx_program.specs.declared.task.Demonstration.{Demonstration}
 use Rattle.kx_program.specs.declared.task.Pictures.{Pictures}
 use Rattle.kx_program.specs.declared.task.StockClients.{StockClients}
 use Rattle.kx_program.specs.declared.task.Task.{Task}
 use Rattle.kx_program.specs.declared.task.Task.TheVariants as task
 use Rattle.kx_serve.specs.declared.options.ServeOptions.{ServeOptions}
-use Rattle.kx_server_audit.specs.declared.server.AuditOptions.{AuditOptions}
 
 -- the text is this number of so many bits, in decimal digits
 abbrev pub Writes : ℕ → Option Text → ℕ → Type 0
@@ -74,6 +74,7 @@ pub record IsPlay (rows : List Row) (options : PlayOptions) : Type 0 where
 pub record IsDemo (rows : List Row) (asked : Demonstration) : Type 0 where
   pub plays : IsPlay rows asked.options
   pub trace : option_map (λ t. t.now) asked.trace ≡ first_of (codes "trace") rows
+  pub page : option_map (λ p. p.now) asked.page ≡ first_of (codes "page") rows
 
 -- the pictures that `sim` is asked for
 pub record IsSim (rows : List Row) (asked : Pictures) : Type 0 where
@@ -81,10 +82,11 @@ pub record IsSim (rows : List Row) (asked : Pictures) : Type 0 where
   pub diagram : option_map (λ d. d.now) asked.diagram ≡ first_of (codes "svg") rows
 
 -- the options of `audit`
-pub record IsAudit (rows : List Row) (is_watched : Bool) (asked : AuditOptions) : Type 0 where
-  pub traces : first_of (codes "DIR") rows ≡ Some asked.traces.now
-  pub logs : option_map (λ d. d.now) asked.logs ≡ first_of (codes "dir") rows
-  pub tells : asked.tells_progress ≡ is_watched
+pub record IsAudit (rows : List Row) (is_watched : Bool) (asked : Auditing) : Type 0 where
+  pub traces : first_of (codes "DIR") rows ≡ Some asked.options.traces.now
+  pub logs : option_map (λ d. d.now) asked.options.logs ≡ first_of (codes "dir") rows
+  pub tells : asked.options.tells_progress ≡ is_watched
+  pub page : option_map (λ p. p.now) asked.page ≡ first_of (codes "page") rows
 
 -- the subcommand of this name asks for this, with these options
 abbrev pub IsAsked : Text → List Row → Bool → Task → Type 0

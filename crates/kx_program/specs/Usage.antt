@@ -102,9 +102,9 @@ abbrev pub trace_rule : Rule
 trace_rule = option_of (codes "trace")
 
 abbrev pub demo_app : App
-demo_app = with_rule (with_rule (with_rule (with_rule (with_rule (with_rule
+demo_app = with_rule (with_rule (with_rule (with_rule (with_rule (with_rule (with_rule
     (new_app (codes "demo")) workers_rule) records_rule) seed_rule) lose_rule) hold_rule)
-    trace_rule
+    trace_rule) page_rule
 
 abbrev pub audited_rule : Rule
 audited_rule = needed (record (new_rule (codes "DIR")) { action = Some Set })
@@ -113,7 +113,8 @@ abbrev pub logs_rule : Rule
 logs_rule = option_of (codes "dir")
 
 abbrev pub audit_app : App
-audit_app = with_rule (with_rule (new_app (codes "audit")) audited_rule) logs_rule
+audit_app =
+    with_rule (with_rule (with_rule (new_app (codes "audit")) audited_rule) logs_rule) page_rule
 
 -- a subcommand has to be there
 abbrev pub with_needed_subcommand : App → App

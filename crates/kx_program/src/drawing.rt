@@ -1,15 +1,18 @@
-//! Scripts that are run and drawn.
-ghost use Rattle.std.specs.Prelude.{◌≡◌, ◌⊎◌, Some};
+//! Scripts that are run and drawn, and servers that were audited.
+ghost use Rattle.std.specs.Prelude.{◌≡◌, ◌⊎◌, IfOk, OnOk, Some, length};
 ghost use Rattle.std.specs.Io.Buffered.{writer_contents};
+ghost use Rattle.kx_program.specs.Drawing.{rows_of};
 ghost use Rattle.kx_program.specs.Program.{Draws, Simulates};
+ghost use Rattle.kx_watch.specs.Steps.{AddsSteps};
 ghost use Rattle.kx_text.specs.declared.program.Ending.TheVariants as ending;
 
 use crate::streams::{failed, sim};
 use crate::task::Pictures;
 use kx_page::{Run, diagram, page};
+use kx_server_audit::{AuditOptions, ServerStep, server_steps};
 use kx_text::{Ending, ScriptFault};
-use kx_watch::run_of_script;
-use std::alloc::AllocError;
+use kx_watch::{ServerWatch, run_of_script};
+use std::alloc::{AllocError, Global};
 use std::fs;
 use std::fs::{File, Files};
 use std::io::{BufRead, BufWriter, Read, Write};
@@ -112,5 +115,63 @@ pub(crate) fn sim_with<R: Files<File = File> + AllocGlobal, I: BufRead, O: Write
     match input.read_to_end(&mut script) {
         Ok(_) => sim_and_draw(rt, asked, script.as_slice(), out, errors),
         Err(error) => failed(errors, error),
+    }
+}
+
+// Each step of a server is made again, and watched.
+fn take_all(watch: &mut ServerWatch, steps: &[ServerStep]) -> Result<(), AllocError>
+    ensures { OnOk result (AddsSteps (rows_of steps.now) watch.old watch.new) }
+{
+    for step in steps {
+        watch.take(step.node, &step.input, step.store)?;
+    }
+    Ok(())
+}
+
+// The run that these steps of a server are.
+fn server_run(alloc: Global, steps: &[ServerStep]) -> Result<Run, AllocError>
+    ensures { IfOk result (λ run. length run.steps.items ≡ rows_of steps.now) }
+{
+    let title = String::from_str(alloc, "A server")?;
+    let mut watch = ServerWatch::new(alloc)?;
+    match take_all(&mut watch, steps) {
+        Ok(()) => watch.into_run(title),
+        Err(error) => {
+            drop(watch);
+            Err(error)
+        }
+    }
+}
+
+// Draws steps of a server into the file at this path, and says whether the page stands there.
+fn draw_steps<R: Files<File = File> + AllocGlobal, E: Write>(
+    rt: &R,
+    path: &str,
+    steps: &[ServerStep],
+    errors: &mut E,
+) -> bool {
+    match server_run(rt.alloc(), steps) {
+        Ok(run) => drawn(rt, path, page(rt.alloc(), &run), errors),
+        Err(_) => {
+            let _ = failed(errors, ScriptFault::Memory);
+            false
+        }
+    }
+}
+
+/// Draws the steps of a server into the file at this path, by the traces that it left, and says
+/// whether the page stands there. If not, a line on standard error says why.
+pub(crate) fn draw_server<R: Files<File = File> + AllocGlobal, E: Write>(
+    rt: &R,
+    options: &AuditOptions<'_>,
+    path: &str,
+    errors: &mut E,
+) -> bool {
+    match server_steps(rt, options) {
+        Ok(steps) => draw_steps(rt, path, steps.as_slice(), errors),
+        Err(fault) => {
+            let _ = failed(errors, fault);
+            false
+        }
     }
 }

@@ -19,5 +19,5 @@ mod usage;
 pub use asking::{Refusal, asked};
 pub use program::run;
 pub use streams::{dump_read, failed, played_ending, served_ending, sim, usage_ending};
-pub use task::{Demonstration, Task, task_in};
+pub use task::{Auditing, Demonstration, Pictures, Task, task_in};
 pub use usage::command_line;

@@ -1,19 +1,19 @@
 //! Doing what the words of a command line ask for.
-ghost use Rattle.std.specs.Prelude.{◌≡◌, ◌⊎◌, MatchResult, is_some, map, string_bytes};
+ghost use Rattle.std.specs.Prelude.{◌≡◌, ◌⊎◌, IfErr, MatchResult, is_some, map, string_bytes};
 ghost use Rattle.std.specs.Io.Buffered.{writer_contents};
 ghost use Rattle.std.specs.Io.KnownBytes.{Keeps};
 ghost use Rattle.std.specs.IoError.{error_kind};
 ghost use Rattle.kx_program.specs.Asking.{EndsRefused};
+ghost use Rattle.kx_program.specs.Endings.{ending_of_demo};
 ghost use Rattle.kx_program.specs.Program.{Audits, DoesWords, IsWithoutWords, Performs, Plays};
 ghost use Rattle.kx_text.specs.declared.program.Ending.TheVariants as ending;
 
 use crate::asking::{Refusal, asked};
-use crate::drawing::sim_with;
+use crate::drawing::{draw_server, sim_with};
 use crate::kafka::kafka;
 use crate::streams::{audit_ending, dump_read, failed, played_ending, served_ending, usage_ending};
-use crate::task::{Demonstration, Task};
+use crate::task::{Auditing, Demonstration, Task};
 use kx_demo::DemoFault;
-use kx_play::PlayOptions;
 use kx_server_audit::{AuditOptions, audit_server};
 use kx_text::Ending;
 use std::alloc::Global;
@@ -25,8 +25,70 @@ use std::thread::Threads;
 use std::time::Clock;
 use std::{fs, io};
 
-// Plays, and writes what happened into a file.
-fn demo_with_trace<
+// Makes a file anew that is asked for. Where that fails, a line on standard error says why.
+fn created<R: Files<File = File> + AllocGlobal, E: Write>(
+    rt: &R,
+    path: Option<&str>,
+    errors: &mut E,
+) -> Result<Option<BufWriter<File>>, Ending>
+    ensures { IfErr result (λ how. how ≡ ending.Failed) }
+{
+    let Some(path) = path else {
+        return Ok(None);
+    };
+    let file = match File::create(rt, path) {
+        Ok(file) => file,
+        Err(error) => return Err(failed(errors, format_args!("{path}: {error}"))),
+    };
+    match BufWriter::new(rt.alloc(), file) {
+        Ok(writer) => Ok(Some(writer)),
+        Err(_) => Err(failed(errors, DemoFault::Memory)),
+    }
+}
+
+// Writes what is left of a file that was asked for, and says whether all of it was written. If not,
+// a line on standard error says why.
+fn finished<E: Write>(path: Option<&str>, file: Option<BufWriter<File>>, errors: &mut E) -> bool {
+    let (Some(path), Some(mut file)) = (path, file) else {
+        return true;
+    };
+    match file.flush() {
+        Ok(()) => true,
+        Err(error) => {
+            let _ = failed(errors, format_args!("{path}: {error}"));
+            false
+        }
+    }
+}
+
+// The file that a fault is about, if it is about one.
+fn file_of<'a>(asked: &Demonstration<'a>, fault: DemoFault) -> Option<&'a str> {
+    match fault {
+        DemoFault::Trace => asked.trace,
+        DemoFault::Page => asked.page,
+        _ => None,
+    }
+}
+
+// How the program ends when a demonstration has ended, whose files were written.
+fn demo_ending<E: Write>(
+    asked: &Demonstration<'_>,
+    played: Result<bool, DemoFault>,
+    errors: &mut E,
+) -> Ending
+    ensures { result ≡ ending_of_demo played }
+{
+    let Err(fault) = played else {
+        return played_ending(played, errors);
+    };
+    match file_of(asked, fault) {
+        Some(path) => failed(errors, format_args!("{path}: {fault}")),
+        None => played_ending(played, errors),
+    }
+}
+
+// Plays the demonstration, and writes what happened into these files.
+fn demo_with<
     R: Net<Listener = TcpListener, Stream = TcpStream>
         + AllocGlobal
         + Eprint
@@ -38,24 +100,26 @@ fn demo_with_trace<
         + Sync
         + Drop
         + 'static,
-    P: Write + Drop,
     O: Write,
     E: Write,
->(rt: &R, options: &PlayOptions, path: &str, file: P, out: &mut O, errors: &mut E) -> Ending
+>(
+    rt: &R,
+    asked: &Demonstration<'_>,
+    trace: Option<BufWriter<File>>,
+    page: Option<BufWriter<File>>,
+    out: &mut O,
+    errors: &mut E,
+) -> Ending
     ensures { Plays (O.contents out.old) (O.contents out.new) result }
 {
-    let mut events = match BufWriter::new(rt.alloc(), file) {
-        Ok(events) => events,
-        Err(_) => return failed(errors, DemoFault::Memory),
-    };
-    let played = kx_demo::demo(*rt, options, out, Some(&mut events));
-    if let Err(error) = events.flush() {
-        return failed(errors, format_args!("{path}: {error}"));
+    let (mut trace, mut page) = (trace, page);
+    let played = kx_demo::demo(*rt, &asked.options, out, trace.as_mut(), page.as_mut());
+    let traced = finished(asked.trace, trace, errors);
+    let drawn = finished(asked.page, page, errors);
+    if !traced || !drawn {
+        return Ending::Failed;
     }
-    match played {
-        Err(DemoFault::Trace) => failed(errors, format_args!("{path}: {}", DemoFault::Trace)),
-        played => played_ending(played, errors),
-    }
+    demo_ending(asked, played, errors)
 }
 
 // Plays the demonstration.
@@ -77,14 +141,13 @@ fn demo<
 >(rt: &R, asked: &Demonstration<'_>, out: &mut O, errors: &mut E) -> Ending
     ensures { Plays (O.contents out.old) (O.contents out.new) result }
 {
-    let Some(path) = asked.trace else {
-        let none: Option<&mut Vec<u8>> = None;
-        let played = kx_demo::demo(*rt, &asked.options, out, none);
-        return played_ending(played, errors);
+    let trace = match created(rt, asked.trace, errors) {
+        Ok(trace) => trace,
+        Err(ending) => return ending,
     };
-    match File::create(rt, path) {
-        Ok(file) => demo_with_trace(rt, &asked.options, path, file, out, errors),
-        Err(error) => failed(errors, format_args!("{path}: {error}")),
+    match created(rt, asked.page, errors) {
+        Ok(page) => demo_with(rt, asked, trace, page, out, errors),
+        Err(ending) => ending,
     }
 }
 
@@ -99,16 +162,37 @@ fn flushed<O: Write, E: Write>(how: Ending, out: &mut O, errors: &mut E) -> Endi
     }
 }
 
-// Audits a server that ran.
-fn audit<R: Files<File = File> + AllocGlobal + Eprint, O: Write, E: Write>(
+// Audits a server that ran, and draws its steps.
+fn audit_and_draw<R: Files<File = File> + AllocGlobal + Eprint, O: Write, E: Write>(
     rt: &R,
-    asked: &AuditOptions<'_>,
+    options: &AuditOptions<'_>,
+    path: &str,
     out: &mut O,
     errors: &mut E,
 ) -> Ending
-    ensures { Audits (is_some asked.now.logs) (O.contents out.old) (O.contents out.new) result }
+    ensures { Audits (is_some options.now.logs) (O.contents out.old) (O.contents out.new) result }
 {
-    let audited = audit_server(rt, asked, out);
+    let audited = audit_server(rt, options, out);
+    if audited.is_ok() && !draw_server(rt, options, path, errors) {
+        return Ending::Failed;
+    }
+    audit_ending(audited, errors)
+}
+
+// Audits a server that ran.
+fn audit<R: Files<File = File> + AllocGlobal + Eprint, O: Write, E: Write>(
+    rt: &R,
+    asked: &Auditing<'_>,
+    out: &mut O,
+    errors: &mut E,
+) -> Ending
+    ensures { Audits (is_some asked.now.options.logs) (O.contents out.old) (O.contents out.new)
+        result }
+{
+    if let Some(path) = asked.page {
+        return audit_and_draw(rt, &asked.options, path, out, errors);
+    }
+    let audited = audit_server(rt, &asked.options, out);
     audit_ending(audited, errors)
 }
 

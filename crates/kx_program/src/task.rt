@@ -4,11 +4,11 @@ ghost use Rattle.clap.specs.Words.{found_of, one_of, rows_of, subcommand_rows_of
 ghost use Rattle.kx_play.specs.declared.options.PlayOptions.{PlayOptions};
 ghost use Rattle.kx_program.specs.Tasks.{AsksFor, IsAudit, IsDemo, IsKafka, IsPlay, IsServe};
 ghost use Rattle.kx_program.specs.Tasks.{IsSession, IsSim, Writes, millis_of};
+ghost use Rattle.kx_program.specs.declared.task.Auditing.{Auditing};
 ghost use Rattle.kx_program.specs.declared.task.Demonstration.{Demonstration};
 ghost use Rattle.kx_program.specs.declared.task.StockClients.{StockClients};
 ghost use Rattle.kx_program.specs.declared.task.Task.{Task};
 ghost use Rattle.kx_serve.specs.declared.options.ServeOptions.{ServeOptions};
-ghost use Rattle.kx_server_audit.specs.declared.server.AuditOptions.{AuditOptions};
 
 use clap::ArgMatches;
 use kx_message::Timeout;
@@ -34,6 +34,17 @@ pub struct Demonstration<'a> {
     pub options: PlayOptions,
     /// The file into which each event is written, if any.
     pub trace: Option<&'a str>,
+    /// The file into which the run's page is written, if any.
+    pub page: Option<&'a str>,
+}
+
+/// What `audit` is asked for.
+#[derive(Clone, Copy)]
+pub struct Auditing<'a> {
+    /// What is audited.
+    pub options: AuditOptions<'a>,
+    /// The file into which the page of the steps is written, if any.
+    pub page: Option<&'a str>,
 }
 
 /// What `kafka` is asked for.
@@ -67,7 +78,7 @@ pub enum Task<'a> {
     /// Play the demonstration and audit it.
     Demo(Demonstration<'a>),
     /// Audit a server by the traces that it left.
-    Audit(AuditOptions<'a>),
+    Audit(Auditing<'a>),
 }
 
 // A number that an option has, of 16 bits.
@@ -183,6 +194,7 @@ fn demo_in<'a>(given: &ArgMatches<'a>) -> Option<Demonstration<'a>>
     Some(Demonstration {
         options: play_options(given)?,
         trace: given.get_str("trace"),
+        page: given.get_str("page"),
     })
 }
 
@@ -197,16 +209,19 @@ fn pictures_in<'a>(given: &ArgMatches<'a>) -> Pictures<'a>
 }
 
 // What `audit` is asked for.
-fn audit_in<'a>(given: &ArgMatches<'a>, is_watched: bool) -> Option<AuditOptions<'a>>
+fn audit_in<'a>(given: &ArgMatches<'a>, is_watched: bool) -> Option<Auditing<'a>>
     ensures { MatchOption result
-        ((asked : AuditOptions) → IsAudit (rows_of (found_of given.now)) is_watched asked → ⊥)
+        ((asked : Auditing) → IsAudit (rows_of (found_of given.now)) is_watched asked → ⊥)
         (IsAudit (rows_of (found_of given.now)) is_watched) }
 {
     match given.get_str("DIR") {
-        Some(traces) => Some(AuditOptions {
-            traces,
-            logs: given.get_str("dir"),
-            tells_progress: is_watched,
+        Some(traces) => Some(Auditing {
+            options: AuditOptions {
+                traces,
+                logs: given.get_str("dir"),
+                tells_progress: is_watched,
+            },
+            page: given.get_str("page"),
         }),
         None => None,
     }

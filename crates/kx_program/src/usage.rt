@@ -309,7 +309,8 @@ fn demo_usage<'a>(alloc: Global) -> Result<Command<'a>, AllocError>
         .arg(seed(alloc))?
         .arg(lose(alloc))?
         .arg(hold(alloc))?
-        .arg(trace(alloc))
+        .arg(trace(alloc))?
+        .arg(page(alloc))
 }
 
 // The folder of the traces that are audited.
@@ -343,7 +344,8 @@ fn audit_usage<'a>(alloc: Global) -> Result<Command<'a>, AllocError>
     Command::new(alloc, "audit")
         .about("Says whether a server that ran was exactly-once, by the traces that it left")
         .arg(audited(alloc))?
-        .arg(logs(alloc))
+        .arg(logs(alloc))?
+        .arg(page(alloc))
 }
 
 // The program, of which a subcommand has to be named.

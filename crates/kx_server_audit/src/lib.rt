@@ -4,7 +4,8 @@
 //!
 //! `batches` and `entries` read and compare logs of one kind, `lengths` and `logs` those of machines;
 //! `sources` are traces that are read in pieces, which `auditing` audits; `traces` and `folder` have
-//! what a server left in its folders, `server` audits it, and `report` prints what was found.
+//! what a server left in its folders, `server` audits it, and `report` prints what was found. `steps` has
+//! the steps that the traces tell of, for a page.
 //!
 //! In `proofs/`: `Texts` (texts of batches and of entries, by which logs are compared), `Restarting`
 //! (a log before and after a restart), `Reading` (sources are read in pieces), `Advancing` (the audit
@@ -26,6 +27,7 @@ mod report;
 mod server;
 mod server_node;
 mod sources;
+mod steps;
 mod traces;
 
 pub use auditing::{Ending, Refused, ServerAudit, audit_traces};
@@ -37,3 +39,4 @@ pub use logs::{log_is, whole_len};
 pub use server::{AuditOptions, audit_server};
 pub use server_node::ServerNode;
 pub use sources::Source;
+pub use steps::{ServerStep, server_steps};

@@ -72,8 +72,8 @@ fn compare<R: Files + AllocGlobal>(
     }
 }
 
-// Finds the traces, and how long the logs are, if they are to be compared.
-fn find<R: Files<File = File> + AllocGlobal>(
+/// Finds the traces, and how long the logs are, if they are to be compared.
+pub(crate) fn find<R: Files<File = File> + AllocGlobal>(
     rt: &R,
     options: &AuditOptions<'_>,
 ) -> Result<Traces<File>, Stop>

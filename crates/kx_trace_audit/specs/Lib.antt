@@ -4,6 +4,7 @@ pub mod Internal
 pub mod Items
 pub mod Logs
 pub mod Lookahead
+pub mod Peeking
 pub mod Readings
 pub mod Servers
 pub mod Stepping

@@ -23,9 +23,9 @@ use std::marker::Model;
 /// again.
 #[derive(Drop)]
 pub struct TraceAudit<B: Server> {
-    alloc: Global,
-    follower: Follower<B>,
-    traces: Vec<Reading>,
+    pub(crate) alloc: Global,
+    pub(crate) follower: Follower<B>,
+    pub(crate) traces: Vec<Reading>,
 }
 
 impl<B: Server> Model for TraceAudit<B> {

@@ -17,6 +17,7 @@ mod audit;
 mod ending;
 mod item;
 mod lookahead;
+mod peek;
 mod progress;
 mod reading;
 mod refusal;
@@ -24,6 +25,7 @@ mod servers;
 mod step;
 
 pub use audit::TraceAudit;
+pub use peek::ToldStep;
 pub use progress::Progress;
 pub use refusal::TraceRefusal;
 pub use servers::{Server, TraceOf};

@@ -69,8 +69,8 @@ fn unanswered_mode(stood: bool) -> StoreMode
     }
 }
 
-// What the store did in the step that is told, whose entry stood or not.
-fn mode_for(told: &Telling<'_>, stood: bool) -> StoreMode
+/// What the store did in the step that is told, whose entry stood or not.
+pub(crate) fn mode_for(told: &Telling<'_>, stood: bool) -> StoreMode
     ensures { result ≡ lookahead.mode_for (told_of told.now) stood }
 {
     match told {
@@ -98,9 +98,13 @@ fn is_open(mark: Mark) -> bool
     matches!(mark, Mark::Failed | Mark::Unwritten { .. })
 }
 
-// Whether the entry of what is told stood, by the bytes that follow it, if that was left open; None
-// where more of them are needed.
-fn has_stood<B: Server>(
+/// Whether the entry of what is told stood, by the bytes that follow it, if that was left open; None
+/// where more of them are needed.
+///
+/// # Errors
+///
+/// `Bytes` where no trace goes on with these bytes; `Memory` where memory runs out.
+pub(crate) fn has_stood<B: Server>(
     alloc: Global,
     follower: &Follower<B>,
     node: usize,

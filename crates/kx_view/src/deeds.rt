@@ -1,7 +1,7 @@
 //! What a step did, in a few words, and by which rule.
 use crate::fields::{answer_in, code_of, has_marker};
 use crate::seen::{Seen, Took};
-use crate::words::{ends, marker_of, prepares, word_of};
+use crate::words::{ends, marker_of, name_of, prepares, word_of};
 use kx_machine::{Command, Input, Note};
 use kx_message::{EndTxn, ErrorCode, InitReply, Message, Outcome, ProduceReply};
 use kx_page::{Mark, Rule};
@@ -227,7 +227,7 @@ fn heard(alloc: Global, reply: &Message) -> Result<Deed, AllocError> {
                 ..
             },
         ) => {
-            let title = format!(in alloc; "holds id {} epoch {}", held.id, held.epoch)?;
+            let title = format!(in alloc; "is given id {} epoch {}", held.id, held.epoch)?;
             Ok(plain(title, None))
         }
         Message::ProduceReply(
@@ -353,6 +353,12 @@ fn declined(alloc: Global, seen: &Seen<'_>) -> Result<Option<Deed>, AllocError> 
     }
 }
 
+// What a client outside sends.
+fn asks(alloc: Global, request: &Message) -> Result<Deed, AllocError> {
+    let name = name_of(request);
+    Ok(plain(format!(in alloc; "sends {name}")?, None))
+}
+
 // What a step did, whatever its store did.
 fn done(alloc: Global, seen: &Seen<'_>) -> Result<Deed, AllocError> {
     if let Some(deed) = declined(alloc, seen)? {
@@ -362,6 +368,7 @@ fn done(alloc: Global, seen: &Seen<'_>) -> Result<Deed, AllocError> {
         Took::Message(_, message) => message_arrived(alloc, seen, message),
         Took::Input(input) => handed(alloc, seen, input),
         Took::Nothing => said(alloc, "begins to run", None),
+        Took::Outside(request) => asks(alloc, request),
     }
 }
 

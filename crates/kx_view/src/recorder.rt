@@ -7,7 +7,7 @@ use crate::fields::{client_of, producer_of};
 use crate::logs::ReadLog;
 use crate::seen::{LogAt, Seen, Took};
 use crate::words::name_of;
-use kx_machine::Input;
+use kx_machine::{Input, Note};
 use kx_message::{Message, NodeId};
 use kx_page::{Arrow, Fate, Lane, Log, Mark, Run, Step, Way};
 use std::alloc::{AllocError, Global};
@@ -53,6 +53,8 @@ pub struct Recorder {
     appended: Vec<Appended>,
     // logs with their lanes
     logs: Vec<(usize, ReadLog)>,
+    // the lanes of clients outside
+    outside: Vec<usize>,
 }
 
 impl Model for Recorder {
@@ -122,16 +124,17 @@ fn detail_of(alloc: Global, seen: &Seen<'_>) -> Result<String, AllocError> {
         Took::Message(number, message) => write!(text, " takes #{number} {message}")?,
         Took::Input(Input::Deliver(message)) => write!(text, " takes {message}")?,
         Took::Input(Input::Expire(time)) => write!(text, " hears that it is {time} ms")?,
-        Took::Input(_) | Took::Nothing => {}
+        Took::Input(_) | Took::Nothing | Took::Outside(_) => {}
     }
     add_sent(&mut text, seen.sent)?;
     Ok(text)
 }
 
-// The message that a step took, if it took one.
+// The message that a step is about, if it is about one: what it took, or what a client outside sent.
 fn message_in<'a>(seen: &Seen<'a>) -> Option<&'a Message> {
     match seen.took {
         Took::Message(_, message) | Took::Input(Input::Deliver(message)) => Some(message),
+        Took::Outside(message) => Some(message),
         Took::Input(_) | Took::Nothing => None,
     }
 }
@@ -147,6 +150,25 @@ fn client_in(seen: &Seen<'_>) -> Option<u32> {
 // The producer id that a step is about.
 fn producer_in(seen: &Seen<'_>) -> Option<i64> {
     producer_of(message_in(seen)?)
+}
+
+// Who sends the first of these, if a client does.
+fn sender_in(sent: &[Message]) -> NodeId {
+    let Some(request) = sent.first() else {
+        return NodeId::Coordinator;
+    };
+    match client_of(request) {
+        Some(client) => NodeId::Client(client),
+        None => NodeId::Coordinator,
+    }
+}
+
+// That a client outside sends the first of these.
+fn asked_in(sent: &[Message]) -> Took<'_> {
+    match sent.first() {
+        Some(request) => Took::Outside(request),
+        None => Took::Nothing,
+    }
 }
 
 // A copy of an arrow, to another step.
@@ -196,6 +218,7 @@ impl Recorder {
             again: Vec::new(alloc),
             appended: Vec::new(alloc),
             logs: Vec::new(alloc),
+            outside: Vec::new(alloc),
         }
     }
 
@@ -285,8 +308,19 @@ impl Recorder {
     {
         match seen.took {
             Took::Message(number, _) => self.arrive(number),
-            Took::Input(_) | Took::Nothing => Ok(()),
+            Took::Input(_) | Took::Nothing | Took::Outside(_) => Ok(()),
         }
+    }
+
+    // Notes whether a lane is that of a client outside.
+    fn note_outside(&mut self, lane: usize, seen: &Seen<'_>) -> Result<(), AllocError>
+        ensures { self.new ≡ self.old }
+    {
+        if !matches!(seen.took, Took::Outside(_)) || self.outside.as_slice().contains(&lane) {
+            return Ok(());
+        }
+        self.outside.push(lane)?;
+        Ok(())
     }
 
     // Notes what a step appended to a partition's log.
@@ -346,9 +380,31 @@ impl Recorder {
         let lane = self.lane_of(seen.node)?;
         let step = self.step_of(lane, seen)?;
         self.note_arrival(seen)?;
+        self.note_outside(lane, seen)?;
         self.append(lane, seen)?;
         self.send_all(lane, seen.sent)?;
         self.keep(step)
+    }
+
+    /// Adds the step of a client outside that sends a request, the first of these.
+    ///
+    /// # Errors
+    ///
+    /// Only where memory runs out; then the steps are as before.
+    pub fn add_request(&mut self, sent: &[Message]) -> Result<(), AllocError>
+        ensures ok { OnOk result (AddsStep self.old self.new) }
+        ensures err { OnErr result (self.new ≡ self.old) }
+    {
+        let none = LogAt { end: 0, stable: 0 };
+        self.add(&Seen {
+            node: sender_in(sent),
+            took: asked_in(sent),
+            sent,
+            note: Note::Done,
+            failed: false,
+            before: none,
+            after: none,
+        })
     }
 
     /// Adds a partition's log as it ends, whose batches stand in these texts.
@@ -423,18 +479,35 @@ fn place_of(owners: &[Owner], lane: usize) -> usize {
     }
 }
 
+// What of a run is known once it has ended.
+#[derive(Clone, Copy)]
+struct Ended<'a> {
+    owners: &'a [Owner],
+    outside: &'a [usize],
+    endings: &'a HashMap<usize, Settled>,
+}
+
+// How a message went: what a client outside got isn't seen.
+fn way_in_the_end(arrow: &Arrow, outside: &[usize]) -> Way {
+    if matches!(arrow.way, Way::Lost) && outside.contains(&arrow.to) {
+        Way::Outside
+    } else {
+        arrow.way
+    }
+}
+
 // An arrow as its message ended, in its lanes from the left.
-fn arrow_as_it_ended(arrow: Arrow, owners: &[Owner], endings: &HashMap<usize, Settled>) -> Arrow {
+fn arrow_as_it_ended(arrow: Arrow, ended: Ended<'_>) -> Arrow {
     let fate = match arrow.way {
-        Way::Lost => Fate::Plain,
-        Way::First | Way::Again => ending_at(endings, arrow.taken).fate,
+        Way::Lost | Way::Outside => Fate::Plain,
+        Way::First | Way::Again => ending_at(ended.endings, arrow.taken).fate,
     };
     Arrow {
         sent: arrow.sent,
-        from: place_of(owners, arrow.from),
+        from: place_of(ended.owners, arrow.from),
         taken: arrow.taken,
-        to: place_of(owners, arrow.to),
-        way: arrow.way,
+        to: place_of(ended.owners, arrow.to),
+        way: way_in_the_end(&arrow, ended.outside),
         fate,
         client: arrow.client,
         producer: arrow.producer,
@@ -447,11 +520,10 @@ fn arrow_as_it_ended(arrow: Arrow, owners: &[Owner], endings: &HashMap<usize, Se
 fn add_arrows(
     all: &mut Vec<Arrow>,
     arrows: Vec<Arrow>,
-    owners: &[Owner],
-    endings: &HashMap<usize, Settled>,
+    ended: Ended<'_>,
 ) -> Result<(), AllocError> {
     for arrow in arrows {
-        all.push(arrow_as_it_ended(arrow, owners, endings))?;
+        all.push(arrow_as_it_ended(arrow, ended))?;
     }
     Ok(())
 }
@@ -516,12 +588,18 @@ impl Recorder {
             first,
             again,
             logs,
+            outside,
             ..
         } = self;
         let owners = owners.as_slice();
+        let ended = Ended {
+            owners,
+            outside: outside.as_slice(),
+            endings: &endings,
+        };
         let mut arrows = Vec::new(alloc);
-        add_arrows(&mut arrows, first, owners, &endings)?;
-        add_arrows(&mut arrows, again, owners, &endings)?;
+        add_arrows(&mut arrows, first, ended)?;
+        add_arrows(&mut arrows, again, ended)?;
         Ok(Run {
             title,
             lanes: lanes_of(alloc, owners)?,

@@ -11,6 +11,8 @@ pub enum Took<'a> {
     Input(&'a Input),
     /// No input: the step is the making of a client.
     Nothing,
+    /// No input: the step is that a client outside sends this request.
+    Outside(&'a Message),
 }
 
 /// How far a node's log reaches.

@@ -9,14 +9,14 @@ use kx_processor::Process;
 use kx_view::{LogAt, Recorder, Seen, Took};
 use std::alloc::{AllocError, Global};
 
-// The node at which an event is; of a request from outside the node to which it goes.
-fn node_of<F: Process>(event: &Event<F>) -> NodeId {
+// The node of the world at which an event is. A request from outside is at none.
+fn node_of<F: Process>(event: &Event<F>) -> Option<NodeId> {
     match event {
         Event::Make { client, .. } | Event::MakeProcessor { client, .. } => {
-            NodeId::Client(*client)
+            Some(NodeId::Client(*client))
         }
-        Event::Deliver { to, .. } | Event::Hand { to, .. } => *to,
-        Event::Arrive { .. } => NodeId::Coordinator,
+        Event::Deliver { to, .. } | Event::Hand { to, .. } => Some(*to),
+        Event::Arrive { .. } => None,
     }
 }
 
@@ -80,10 +80,11 @@ fn message_of<'a, F: Process + Copy>(
     }
 }
 
-// Records the step of an event that happened.
+// Records the step of a node in an event that happened.
 fn record<'a, F: Process + Copy>(
     recorder: &mut Recorder,
     world: &'a LocalWorld<F>,
+    node: NodeId,
     event: &'a Event<F>,
     happened: Happened,
     before: LogAt,
@@ -91,9 +92,9 @@ fn record<'a, F: Process + Copy>(
     ensures ok { OnOk result (AddsStep recorder.old recorder.new) }
     ensures err { OnErr result (recorder.new ≡ recorder.old) }
 {
-    let after = log_at(world, node_of(event));
+    let after = log_at(world, node);
     let seen = Seen {
-        node: node_of(event),
+        node,
         took: took_in(event, message_of(world, event)),
         sent: world.sent().last(),
         note: happened.note,
@@ -102,6 +103,36 @@ fn record<'a, F: Process + Copy>(
         after,
     };
     recorder.add(&seen)
+}
+
+// An event happens at a node of a world, and its step is recorded.
+fn watch_node<F: Process + Copy>(
+    recorder: &mut Recorder,
+    world: &mut LocalWorld<F>,
+    node: NodeId,
+    event: &Event<F>,
+) -> Result<Happened, AllocError>
+    ensures ok { OnOk result (AddsStep recorder.old recorder.new) }
+    ensures err { OnErr result (recorder.new ≡ recorder.old) }
+{
+    let before = log_at(world, node);
+    let happened = world.happen(event)?;
+    record(recorder, world, node, event, happened, before)?;
+    Ok(happened)
+}
+
+// A request arrives from outside in a world, which is recorded as a step of the client that sends it.
+fn watch_request<F: Process + Copy>(
+    recorder: &mut Recorder,
+    world: &mut LocalWorld<F>,
+    event: &Event<F>,
+) -> Result<Happened, AllocError>
+    ensures ok { OnOk result (AddsStep recorder.old recorder.new) }
+    ensures err { OnErr result (recorder.new ≡ recorder.old) }
+{
+    let happened = world.happen(event)?;
+    recorder.add_request(world.sent().last())?;
+    Ok(happened)
 }
 
 /// An event happens in a world, and its step is recorded.
@@ -117,10 +148,10 @@ pub fn watch<F: Process + Copy>(
     ensures ok { OnOk result (AddsStep recorder.old recorder.new) }
     ensures err { OnErr result (recorder.new ≡ recorder.old) }
 {
-    let before = log_at(world, node_of(event));
-    let happened = world.happen(event)?;
-    record(recorder, world, event, happened, before)?;
-    Ok(happened)
+    match node_of(event) {
+        Some(node) => watch_node(recorder, world, node, event),
+        None => watch_request(recorder, world, event),
+    }
 }
 
 // Records a data partition's log, if it has a batch.

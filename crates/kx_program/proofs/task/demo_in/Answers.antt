@@ -7,4 +7,5 @@ pub returns : goal.returns
 returns c = record {
   plays = c.in_ok-play_options.ensures;
   trace = c.get_str.ensures ∙ first_value-rows (found_of c.args.given.now) (codes "trace");
+  page = c.get_str-2.ensures ∙ first_value-rows (found_of c.args.given.now) (codes "page");
 }

@@ -18,9 +18,11 @@ returns c =
     c.lose.ensures.rule c.lose.ensures.local in
     let made_5 = with_argument _ _ _ _ _ c.in_ok-arg-5.ensures made_4
     c.hold.ensures.rule c.hold.ensures.local in
+    let made_6 = with_argument _ _ _ _ _ c.in_ok-arg-6.ensures made_5
+    c.trace.ensures.rule c.trace.ensures.local in
     record {
-      app = IfOk-weaker c.arg-6.result _ _ (λ command adds. (with_argument _ _ _ _ _ adds
-          made_5 c.trace.ensures.rule c.trace.ensures.local).is) c.arg-6.ensures;
-      local = IfOk-weaker c.arg-6.result _ _ (λ command adds. (with_argument _ _ _ _ _ adds
-          made_5 c.trace.ensures.rule c.trace.ensures.local).local) c.arg-6.ensures;
+      app = IfOk-weaker c.arg-7.result _ _ (λ command adds. (with_argument _ _ _ _ _ adds
+          made_6 c.page.ensures.rule c.page.ensures.local).is) c.arg-7.ensures;
+      local = IfOk-weaker c.arg-7.result _ _ (λ command adds. (with_argument _ _ _ _ _ adds
+          made_6 c.page.ensures.rule c.page.ensures.local).local) c.arg-7.ensures;
     }

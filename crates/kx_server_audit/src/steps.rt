@@ -1,0 +1,158 @@
+//! The steps of a server, by the traces that it left, for a page.
+use crate::denial::Stop;
+use crate::fault::AuditFault;
+use crate::file::AuditFile;
+use crate::server::{AuditOptions, find};
+use crate::server_node::ServerNode;
+use crate::traces::{Traces, read_fault};
+use kx_machine::{Input, StoreMode};
+use kx_message::NodeId;
+use kx_nodes::Made;
+use kx_trace::TracedNode;
+use kx_trace_audit::{Progress, ToldStep, TraceAudit, TraceRefusal};
+use std::alloc::{AllocError, Global};
+use std::fs::{File, Files};
+use std::io::Read;
+
+/// A step of a server's node: what it took, and what its store did meanwhile.
+#[derive(Drop)]
+pub struct ServerStep {
+    pub node: NodeId,
+    pub input: Input,
+    pub store: StoreMode,
+}
+
+// The node that a trace names.
+fn name_of(node: TracedNode) -> NodeId {
+    ServerNode { node }.name()
+}
+
+// Keeps a node's step, if one is told.
+fn keep(
+    steps: &mut Vec<ServerStep>,
+    node: NodeId,
+    told: Option<ToldStep>,
+) -> Result<(), AllocError> {
+    let Some(told) = told else {
+        return Ok(());
+    };
+    steps.push(ServerStep {
+        node,
+        input: told.input,
+        store: told.store,
+    })?;
+    Ok(())
+}
+
+// Makes the next step of a trace again, if it can be made now, and keeps it; says whether the trace
+// went on.
+fn go_on(
+    audit: &mut TraceAudit<ServerNode>,
+    trace: usize,
+    node: NodeId,
+    steps: &mut Vec<ServerStep>,
+) -> Result<bool, TraceRefusal> {
+    let told = audit.next(trace)?;
+    match audit.go(trace)? {
+        Progress::Made { .. } => {
+            keep(steps, node, told)?;
+            Ok(true)
+        }
+        Progress::NotTaken => Ok(true),
+        Progress::Waits | Progress::NeedsMore => Ok(false),
+    }
+}
+
+// Goes on by an item in each trace, one after the other, until none goes on.
+fn go_all(
+    audit: &mut TraceAudit<ServerNode>,
+    nodes: &[NodeId],
+    steps: &mut Vec<ServerStep>,
+) -> Result<(), TraceRefusal> {
+    for _ in 0..u64::MAX {
+        let mut went_on = false;
+        for (trace, node) in nodes.iter().enumerate() {
+            went_on |= go_on(audit, trace, *node, steps)?;
+        }
+        if !went_on {
+            break;
+        }
+    }
+    Ok(())
+}
+
+// Feeds all bytes of a trace.
+fn feed_all<I: Read + Drop>(
+    alloc: Global,
+    audit: &mut TraceAudit<ServerNode>,
+    trace: usize,
+    node: TracedNode,
+    reader: &mut I,
+) -> Result<(), AuditFault> {
+    let mut bytes = Vec::new(alloc);
+    if let Err(error) = reader.read_to_end(&mut bytes) {
+        return Err(read_fault(AuditFile::Trace(node), error.kind()));
+    }
+    audit.feed(trace, bytes.as_slice())?;
+    audit.feed(trace, &[])?;
+    Ok(())
+}
+
+// Feeds all bytes of the traces.
+fn feed_traces(
+    alloc: Global,
+    audit: &mut TraceAudit<ServerNode>,
+    traces: &mut Traces<File>,
+) -> Result<(), AuditFault> {
+    for trace in 0..traces.sources.len() {
+        if let Some(of) = traces.of.get(trace) {
+            let node = of.node;
+            feed_all(alloc, audit, trace, node, &mut traces.sources[trace].reader)?;
+        }
+    }
+    Ok(())
+}
+
+// The nodes of the traces.
+fn names_of(alloc: Global, traces: &Traces<File>) -> Result<Vec<NodeId>, AllocError> {
+    let mut names = Vec::new(alloc);
+    for of in &traces.of {
+        names.push(name_of(of.node))?;
+    }
+    Ok(names)
+}
+
+// The steps of traces that were found.
+fn steps_in(alloc: Global, mut traces: Traces<File>) -> Result<Vec<ServerStep>, AuditFault> {
+    let names = names_of(alloc, &traces)?;
+    let mut steps = Vec::new(alloc);
+    let Ok(mut audit) = TraceAudit::<ServerNode>::new(alloc, traces.of.as_slice()) else {
+        return Err(AuditFault::Memory);
+    };
+    let fed = feed_traces(alloc, &mut audit, &mut traces);
+    drop(traces);
+    if fed.is_ok() {
+        let _ = go_all(&mut audit, names.as_slice(), &mut steps);
+    }
+    drop(audit);
+    fed?;
+    Ok(steps)
+}
+
+/// The steps of a server by the traces that it left in a folder, in an order in which an audit makes
+/// them again, up to where it refuses or no trace goes on. All bytes of the traces are kept in memory
+/// meanwhile.
+///
+/// # Errors
+///
+/// As [`AuditFault`] has them.
+pub fn server_steps<R: Files<File = File> + AllocGlobal>(
+    rt: &R,
+    options: &AuditOptions<'_>,
+) -> Result<Vec<ServerStep>, AuditFault> {
+    match find(rt, options) {
+        Ok(traces) => steps_in(rt.alloc(), traces),
+        Err(Stop::No(_)) => Ok(Vec::new(rt.alloc())),
+        Err(Stop::Fault(fault)) => Err(fault),
+    }
+}

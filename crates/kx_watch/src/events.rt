@@ -1,0 +1,74 @@
+//! A list of events that happen in a world of their own, and are watched.
+ghost use Rattle.std.specs.Prelude.{◌≡◌, ◌+◌, IfOk, OnOk, length};
+
+use crate::world::{add_logs, watch};
+use kx_core::{Config, Event, LocalWorld, PartitionCount};
+use kx_message::PartitionId;
+use kx_page::Run;
+use kx_processor::Process;
+use kx_view::Recorder;
+use std::alloc::{AllocError, Global};
+
+/// A world of all data partitions, in which nothing has happened.
+pub(crate) fn whole_world<F: Process + Copy>(alloc: Global) -> Result<LocalWorld<F>, AllocError> {
+    let Some(partitions) = PartitionCount::new(PartitionId::DATA_COUNT) else {
+        return Err(AllocError);
+    };
+    LocalWorld::new(alloc, Config { partitions })
+}
+
+// Events happen in a world, one after the other, and each is recorded.
+fn watch_all<F: Process + Copy>(
+    recorder: &mut Recorder,
+    world: &mut LocalWorld<F>,
+    events: &[Event<F>],
+) -> Result<(), AllocError>
+    ensures { OnOk result (length recorder.new ≡ length recorder.old + length events.now) }
+{
+    for event in events {
+        watch(recorder, world, event)?;
+    }
+    Ok(())
+}
+
+// Events happen in a world, and are recorded with the logs to which they led.
+fn watch_world<F: Process + Copy>(
+    alloc: Global,
+    recorder: &mut Recorder,
+    world: &mut LocalWorld<F>,
+    events: &[Event<F>],
+) -> Result<(), AllocError>
+    ensures { OnOk result (length recorder.new ≡ length recorder.old + length events.now) }
+{
+    watch_all(recorder, world, events)?;
+    add_logs(alloc, recorder, world)
+}
+
+// The recorder of events that happen in a world of all data partitions.
+fn recorded<F: Process + Copy>(alloc: Global, events: &[Event<F>]) -> Result<Recorder, AllocError>
+    ensures { IfOk result (λ recorder. length recorder ≡ length events.now) }
+{
+    let mut recorder = Recorder::new(alloc);
+    let mut world = whole_world(alloc)?;
+    let watched = watch_world(alloc, &mut recorder, &mut world, events);
+    drop(world);
+    watched?;
+    Ok(recorder)
+}
+
+/// The run of this title that the events are, which happen one after the other in a world of all
+/// data partitions, with empty logs at first: each event is a step of it.
+///
+/// # Errors
+///
+/// Only where memory runs out.
+pub fn run_of_events<F: Process + Copy>(
+    alloc: Global,
+    title: String,
+    events: &[Event<F>],
+) -> Result<Run, AllocError>
+    ensures { IfOk result (λ run. length run.steps.items ≡ length events.now) }
+{
+    let recorder = recorded(alloc, events)?;
+    recorder.into_run(title)
+}

@@ -1,0 +1,148 @@
+//! The steps of a server's nodes, whose clients are outside, watched as they are made again.
+ghost use Rattle.std.specs.Prelude.{◌≡◌, [], IfOk, OnOk, is_some};
+ghost use Rattle.kx_view.specs.Recording.{TellSame};
+ghost use Rattle.kx_watch.specs.Steps.{AddsSteps, is_outside, steps_of};
+
+use crate::events::whole_world;
+use crate::transit::Transit;
+use crate::world::{add_logs, watch};
+use kx_core::{Event, LocalWorld};
+use kx_machine::{Input, StoreMode};
+use kx_message::NodeId;
+use kx_outside::{OutsideRequest, can_arrive};
+use kx_page::Run;
+use kx_processor::Prefixed;
+use kx_view::Recorder;
+use std::alloc::{AllocError, Global};
+use std::marker::Model;
+
+/// A server that is watched: its nodes with empty logs at first, and what they sent.
+#[derive(Drop)]
+pub struct ServerWatch {
+    alloc: Global,
+    recorder: Recorder,
+    world: LocalWorld<Prefixed>,
+    transit: Transit,
+}
+
+impl Model for ServerWatch {
+    ghost use Rattle.std.specs.Prelude.{List};
+    ghost use Rattle.kx_page.specs.declared.run.Step.{Step};
+
+    ghost Value = { List Step };
+
+    ghost view = { λ w. w.recorder };
+}
+
+// The client's request that an input is, if it arrives from outside.
+fn request_in(input: &Input) -> Result<Option<OutsideRequest>, AllocError>
+    ensures { IfOk result (λ request. is_some request ≡ is_outside input.now) }
+{
+    match input {
+        Input::Deliver(message) if can_arrive(message) => {
+            Ok(OutsideRequest::new(message.clone()?))
+        }
+        _ => Ok(None),
+    }
+}
+
+impl ServerWatch {
+    /// A server of all data partitions, of which no step was made.
+    ///
+    /// # Errors
+    ///
+    /// Only where memory runs out.
+    pub fn new(alloc: Global) -> Result<ServerWatch, AllocError>
+        ensures { IfOk result (λ watch. watch ≡ []) }
+    {
+        Ok(ServerWatch {
+            alloc,
+            recorder: Recorder::new(alloc),
+            world: whole_world(alloc)?,
+            transit: Transit::new(alloc),
+        })
+    }
+
+    // A client's request arrives from outside. Answers its number among the messages.
+    fn arrive(&mut self, request: OutsideRequest) -> Result<usize, AllocError>
+        ensures { OnOk result (AddsSteps 1 self.old self.new) }
+    {
+        let event = Event::Arrive { request };
+        watch(&mut self.recorder, &mut self.world, &event)?;
+        Ok(self.world.sent().len().saturating_sub(1))
+    }
+
+    // An event happens at a node, and what it sends is on its way.
+    fn happen(&mut self, event: &Event<Prefixed>) -> Result<(), AllocError>
+        ensures { OnOk result (AddsSteps 1 self.old self.new) }
+    {
+        watch(&mut self.recorder, &mut self.world, event)?;
+        let sent = self.world.sent();
+        let last = sent.last();
+        self.transit
+            .add(sent.len().saturating_sub(last.len()), last)
+    }
+
+    // The event that a node takes an input that no client sent.
+    fn event_of(
+        &mut self,
+        to: NodeId,
+        input: &Input,
+        store: StoreMode,
+    ) -> Result<Event<Prefixed>, AllocError>
+        ensures { self.new ≡ self.old }
+    {
+        match input {
+            Input::Deliver(message) => {
+                let number = self.transit.arrive(message)?.unwrap_or(usize::MAX);
+                Ok(Event::Deliver { number, to, store })
+            }
+            other => Ok(Event::Hand {
+                to,
+                input: other.clone()?,
+                store,
+            }),
+        }
+    }
+
+    /// A node takes an input, while its store does this. A client's request is sent by a client
+    /// outside, which is a step of its own; any other message is the first that is the same of those
+    /// that the nodes sent and that haven't arrived.
+    ///
+    /// # Errors
+    ///
+    /// Only where memory runs out; then the server can't be watched any further.
+    pub fn take(&mut self, to: NodeId, input: &Input, store: StoreMode) -> Result<(), AllocError>
+        ensures { OnOk result (AddsSteps (steps_of input.now) self.old self.new) }
+    {
+        let event = match request_in(input)? {
+            Some(request) => {
+                let number = self.arrive(request)?;
+                Event::Deliver { number, to, store }
+            }
+            None => self.event_of(to, input, store)?,
+        };
+        self.happen(&event)
+    }
+
+    /// The run that was watched, of this title, with the logs to which it led.
+    ///
+    /// # Errors
+    ///
+    /// Only where memory runs out.
+    pub fn into_run(self, title: String) -> Result<Run, AllocError>
+        ensures { IfOk result (λ run. TellSame self run.steps.items) }
+    {
+        let ServerWatch {
+            alloc,
+            mut recorder,
+            world,
+            transit,
+        } = self;
+        drop(transit);
+        let added = add_logs(alloc, &mut recorder, &world);
+        drop(world);
+        added?;
+        recorder.into_run(title)
+    }
+}
