@@ -152,6 +152,11 @@ def main():
         line(f"file left/{file} ${file.replace('.', '_')}")
     audit("left --dir left", counts + "audit yes", 0)
     audit("left", counts + "audit yes", 0)
+    audit("left --page left.html", counts + "audit yes", 0)
+    audit("left --page nofolder/left.html", counts + "audit yes", 1)
+    out_lines.append("! kx_main: nofolder/left.html: No such file or directory (os error 2)")
+    line('run audit left --page ""')
+    out_lines.extend(['$ audit left --page ""', "status 2", "words"])
 
     p0 = traces["p0"]
     number, (taken, answer) = p0.first(lambda item: p0.sends(item, PRODUCE_REPLY))

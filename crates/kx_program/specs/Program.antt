@@ -35,11 +35,19 @@ abbrev pub Simulates : Option (List ℕ) → Option (List ℕ) → Option (List 
 Simulates input old new how = IfSome input (λ script. (ran : Result (Unit {0}) ScriptFault)
     × Ends script old new ran × (how ≡ ending_of ran))
 
--- the script was run, and drawn where that was asked for; else the program failed
+-- the script's answers were written, as far as that could be done
+abbrev pub Answers : Option (List ℕ) → Option (List ℕ) → Option (List ℕ) → Type 0
+Answers input old new = IfSome input (λ script. (ran : Result (Unit {0}) ScriptFault)
+    × Ends script old new ran)
+
+-- the script was run, and drawn where that was asked for; or the program failed, since a picture
+-- couldn't be written after the answers, or since the script couldn't be read
 abbrev pub Draws : Pictures → Option (List ℕ) → Option (List ℕ) → Option (List ℕ) → Ending
     → Type 0
 Draws asked input old new how =
-    Simulates input old new how ⊎ (IsTrue (asks_pictures asked) × (how ≡ ending.Failed))
+    Simulates input old new how
+    ⊎ (IsTrue (asks_pictures asked) × (how ≡ ending.Failed)
+    × (Answers input old new ⊎ Keeps old new))
 
 -- these bytes of a file were dumped
 abbrev pub DumpsBytes : List ℕ → Option (List ℕ) → Option (List ℕ) → Ending → Type 0

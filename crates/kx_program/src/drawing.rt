@@ -2,7 +2,7 @@
 ghost use Rattle.std.specs.Prelude.{◌≡◌, ◌⊎◌, IfOk, OnOk, Some, length};
 ghost use Rattle.std.specs.Io.Buffered.{writer_contents};
 ghost use Rattle.kx_program.specs.Drawing.{rows_of};
-ghost use Rattle.kx_program.specs.Program.{Draws, Simulates};
+ghost use Rattle.kx_program.specs.Program.{Answers, Draws, Simulates};
 ghost use Rattle.kx_watch.specs.Steps.{AddsSteps};
 ghost use Rattle.kx_text.specs.declared.program.Ending.TheVariants as ending;
 
@@ -85,7 +85,9 @@ fn sim_and_draw<R: Files<File = File> + AllocGlobal, O: Write + Drop, E: Write>(
     errors: &mut E,
 ) -> Ending
     ensures { Simulates (Some script.now) (writer_contents O.contents out.old)
-        (writer_contents O.contents out.new) result ⊎ (result ≡ ending.Failed) }
+        (writer_contents O.contents out.new) result
+        ⊎ ((result ≡ ending.Failed) × Answers (Some script.now)
+        (writer_contents O.contents out.old) (writer_contents O.contents out.new)) }
 {
     let mut rest = script;
     let ran = sim(rt.alloc(), &mut rest, out, errors);
