@@ -1,5 +1,5 @@
 //! The step of which a trace tells next.
-ghost use Rattle.std.specs.Prelude.{IfOk, IfSome, MatchOption};
+ghost use Rattle.std.specs.Prelude.{IfOk, IfSome};
 ghost use Rattle.kx_trace_audit.specs.Items.{told_of};
 ghost use Rattle.kx_trace_audit.specs.Peeking.{IsInput, IsNext};
 
@@ -40,7 +40,7 @@ impl<B: Server> TraceAudit<B> {
     ///
     /// `Bytes` where no trace goes on with these bytes; `Memory` where memory runs out.
     pub fn next(&self, trace: usize) -> Result<Option<ToldStep>, TraceRefusal>
-        ensures { IfOk result (λ next. IfSome next (IsNext self.now.traces trace)) }
+        ensures { IfOk result (λ next. IfSome next (IsNext B.Machine.stands self.now trace)) }
     {
         let Some(reading) = self.traces.get(trace) else {
             return Ok(None);

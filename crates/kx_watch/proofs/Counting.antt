@@ -1,6 +1,6 @@
 -- How many steps are recorded.
 use Rattle.std.proofs.Common.{◌≡◌, ◌∙◌, ◌+◌, ◌++◌, ◌∷◌, [], ℕ, List, ap, arith, append_assoc, length}
-use Rattle.std.proofs.Common.{length-append, map, refl, sym}
+use Rattle.std.proofs.Common.{length-append, refl, sym}
 use Rattle.std.proofs.lemmas.List.{length-map}
 use Rattle.kx_page.specs.declared.run.Step.{Step}
 use Rattle.kx_view.specs.Recording.{AddsStep, TellSame, words_of}
@@ -16,8 +16,8 @@ pub then_more : (a b : ℕ) (old mid new : List Step) → AddsSteps a old mid �
     → AddsSteps (a + b) old new
 then_more a b old mid new first second = (
   first.0 ++ second.0,
-  length-append first.0 second.0 ∙ omega (arith, first.1.0, second.1.0),
-  second.1.1 ∙ ap (λ (s : List Step). s ++ second.0) first.1.1 ∙ append_assoc old first.0 second.0,
+  length-append first.0 second.0 ∙ omega (arith, first.1, second.1),
+  second.2 ∙ ap (λ (s : List Step). s ++ second.0) first.2 ∙ append_assoc old first.0 second.0,
 )
 
 pub as_many : (before after : List Step) → TellSame before after → length after ≡ length before

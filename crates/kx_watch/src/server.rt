@@ -68,7 +68,9 @@ impl ServerWatch {
         ensures { OnOk result (AddsSteps 1 self.old self.new) }
     {
         let event = Event::Arrive { request };
-        watch(&mut self.recorder, &mut self.world, &event)?;
+        let watched = watch(&mut self.recorder, &mut self.world, &event);
+        drop(event);
+        watched?;
         Ok(self.world.sent().len().saturating_sub(1))
     }
 
@@ -105,6 +107,32 @@ impl ServerWatch {
         }
     }
 
+    // A node takes what a client outside sends.
+    fn take_request(
+        &mut self,
+        to: NodeId,
+        request: OutsideRequest,
+        store: StoreMode,
+    ) -> Result<(), AllocError>
+        ensures { OnOk result (AddsSteps 2 self.old self.new) }
+    {
+        let number = self.arrive(request)?;
+        let event = Event::Deliver { number, to, store };
+        let happened = self.happen(&event);
+        drop(event);
+        happened
+    }
+
+    // A node takes what no client sent.
+    fn take_other(&mut self, to: NodeId, input: &Input, store: StoreMode) -> Result<(), AllocError>
+        ensures { OnOk result (AddsSteps 1 self.old self.new) }
+    {
+        let event = self.event_of(to, input, store)?;
+        let happened = self.happen(&event);
+        drop(event);
+        happened
+    }
+
     /// A node takes an input, while its store does this. A client's request is sent by a client
     /// outside, which is a step of its own; any other message is the first that is the same of those
     /// that the nodes sent and that haven't arrived.
@@ -115,14 +143,10 @@ impl ServerWatch {
     pub fn take(&mut self, to: NodeId, input: &Input, store: StoreMode) -> Result<(), AllocError>
         ensures { OnOk result (AddsSteps (steps_of input.now) self.old self.new) }
     {
-        let event = match request_in(input)? {
-            Some(request) => {
-                let number = self.arrive(request)?;
-                Event::Deliver { number, to, store }
-            }
-            None => self.event_of(to, input, store)?,
-        };
-        self.happen(&event)
+        match request_in(input)? {
+            Some(request) => self.take_request(to, request, store),
+            None => self.take_other(to, input, store),
+        }
     }
 
     /// The run that was watched, of this title, with the logs to which it led.

@@ -84,7 +84,7 @@ fn message_of<'a, F: Process + Copy>(
 fn record<'a, F: Process + Copy>(
     recorder: &mut Recorder,
     world: &'a LocalWorld<F>,
-    node: NodeId,
+    node: &NodeId,
     event: &'a Event<F>,
     happened: Happened,
     before: LogAt,
@@ -92,9 +92,9 @@ fn record<'a, F: Process + Copy>(
     ensures ok { OnOk result (AddsStep recorder.old recorder.new) }
     ensures err { OnErr result (recorder.new ≡ recorder.old) }
 {
-    let after = log_at(world, node);
+    let after = log_at(world, *node);
     let seen = Seen {
-        node,
+        node: *node,
         took: took_in(event, message_of(world, event)),
         sent: world.sent().last(),
         note: happened.note,
@@ -109,13 +109,13 @@ fn record<'a, F: Process + Copy>(
 fn watch_node<F: Process + Copy>(
     recorder: &mut Recorder,
     world: &mut LocalWorld<F>,
-    node: NodeId,
+    node: &NodeId,
     event: &Event<F>,
 ) -> Result<Happened, AllocError>
     ensures ok { OnOk result (AddsStep recorder.old recorder.new) }
     ensures err { OnErr result (recorder.new ≡ recorder.old) }
 {
-    let before = log_at(world, node);
+    let before = log_at(world, *node);
     let happened = world.happen(event)?;
     record(recorder, world, node, event, happened, before)?;
     Ok(happened)
@@ -149,7 +149,7 @@ pub fn watch<F: Process + Copy>(
     ensures err { OnErr result (recorder.new ≡ recorder.old) }
 {
     match node_of(event) {
-        Some(node) => watch_node(recorder, world, node, event),
+        Some(node) => watch_node(recorder, world, &node, event),
         None => watch_request(recorder, world, event),
     }
 }
