@@ -6,6 +6,7 @@ use crate::words::id_of;
 use kx_aborted::{Aborted, AbortedIndex, put_entry, read_entry};
 use kx_cases::{StepFault, Subject, Texts, told_bytes, told_name, told_value, value};
 use std::alloc::Global;
+use std::mem;
 
 /// The index of a case.
 #[derive(Drop)]
@@ -86,7 +87,8 @@ impl Subject for AbortedCases {
     fn answer(&mut self, texts: &Texts, words: &[&str]) -> Result<String, StepFault> {
         match words {
             ["index", given @ ..] => {
-                self.index = index_with(self.alloc, aborted_of(given)?)?;
+                let index = index_with(self.alloc, aborted_of(given)?)?;
+                drop(mem::replace(&mut self.index, index));
                 told_value(self.alloc, "ok")
             }
             ["named", from, upper] => self.named(value(from)?, value(upper)?),

@@ -8,8 +8,9 @@ use crate::stores::{FailingStore, failing};
 use crate::sweeps::{bits, cuts, failures, flips, grow};
 use kx_batch::BatchView;
 use kx_cases::{Runs, StepFault, Subject, Texts, told, told_name, told_option, told_value, value};
-use kx_log::{AppendFault, OpenFault, PartitionLog, Store};
+use kx_log::{AppendFault, OpenFault, PartitionLog, Store, StoreFault};
 use std::alloc::Global;
+use std::mem;
 
 /// The log of a case.
 #[derive(Drop)]
@@ -22,7 +23,10 @@ pub(crate) struct LogCases {
 pub fn opened<S: Store>(alloc: Global, store: S) -> Result<PartitionLog<S>, OpenFault> {
     match PartitionLog::open(alloc, store) {
         Ok(log) => Ok(log),
-        Err((fault, _)) => Err(fault),
+        Err((fault, store)) => {
+            drop(store);
+            Err(fault)
+        }
     }
 }
 
@@ -41,7 +45,7 @@ pub fn append<S: Store>(
 pub fn reopened<S: Store>(log: &mut PartitionLog<S>) -> Result<i64, OpenFault> {
     let content = log.reload()?;
     let end = content.end();
-    log.install(content);
+    drop(log.install(content));
     Ok(end)
 }
 
@@ -74,6 +78,22 @@ fn slice(
     Ok(text)
 }
 
+fn slice_step(
+    alloc: Global,
+    log: &PartitionLog<FailingStore>,
+    words: &[&str],
+) -> Result<String, StepFault> {
+    let [from, upper, max] = words else {
+        return Err(StepFault::Unknown);
+    };
+    slice(alloc, log, value(from)?, value(upper)?, value(max)?)
+}
+
+// The first offset of the log.
+fn first_of(log: &PartitionLog<FailingStore>) -> Option<i64> {
+    Some(log.batches().next()?.base_offset())
+}
+
 // The answers to a batch that is appended so often: the offset that is due, or what came.
 fn appends(
     alloc: Global,
@@ -90,6 +110,11 @@ fn appends(
         runs.push(number as usize, answer)?;
     }
     Ok(runs.finish()?)
+}
+
+// How many bytes a store has.
+fn stored_in<S: Store>(store: &mut S) -> Result<usize, StoreFault> {
+    Ok(store.load()?.len())
 }
 
 // What the log is told.
@@ -114,13 +139,8 @@ fn log_step(
         ["end"] => told_value(alloc, log.end()),
         ["failures"] => told_value(alloc, log.failures()),
         ["takes", count] => told_value(alloc, log.can_take(value(count)?)),
-        ["first"] => {
-            let first = log.batches().next().map(|batch| batch.base_offset());
-            told_option(alloc, first)
-        }
-        ["slice", from, upper, max] => {
-            slice(alloc, log, value(from)?, value(upper)?, value(max)?)
-        }
+        ["first"] => told_option(alloc, first_of(log)),
+        ["slice", given @ ..] => slice_step(alloc, log, given),
         ["reopen"] => told(alloc, reopened(log)),
         _ => {
             log_command(log, words)?;
@@ -135,7 +155,7 @@ impl LogCases {
         match opened(self.alloc, failing(bytes, nth, keep)) {
             Ok(log) => {
                 let end = log.end();
-                self.log = Some(log);
+                drop(self.log.replace(log));
                 told_value(self.alloc, end)
             }
             Err(fault) => told_name(self.alloc, fault),
@@ -146,11 +166,11 @@ impl LogCases {
     fn stored(&mut self) -> Result<String, StepFault> {
         let log = self.log.take().ok_or(StepFault::Unknown)?;
         let mut store = log.into_store();
-        let count = match store.load() {
-            Ok(bytes) => bytes.len(),
-            Err(_) => return Err(StepFault::Unknown),
+        let Ok(count) = stored_in(&mut store) else {
+            drop(store);
+            return Err(StepFault::Unknown);
         };
-        self.log = opened(self.alloc, store).ok();
+        drop(mem::replace(&mut self.log, opened(self.alloc, store).ok()));
         told_value(self.alloc, count)
     }
 

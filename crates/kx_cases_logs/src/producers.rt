@@ -6,6 +6,7 @@ use crate::words::{epoch_of, id_of};
 use kx_cases::{StepFault, Subject, Texts, told_done, told_name, told_option, told_value, value};
 use kx_producer::{Noted, Producers, RememberedBatch};
 use std::alloc::Global;
+use std::mem;
 
 /// The producers of a case.
 #[derive(Drop)]
@@ -33,7 +34,8 @@ impl ProducerCases {
             epoch: epoch_of(epoch)?,
             batch: batch_of(first, last, offset)?,
         }];
-        self.producers = Producers::rebuild(self.alloc, &entries)?;
+        let producers = Producers::rebuild(self.alloc, &entries)?;
+        drop(mem::replace(&mut self.producers, producers));
         told_value(self.alloc, "ok")
     }
 

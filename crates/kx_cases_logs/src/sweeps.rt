@@ -9,7 +9,9 @@ use std::alloc::Global;
 // The end of what bytes are opened as, or where they are damaged.
 fn end_of(alloc: Global, bytes: &[u8]) -> Result<i64, OpenFault> {
     let log = opened(alloc, MemStore::new(Vec::from_slice(alloc, bytes)?))?;
-    Ok(log.end())
+    let end = log.end();
+    drop(log);
+    Ok(end)
 }
 
 /// What each front of some bytes is opened as.
@@ -84,16 +86,37 @@ fn fails_third<S: Store>(log: &mut PartitionLog<S>, texts: [&[u8]; 3]) -> Result
     Ok(log.failures() == 1)
 }
 
-// The end after reopening, where the third append fails and leaves this many bytes.
+// The end after reopening, where the third append fails.
+fn told_failed<S: Store>(
+    alloc: Global,
+    log: &mut PartitionLog<S>,
+    texts: [&[u8]; 3],
+) -> Result<String, StepFault> {
+    if fails_third(log, texts)? {
+        told(alloc, reopened(log))
+    } else {
+        told_value(alloc, "went otherwise")
+    }
+}
+
+// The same on a log of its own, where that append leaves this many bytes.
 fn after_failure(alloc: Global, texts: [&[u8]; 3], keep: u64) -> Result<String, StepFault> {
     let Ok(mut log) = opened(alloc, failing(Vec::new(alloc), 3, keep)) else {
         return Err(StepFault::Unknown);
     };
-    if fails_third(&mut log, texts)? {
-        told(alloc, reopened(&mut log))
-    } else {
-        told_value(alloc, "went otherwise")
+    let told = told_failed(alloc, &mut log, texts);
+    drop(log);
+    told
+}
+
+// The same for each number of bytes below `keeps`.
+fn after_failures(alloc: Global, keeps: u16, texts: [&[u8]; 3]) -> Result<String, StepFault> {
+    let mut runs = Runs::new(alloc);
+    for keep in 0..keeps {
+        let answer = after_failure(alloc, texts, u64::from(keep))?;
+        runs.push(usize::from(keep), answer)?;
     }
+    Ok(runs.finish()?)
 }
 
 /// The ends after reopening, where the third of three appends fails and leaves each number of bytes
@@ -110,13 +133,11 @@ pub fn failures(
     let first = texts.bytes(first)?;
     let second = texts.bytes(second)?;
     let third = texts.bytes(third)?;
-    let texts = [first.as_slice(), second.as_slice(), third.as_slice()];
-    let mut runs = Runs::new(alloc);
-    for keep in 0..keeps {
-        let answer = after_failure(alloc, texts, u64::from(keep))?;
-        runs.push(usize::from(keep), answer)?;
-    }
-    Ok(runs.finish()?)
+    after_failures(
+        alloc,
+        keeps,
+        [first.as_slice(), second.as_slice(), third.as_slice()],
+    )
 }
 
 // Whether a batch was appended, or refused since memory ran out and the log is as before.
@@ -145,15 +166,26 @@ fn rereads<S: Store>(log: &mut PartitionLog<S>) -> bool {
     is_read && log.end() == end && log.can_take(1) && log.failures() == 0
 }
 
-/// Appends a batch so often and reads the log again, where any growth may be refused: the log is
-/// then as before.
-pub fn grow(alloc: Global, count: u32, text: &[u8]) -> Result<String, StepFault> {
+// Appends a batch so often and reads the log again, where any growth may be refused: the log is
+// then as before.
+fn grows_on<S: Store>(
+    log: &mut PartitionLog<S>,
+    count: u32,
+    text: &[u8],
+) -> Result<bool, StepFault> {
     let mut grown = true;
-    if let Ok(mut log) = opened(alloc, MemStore::new(Vec::new(alloc))) {
-        for _ in 0..count {
-            grown = grows(&mut log, text)? && grown;
-        }
-        grown = rereads(&mut log) && grown;
+    for _ in 0..count {
+        grown = grows(log, text)? && grown;
     }
-    told_value(alloc, if grown { "ok" } else { "went otherwise" })
+    Ok(rereads(log) && grown)
+}
+
+/// The same on a log of its own.
+pub fn grow(alloc: Global, count: u32, text: &[u8]) -> Result<String, StepFault> {
+    let Ok(mut log) = opened(alloc, MemStore::new(Vec::new(alloc))) else {
+        return told_value(alloc, "ok");
+    };
+    let grown = grows_on(&mut log, count, text);
+    drop(log);
+    told_value(alloc, if grown? { "ok" } else { "went otherwise" })
 }
