@@ -35,7 +35,7 @@ fn begin<W: Write>(
     let Ok(new) = Running::new(alloc, count) else {
         return Err(ScriptFault::Memory);
     };
-    *running = Some(new);
+    drop(running.replace(new));
     written(write_dash(writer))?;
     Ok(true)
 }
@@ -76,7 +76,11 @@ pub fn answer_in<W: Write>(
         (kept_in (Some s) line.now) (W.contents writer.old) (W.contents writer.new) result }
 {
     match event_in(alloc, running, line) {
-        Some(Ok(read)) => happen(running, read, writer),
+        Some(Ok(read)) => {
+            let answered = happen(running, &read, writer);
+            drop(read);
+            answered
+        }
         Some(Err(_)) => {
             lose(writer)?;
             Ok(true)

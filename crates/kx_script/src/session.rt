@@ -122,11 +122,11 @@ pub(crate) fn lose<W: Write>(writer: &mut W) -> Result<(), ScriptFault>
 // Lets an event happen, and writes what it prints; always true.
 pub(crate) fn happen<W: Write>(
     running: &mut Running,
-    read: EventAt,
+    read: &EventAt,
     writer: &mut W,
 ) -> Result<bool, ScriptFault>
     ensures { (s : Session) → StandsFor running.old s → (event : SystemEvent)
-        → Means s.system read event
+        → Means s.system read.now event
         → Answered (StandsIn (Some running.new)) (Some (happens s event)) (Some (Some s))
         (W.contents writer.old) (W.contents writer.new) result }
 {

@@ -11,8 +11,8 @@ returns-in-Some-Ok g c = λ s st.
     let read : IsRead s.system (event_in s c.args.line.now) c.in-Some-Ok.read =
     rw c.in-Some-Ok.field-0-is at (c.in-Some-Ok.ensures s st) in
     is_event _ s c.args.line.now read.event (g.W.Write.contents c.args.writer.now)
-    (g.W.Write.contents c.happen.new.writer) c.happen.result read.is
-    (c.happen.ensures s st read.event
+    (g.W.Write.contents c.happen-answered.new.writer) c.happen-answered.result read.is
+    (c.happen-answered.ensures s st read.event
     (subst (λ (r : EventAt). Means s.system r read.event) (sym c.in-Some-Ok.read-is) read.means))
 
 pub returns-in_ok-lose-in-Some-Err : goal.returns-in_ok-lose-in-Some-Err

@@ -9,7 +9,7 @@ returns-in-Err g c = λ s st event m.
 
 pub returns : goal.returns
 returns g c = λ s st event m.
-    happens_so s event c.args.read _ c.args.running.now.marks c.in-Ok.happened
+    happens_so s event c.args.read.now _ c.args.running.now.marks c.in-Ok.happened
     c.sent-first.result (g.W.Write.contents c.args.writer.now)
     (g.W.Write.contents c.write_step.new.writer) m (c.in-Ok.ensures.step s.system st.0) st.1
     c.settle.ensures (c.sent-first.ensures s.system st.0)
