@@ -1,7 +1,8 @@
 -- Elements of lists by their places.
 use Rattle.std.proofs.Common.{◌≡◌, ◌≢◌, ◌⊎◌, ℕ, zero, suc, List, [], ◌∷◌, Some, refl, sym, ap, ◌∙◌}
-use Rattle.std.proofs.Common.{inl, inr, ⊎_elim, map, length, ◌++◌, arith}
+use Rattle.std.proofs.Common.{inl, inr, ⊎_elim, map, length, ◌++◌, append-nil, arith}
 use Rattle.std.specs.Prelude.{slice_get, slice_set}
+use Rattle.std.proofs.lemmas.List.{append_assoc}
 use Rattle.std.proofs.lemmas.Option.{same_Some}
 
 -- an element of a list of which one was changed: that one, or another that stayed
@@ -60,3 +61,17 @@ pub set_same : {A : Type 0} (xs : List A) (k : ℕ) (x : A) → slice_get xs k �
 set_same [] k x e = absurd cc
 set_same {A} (z ∷ xs) zero x e = ap (λ (y : A). y ∷ xs) (sym (same_Some z x e))
 set_same {A} (z ∷ xs) (suc k) x e = ap (λ (l : List A). z ∷ l) (set_same xs k x e)
+
+------ values that are made of the front of a list
+
+pub moved_on : {X Y : Type 0} (f : X → Y) (ys new : List Y) (xs rest all : List X) (x : X) (y : Y)
+    → ys ++ map f xs ≡ map f all → xs ≡ x ∷ rest → y ≡ f x → new ≡ ys ++ y ∷ []
+    → new ++ map f rest ≡ map f all
+moved_on f ys new xs rest all x y before is made pushed =
+    ap (λ (l : List _). l ++ map f rest) pushed ∙ append_assoc ys (y ∷ []) (map f rest)
+    ∙ ap (λ z. ys ++ z ∷ map f rest) made ∙ ap (λ (l : List _). ys ++ map f l) (sym is) ∙ before
+
+pub moved_all : {X Y : Type 0} (f : X → Y) (ys : List Y) (xs all : List X)
+    → ys ++ map f xs ≡ map f all → xs ≡ [] → ys ≡ map f all
+moved_all f ys xs all before is =
+    sym (append-nil ys) ∙ ap (λ (l : List _). ys ++ map f l) (sym is) ∙ before
