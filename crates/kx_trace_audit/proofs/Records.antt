@@ -1,7 +1,7 @@
 -- What stands at the front of the bytes of a trace.
 use Rattle.std.proofs.Common.{◌≡◌, ◌+◌, ◌++◌, ◌∙◌, ℕ, List, drop, ap, arith, refl, sym}
 use Rattle.std.proofs.Common.{Err, None, Ok, Option, Result, Some, subst, ⊎_elim}
-use Rattle.std.specs.Prelude.{IsErrAnd, MatchOption, MatchResult}
+use Rattle.std.specs.Prelude.{IfErr, IfOk, IsErrAnd, MatchOption, MatchResult}
 use Rattle.std.proofs.lemmas.List.{append_assoc, drop-drop, length-drop}
 use Rattle.std.proofs.lemmas.Option.{same_Some}
 use Rattle.kx_machine.specs.declared.input.Input.{Input}
@@ -38,6 +38,17 @@ pub refused_so : {A E : Type 0} (r : Result A E) (why : E) → IsErrAnd r (λ x.
     → (P : A → Type 0) (Q : E → Type 0) → Q why → MatchResult r P Q
 refused_so (Ok v) why is P Q so = absurd is
 refused_so (Err x) why is P Q so = subst Q (sym is) so
+
+-- what holds of a result by what holds of it whatever the bytes are
+pub if_ok_at : {A E : Type 0} (r : Result A E) (P Q : A → Type 0) → ((x : A) → P x → Q x)
+    → IfOk r P → IfOk r Q
+if_ok_at (Ok x) P Q so p = so x p
+if_ok_at (Err e) P Q so p = tt
+
+pub if_err_at : {A E : Type 0} (r : Result A E) (P Q : E → Type 0) → ((x : E) → P x → Q x)
+    → IfErr r P → IfErr r Q
+if_err_at (Ok x) P Q so p = tt
+if_err_at (Err e) P Q so p = so e p
 
 -- the record that stands at the front, if one does
 pub begins_at : (bytes : List ℕ) (o : Option (read.Record × ℕ)) (r : read.Record) (n : ℕ)

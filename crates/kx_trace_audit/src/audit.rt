@@ -158,7 +158,10 @@ impl<B: Server> TraceAudit<B> {
     fn is_read(&self, reading: &Reading) -> bool
         ensures { IsTrue result ↔ IsRead reading.now }
     {
-        matches!(read_record(self.alloc, reading.unread()), Ok(None))
+        let found = read_record(self.alloc, reading.unread());
+        let is_read = matches!(found, Ok(None));
+        drop(found);
+        is_read
     }
 
     /// The first trace of which a record is left that was not made again, by its number. None is the

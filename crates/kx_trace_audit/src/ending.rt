@@ -1,7 +1,7 @@
 //! The end of a trace.
 
 /// Where a trace ends.
-#[derive(Clone, Copy, Debug, PartialEq, Eq)]
+#[derive(Clone, Copy)]
 pub(crate) enum Ending {
     /// It may have more bytes than were read.
     Unknown,

@@ -6,6 +6,7 @@ ghost use Rattle.kx_trace.specs.Reading.{More};
 ghost use Rattle.kx_trace.specs.Records.{Took, record_of};
 ghost use Rattle.kx_trace_audit.specs.Items.{AfterRefused, Begins, IsAfter, IsItem, ItemRefused};
 ghost use Rattle.kx_trace_audit.specs.Items.{NeedsItem, RecordRefused, refusal_of};
+ghost use Rattle.kx_trace_audit.specs.declared.ending.Ending.{Ending};
 ghost use Rattle.kx_varint.specs.Text.{IsBytes};
 
 use crate::ending::Ending;
@@ -105,6 +106,25 @@ fn after_end<'a>(ending: Ending) -> After<'a>
     }
 }
 
+// What a record of this length tells of the input before it.
+fn after_record<'a>(record: &Record<'a>, len: usize) -> Result<After<'a>, TraceRefusal>
+    ensures after { IfOk result (λ after. (bytes : List ℕ) (ending : Ending)
+        → Begins bytes (record_of record.now) len → IsAfter bytes ending after) }
+    ensures refused { IfErr result (λ refusal. (bytes : List ℕ)
+        → Begins bytes (record_of record.now) len → AfterRefused bytes refusal) }
+{
+    match record {
+        Record::Answered { mark, frames } => Ok(After::Answer {
+            mark: *mark,
+            frames: *frames,
+            len,
+        }),
+        Record::Untaken => Ok(After::Untaken(len)),
+        Record::Reopened { .. } => Ok(After::End),
+        Record::Took(_) => Err(TraceRefusal::Bytes),
+    }
+}
+
 // What stands at the front of these bytes, after an input.
 fn after_at(alloc: Global, bytes: &[u8], ending: Ending) -> Result<After<'_>, TraceRefusal>
     ensures after { IfOk result (IsAfter bytes.now ending) }
@@ -113,12 +133,9 @@ fn after_at(alloc: Global, bytes: &[u8], ending: Ending) -> Result<After<'_>, Tr
     let Some((record, len)) = record_at(alloc, bytes)? else {
         return Ok(after_end(ending));
     };
-    match record {
-        Record::Answered { mark, frames } => Ok(After::Answer { mark, frames, len }),
-        Record::Untaken => Ok(After::Untaken(len)),
-        Record::Reopened { .. } => Ok(After::End),
-        Record::Took(_) => Err(TraceRefusal::Bytes),
-    }
+    let after = after_record(&record, len);
+    drop(record);
+    after
 }
 
 // What is told of an input, whose record takes `len` bytes.
@@ -155,7 +172,10 @@ fn told_of_input(
             told: Telling::Unanswered(input),
             used: len,
         })),
-        After::Unknown => Ok(None),
+        After::Unknown => {
+            drop(input);
+            Ok(None)
+        }
     }
 }
 

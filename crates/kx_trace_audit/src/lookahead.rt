@@ -89,6 +89,7 @@ fn look_at(
     };
     let told = told_by(&record, restarts, log_len);
     let restarts = is_restart(&record);
+    drop(record);
     Ok(Some(Looked {
         told,
         restarts,
@@ -161,7 +162,11 @@ pub(crate) fn epoch_stood(
     ensures { MatchResult result (EpochIsTold log_len ending bytes.now) (RestRefused bytes.now) }
 {
     match record_at(alloc, bytes)? {
-        Some((record, _)) => Ok(Some(written_by(&record, log_len))),
+        Some((record, _)) => {
+            let is_written = written_by(&record, log_len);
+            drop(record);
+            Ok(Some(is_written))
+        }
         None => Ok(written_at(ending, log_len)),
     }
 }

@@ -32,7 +32,7 @@ use kx_trace::{TraceFault, put_frames};
 use std::alloc::{AllocError, Global};
 
 /// What became of the next item of a trace, and how many bytes told it, which are done with.
-#[derive(Clone, Copy, Debug, PartialEq, Eq)]
+#[derive(Clone, Copy)]
 pub(crate) struct Stepped {
     pub(crate) progress: Progress,
     pub(crate) used: usize,
@@ -347,5 +347,7 @@ pub(crate) fn go_on<B: Server>(
     let Some(item) = item_at(alloc, unread, ending)? else {
         return Ok(needs_more());
     };
-    take_item(alloc, follower, node, &item, &unread[item.used..], ending)
+    let stepped = take_item(alloc, follower, node, &item, &unread[item.used..], ending);
+    drop(item);
+    stepped
 }

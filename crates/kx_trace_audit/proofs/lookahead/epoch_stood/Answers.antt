@@ -16,7 +16,7 @@ returns-in-Some c =
     let begins = begins_at bytes c.in_ok-record.field-0 c.in-Some.record c.in-Some.field-0-1
     c.in-Some.is c.in_ok-record.ensures.read in
     subst (λ (stood : Bool). EpochIsTold c.args.log_len c.args.ending bytes (Some stood))
-    (sym c.written_by.ensures) (ByRecord r (drop c.in-Some.field-0-1 bytes) begins.text_is)
+    (sym c.written_by-is_written.ensures) (ByRecord r (drop c.in-Some.field-0-1 bytes) begins.text_is)
 
 pub returns-in-None : goal.returns-in-None
 returns-in-None c =

@@ -25,6 +25,6 @@ returns-in_default-clause-steps g c = λ history made n there.
 pub returns-clause-steps : goal.returns-clause-steps
 returns-clause-steps g c = λ history made n there.
     let bytes = c.args.unread.now in
-    c.take_item.ensures.steps bytes
+    c.take_item-stepped.ensures.steps bytes
     (when_some (NeedsItem bytes c.args.ending) (IsItem bytes) c.in_ok-item.field-0 c.in-Some.item
     c.in-Some.is c.in_ok-item.ensures) (take_rest bytes c.in-Some.item.used) history made n there
