@@ -7,7 +7,7 @@ use std::alloc::AllocError;
 use thiserror::Error;
 
 /// Why nodes aren't followed. Nothing of them is kept then.
-#[derive(Clone, Copy, Debug, Drop, Error)]
+#[derive(Clone, Copy, Debug, PartialEq, Eq, Drop, Error)]
 pub enum FollowFault {
     /// Two of the nodes have one name.
     #[error("two nodes have one name")]

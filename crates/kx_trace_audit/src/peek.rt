@@ -1,7 +1,9 @@
 //! The step of which a trace tells next.
-ghost use Rattle.std.specs.Prelude.{IfOk, IfSome};
+ghost use Rattle.std.specs.Prelude.{◌≡◌, IfOk, IfSome, MatchOption};
 ghost use Rattle.kx_trace_audit.specs.Items.{told_of};
 ghost use Rattle.kx_trace_audit.specs.Peeking.{IsInput, IsNext};
+ghost use Rattle.kx_trace_audit.specs.Stepping.{IsUntaken};
+ghost use Rattle.kx_trace_audit.specs.Told.{input_in};
 
 use crate::audit::TraceAudit;
 use crate::item::{Telling, item_at};
@@ -31,6 +33,17 @@ fn input_of(told: Telling<'_>) -> Option<Input>
     }
 }
 
+// The step that is told, if its input was taken.
+fn told_step(told: Telling<'_>, store: StoreMode) -> Option<ToldStep>
+    ensures { MatchOption result (IsUntaken (told_of told))
+        (λ step. (step.input ≡ input_in (told_of told)) × (step.store ≡ store)) }
+{
+    match input_of(told) {
+        Some(input) => Some(ToldStep { input, store }),
+        None => None,
+    }
+}
+
 impl<B: Server> TraceAudit<B> {
     /// The step of which the trace of this number tells next, which [`go`](TraceAudit::go) makes again
     /// if it can be made now; None where nothing more is told, an input was not taken, or more bytes
@@ -50,14 +63,19 @@ impl<B: Server> TraceAudit<B> {
             return Ok(None);
         };
         let rest = &unread[item.used..];
-        let stood = has_stood(self.alloc, &self.follower, trace, &item.told, rest, ending)?;
-        let Some(stood) = stood else {
-            return Ok(None);
-        };
-        let store = mode_for(&item.told, stood);
-        match input_of(item.told) {
-            Some(input) => Ok(Some(ToldStep { input, store })),
-            None => Ok(None),
+        match has_stood(self.alloc, &self.follower, trace, &item.told, rest, ending) {
+            Ok(Some(stood)) => {
+                let store = mode_for(&item.told, stood);
+                Ok(told_step(item.told, store))
+            }
+            Ok(None) => {
+                drop(item);
+                Ok(None)
+            }
+            Err(refusal) => {
+                drop(item);
+                Err(refusal)
+            }
         }
     }
 }

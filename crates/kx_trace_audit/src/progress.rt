@@ -1,7 +1,7 @@
 //! How an audit goes on.
 
 /// What became of the next item of a trace.
-#[derive(Clone, Copy)]
+#[derive(Clone, Copy, Debug, PartialEq, Eq)]
 pub enum Progress {
     /// One more step was made again, and sent this many messages.
     Made { sent: usize },

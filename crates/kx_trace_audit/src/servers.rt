@@ -3,7 +3,7 @@ use kx_audit::Remade;
 use kx_trace::TracedNode;
 
 /// The node that a trace is of, and what is known of the node's log.
-#[derive(Clone, Copy)]
+#[derive(Clone, Copy, Debug, PartialEq, Eq)]
 pub struct TraceOf {
     /// The node that the trace's head names.
     pub node: TracedNode,
