@@ -107,13 +107,13 @@ fn after_end<'a>(ending: Ending) -> After<'a>
 }
 
 // What a record of this length tells of the input before it.
-fn after_record<'a>(record: &Record<'a>, len: usize) -> Result<After<'a>, TraceRefusal>
+fn after_record<'a>(next: &Record<'a>, len: usize) -> Result<After<'a>, TraceRefusal>
     ensures after { IfOk result (λ after. (bytes : List ℕ) (ending : Ending)
-        → Begins bytes (record_of record.now) len → IsAfter bytes ending after) }
+        → Begins bytes (record_of next.now) len → IsAfter bytes ending after) }
     ensures refused { IfErr result (λ refusal. (bytes : List ℕ)
-        → Begins bytes (record_of record.now) len → AfterRefused bytes refusal) }
+        → Begins bytes (record_of next.now) len → AfterRefused bytes refusal) }
 {
-    match record {
+    match next {
         Record::Answered { mark, frames } => Ok(After::Answer {
             mark: *mark,
             frames: *frames,
