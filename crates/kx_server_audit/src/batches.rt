@@ -91,5 +91,7 @@ pub(crate) fn holds_batches(
     };
     // Each batch stands in its place.
     let _end = log.end();
-    Ok(same_batches(batches, log.batches()))
+    let same = same_batches(batches, log.batches());
+    drop(log);
+    Ok(same)
 }

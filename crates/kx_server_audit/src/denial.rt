@@ -7,7 +7,7 @@ use kx_trace_audit::TraceRefusal;
 use std::alloc::AllocError;
 
 /// Where and why an audit says no.
-#[derive(Clone, Copy, Debug)]
+#[derive(Clone, Copy)]
 pub enum Denial {
     /// At an item of a node's trace, by its number, counted from 1.
     Item {

@@ -121,5 +121,7 @@ pub(crate) fn holds_entries(
     let Some(log) = entry_log(alloc, bytes)? else {
         return Ok(false);
     };
-    same_entries(alloc, entries, log.entries())
+    let same = same_entries(alloc, entries, log.entries());
+    drop(log);
+    same
 }
