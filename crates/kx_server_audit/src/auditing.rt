@@ -26,7 +26,7 @@ use std::io::Read;
 const STEPS_TOLD: u64 = 1 << 20;
 
 /// Where an audit refuses, and why.
-#[derive(Clone, Copy)]
+#[derive(Clone, Copy, Debug)]
 pub struct Refused {
     /// The number of the trace, counted from 0.
     pub trace: usize,
@@ -36,7 +36,7 @@ pub struct Refused {
 }
 
 /// How an audit ends that isn't a yes.
-#[derive(Clone, Copy)]
+#[derive(Clone, Copy, Debug)]
 pub enum Ending {
     /// The audit refuses.
     Refused(Refused),

@@ -7,7 +7,7 @@ use kx_machines::{BrokerMachine, LocalStore};
 use kx_txnlog::{Entry, State};
 
 /// How many steps were made again, and how many messages they sent: each at most 2^64 - 1.
-#[derive(Clone, Copy)]
+#[derive(Clone, Copy, Debug, PartialEq, Eq)]
 pub struct Counts {
     pub steps: u64,
     pub messages: u64,

@@ -7,7 +7,7 @@ use kx_trace_audit::TraceRefusal;
 use std::alloc::AllocError;
 
 /// Where and why an audit says no.
-#[derive(Clone, Copy)]
+#[derive(Clone, Copy, Debug)]
 pub enum Denial {
     /// At an item of a node's trace, by its number, counted from 1.
     Item {
@@ -37,7 +37,7 @@ impl Denial {
 }
 
 /// Why an audit ends that isn't a yes.
-#[derive(Clone, Copy)]
+#[derive(Clone, Copy, Debug)]
 pub(crate) enum Stop {
     /// The audit says no.
     No(Denial),

@@ -7,7 +7,7 @@ use std::fmt;
 use std::fmt::{Display, Formatter};
 
 /// A file that a server wrote for one of its nodes.
-#[derive(Clone, Copy, Debug)]
+#[derive(Clone, Copy, Debug, PartialEq, Eq)]
 pub enum AuditFile {
     /// The node's trace: `co.trace`, `p0.trace` and so on, or `po.trace`.
     Trace(TracedNode),

@@ -18,7 +18,7 @@ use std::fs::{File, Files};
 use std::io::Write;
 
 /// What is audited.
-#[derive(Clone, Copy)]
+#[derive(Clone, Copy, Debug)]
 pub struct AuditOptions<'a> {
     /// The folder with the traces.
     pub traces: &'a str,

@@ -14,7 +14,7 @@ use kx_trace_audit::Server;
 use std::alloc::{AllocError, Global};
 
 /// A node of a server, which is made with an empty log in memory.
-#[derive(Clone, Copy)]
+#[derive(Clone, Copy, Debug)]
 pub struct ServerNode {
     /// The node, as its trace names it.
     pub node: TracedNode,

@@ -21,7 +21,7 @@ pub struct ToldStep {
 
 // The input that is told, unless it was not taken.
 fn input_of(told: Telling<'_>) -> Option<Input>
-    ensures { IsInput (told_of told) result }
+    ensures { IsInput (told_of told.entry) result }
 {
     match told {
         Telling::Answered { input, .. } | Telling::Unanswered(input) => Some(input),
@@ -35,8 +35,8 @@ fn input_of(told: Telling<'_>) -> Option<Input>
 
 // The step that is told, if its input was taken.
 fn told_step(told: Telling<'_>, store: StoreMode) -> Option<ToldStep>
-    ensures { MatchOption result (IsUntaken (told_of told))
-        (λ step. (step.input ≡ input_in (told_of told)) × (step.store ≡ store)) }
+    ensures { MatchOption result (IsUntaken (told_of told.entry))
+        (λ step. (step.input ≡ input_in (told_of told.entry)) × (step.store ≡ store)) }
 {
     match input_of(told) {
         Some(input) => Some(ToldStep { input, store }),
