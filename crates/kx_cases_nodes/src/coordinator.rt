@@ -65,7 +65,7 @@ fn told_rows(alloc: Global, rows: &[Row]) -> Result<String, StepFault> {
 
 // What was sent.
 fn handed(alloc: Global, sent: Result<Vec<Message>, AllocError>) -> Result<String, StepFault> {
-    told_messages(alloc, sent?.as_slice())
+    told_messages(alloc, sent?)
 }
 
 // The messages of an opening, or why there is none.
@@ -74,7 +74,7 @@ fn reopened(
     opened: Result<Vec<Message>, RestartFault>,
 ) -> Result<String, StepFault> {
     match opened {
-        Ok(messages) => told_messages(alloc, messages.as_slice()),
+        Ok(messages) => told_messages(alloc, messages),
         Err(RestartFault::Unopened(fault)) => told_name(alloc, fault),
         Err(RestartFault::Unwritten) => told_name(alloc, OpenFault::Device),
     }
@@ -187,7 +187,7 @@ impl CoordinatorNode {
         match Coordinator::open(self.alloc, store, 0) {
             Ok((running, messages)) => {
                 drop(mem::replace(&mut self.running, Some(running)));
-                told_messages(self.alloc, messages.as_slice())
+                told_messages(self.alloc, messages)
             }
             Err((fault, store)) => {
                 drop(mem::replace(&mut self.left, Some(store)));

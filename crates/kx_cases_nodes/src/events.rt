@@ -1,7 +1,7 @@
 //! Events that happen in a world, and what its readers tell. What each step means stands at the
 //! head of `events.cases`.
 use crate::lines::tell_on_one_line;
-use crate::parts::{nothing, or_dash, tell_message};
+use crate::parts::{last_message, nothing, or_dash, tell_message};
 use crate::shown::shown;
 use crate::words::{client, partition};
 use kx_cases::{StepFault, Subject, Texts, known, told_value, value};
@@ -16,7 +16,6 @@ use kx_outside::OutsideRequest;
 use kx_processor::Prefixed;
 use kx_script::write_rows;
 use kx_txnlog::Row;
-use kx_wire::Frames;
 use std::alloc::{AllocError, Global};
 use std::mem;
 
@@ -138,15 +137,10 @@ fn hand(alloc: Global, to: &str, given: &[&str]) -> Result<Event<Prefixed>, Step
 
 // A request arrives from outside, in this frame; none where no client may send the message.
 fn arrive(alloc: Global, frame: &[u8]) -> Result<Option<Event<Prefixed>>, StepFault> {
-    let mut frames = Frames::new(alloc);
-    let mut messages = frames.feed(frame).map_err(|_| StepFault::Unknown)?;
-    let Some(message) = messages.pop() else {
-        return Err(StepFault::Unknown);
-    };
-    let Some(request) = OutsideRequest::new(message) else {
-        return Ok(None);
-    };
-    Ok(Some(Event::Arrive { request }))
+    match OutsideRequest::new(last_message(alloc, frame)?) {
+        Some(request) => Ok(Some(Event::Arrive { request })),
+        None => Ok(None),
+    }
 }
 
 // Tells the messages that were sent, from a number on, each as RECEIVER TEXT.

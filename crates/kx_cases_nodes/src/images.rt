@@ -1,12 +1,11 @@
 //! A processor whose images may be too large for a batch. What each step means stands at the head
 //! of `images.cases`.
-use crate::parts::{nothing, told_messages};
+use crate::parts::{last_message, nothing, told_messages};
 use crate::words::client;
 use kx_cases::{StepFault, Subject, Texts, known, told_name, value};
 use kx_client::{ClientFault, ProducerClient};
 use kx_message::{GroupId, Message, Timeout, TxnId};
 use kx_processor::{Inputs, Prefixed, Processor};
-use kx_wire::Frames;
 use std::alloc::Global;
 use std::mem;
 
@@ -22,7 +21,7 @@ pub(crate) struct ImageCases {
 // The requests that are sent, or why they aren't.
 fn told_sent(alloc: Global, sent: Result<Vec<Message>, ClientFault>) -> Result<String, StepFault> {
     match sent {
-        Ok(sent) => told_messages(alloc, sent.as_slice()),
+        Ok(sent) => told_messages(alloc, sent),
         Err(fault) => told_name(alloc, fault),
     }
 }
@@ -39,14 +38,6 @@ fn told_one(alloc: Global, sent: Result<Message, ClientFault>) -> Result<String,
     match sent {
         Ok(message) => told_last(alloc, message),
         Err(fault) => told_name(alloc, fault),
-    }
-}
-
-// The message of bytes that are one frame.
-fn message_of(alloc: Global, bytes: &[u8]) -> Result<Message, StepFault> {
-    match Frames::new(alloc).feed(bytes) {
-        Ok(mut messages) => messages.pop().ok_or(StepFault::Unknown),
-        Err(_) => Err(StepFault::Unknown),
     }
 }
 
@@ -93,7 +84,7 @@ impl ImageCases {
             ["poll"] => told_sent(alloc, processor.poll()),
             ["resend"] => told_sent(alloc, processor.resend()),
             ["take", frame] => {
-                let reply = message_of(alloc, texts.bytes(frame)?.as_slice())?;
+                let reply = last_message(alloc, texts.bytes(frame)?.as_slice())?;
                 taken(alloc, processor, reply)
             }
             _ => Err(StepFault::Unknown),

@@ -116,7 +116,10 @@ fn end_of(alloc: Global, bytes: Vec<u8>) -> Result<String, StepFault> {
             drop(kept);
             told_value(alloc, end)
         }
-        Err((fault, _)) => told_name(alloc, fault),
+        Err((fault, store)) => {
+            drop(store);
+            told_name(alloc, fault)
+        }
     }
 }
 
@@ -144,7 +147,10 @@ impl PartitionNode {
                 drop(mem::replace(&mut self.kept, Some(kept)));
                 told
             }
-            Err((fault, _)) => told_name(self.alloc, fault),
+            Err((fault, store)) => {
+                drop(store);
+                told_name(self.alloc, fault)
+            }
         }
     }
 

@@ -1,6 +1,7 @@
 //! Answers that are alike in several steps.
 use kx_cases::{StepFault, told_name, told_value};
 use kx_message::Message;
+use kx_wire::Frames;
 use std::alloc::{AllocError, Global};
 use std::fmt::Debug;
 
@@ -45,9 +46,25 @@ fn tell_messages(told: &mut String, messages: &[Message]) -> Result<(), AllocErr
     or_dash(told)
 }
 
-/// The messages that were sent, each as `RECEIVER TEXT`, or `-` for none.
-pub fn told_messages(alloc: Global, messages: &[Message]) -> Result<String, StepFault> {
+fn told_each(alloc: Global, messages: &[Message]) -> Result<String, StepFault> {
     let mut told = String::new(alloc);
     tell_messages(&mut told, messages)?;
     Ok(told)
+}
+
+/// The messages that were sent, each as `RECEIVER TEXT`, or `-` for none.
+pub fn told_messages(alloc: Global, messages: Vec<Message>) -> Result<String, StepFault> {
+    let told = told_each(alloc, messages.as_slice());
+    drop(messages);
+    told
+}
+
+/// The last message of those that bytes bring, if they bring one.
+pub fn last_message(alloc: Global, bytes: &[u8]) -> Result<Message, StepFault> {
+    let Ok(mut messages) = Frames::new(alloc).feed(bytes) else {
+        return Err(StepFault::Unknown);
+    };
+    let last = messages.pop();
+    drop(messages);
+    last.ok_or(StepFault::Unknown)
 }

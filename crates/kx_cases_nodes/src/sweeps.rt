@@ -102,7 +102,9 @@ fn tear_in<'a>(
 fn torn(alloc: Global, script: &str, keep: u64, writer: &mut Vec<u8>) -> Result<(), StepFault> {
     let mut lines = script.split('\n');
     let mut running = world_of(alloc, lines.next().unwrap_or(""))?;
-    tear_in(alloc, &mut running, lines, keep, writer)
+    let torn = tear_in(alloc, &mut running, lines, keep, writer);
+    drop(running);
+    torn
 }
 
 // Tells the same on one line.
