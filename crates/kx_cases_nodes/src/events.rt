@@ -6,7 +6,7 @@ use crate::shown::shown;
 use crate::words::{client, partition};
 use kx_cases::{StepFault, Subject, Texts, known, told_value, value};
 use kx_client::{ValueList, Values};
-use kx_core::{Config, Event, LocalWorld, PartitionCount, RunFault};
+use kx_core::{Config, Event, LocalWorld, PartitionCount, RunFault, Sent};
 use kx_machine::{Command, Input, StoreMode};
 use kx_message::{
     Bytes, ErrorCode, GroupId, NodeId, Offsets, Outcome, PartitionId, PartitionOffset, Timeout,
@@ -144,10 +144,10 @@ fn arrive(alloc: Global, frame: &[u8]) -> Result<Option<Event<Prefixed>>, StepFa
 }
 
 // Tells the messages that were sent, from a number on, each as RECEIVER TEXT.
-fn tell_sent(told: &mut String, world: &Local, first: usize) -> Result<(), AllocError> {
+fn tell_sent(told: &mut String, sent: &Sent, first: usize) -> Result<(), AllocError> {
     let mut parted = "";
-    for number in first..world.sent().len() {
-        if let Some(message) = world.sent().get(number) {
+    for number in first..sent.len() {
+        if let Some(message) = sent.get(number) {
             tell_message(told, parted, message)?;
             parted = "; ";
         }
@@ -218,7 +218,7 @@ fn read_size(told: &mut String, world: &Local, words: &[&str]) -> Result<(), Ste
 // Tells what a reader of the world tells.
 fn read(alloc: Global, told: &mut String, world: &Local, words: &[&str]) -> Result<(), StepFault> {
     let done = match words {
-        ["sent", first] => tell_sent(told, world, value(first)?),
+        ["sent", first] => tell_sent(told, world.sent(), value(first)?),
         ["lso", number] => tell_offset(told, world.last_stable_offset(partition(number)?)),
         ["group", group] => tell_members(told, world, value(group)?),
         ["committed", given @ ..] => tell_committed(told, committed(world, given)?),

@@ -1,7 +1,7 @@
 //! Scripts in which an append fails and leaves a part of its bytes.
 use crate::lines::tell_on_one_line;
 use kx_cases::{Runs, StepFault, known, value};
-use kx_core::Event;
+use kx_core::{Event, Sent};
 use kx_machine::StoreMode;
 use kx_message::NodeId;
 use kx_script::{Running, ScriptWorld, answer_in, world_in, write_dash, write_message};
@@ -31,17 +31,16 @@ fn carry_out(
 
 // Writes the messages from a number on, a line each.
 fn write_from(
-    world: &ScriptWorld,
+    sent: &Sent,
     first: usize,
     from: &NodeId,
     writer: &mut Vec<u8>,
 ) -> Result<(), StepFault> {
-    let sent = world.sent().len();
-    if sent <= first {
+    if sent.len() <= first {
         return known(write_dash(writer));
     }
-    for number in first..sent {
-        if let Some(message) = world.sent().get(number) {
+    for number in first..sent.len() {
+        if let Some(message) = sent.get(number) {
             known(write_message(writer, number, from, message))?;
         }
     }
@@ -74,7 +73,7 @@ fn tear(
     if !fails(world, number, to, keep)? {
         return Err(StepFault::Unknown);
     }
-    write_from(world, first, &to, writer)
+    write_from(world.sent(), first, &to, writer)
 }
 
 // Carries lines out, the line `tear K` so that it leaves this many bytes; what was written before
