@@ -4,15 +4,17 @@ use crate::fault::AuditFault;
 use crate::file::AuditFile;
 use crate::server::{AuditOptions, find};
 use crate::server_node::ServerNode;
+use crate::sources::Source;
 use crate::traces::{Traces, read_fault};
 use kx_machine::{Input, StoreMode};
 use kx_message::NodeId;
 use kx_nodes::Made;
 use kx_trace::TracedNode;
-use kx_trace_audit::{Progress, ToldStep, TraceAudit, TraceRefusal};
+use kx_trace_audit::{Progress, ToldStep, TraceAudit, TraceOf, TraceRefusal};
 use std::alloc::{AllocError, Global};
 use std::fs::{File, Files};
-use std::io::Read;
+use std::io;
+use std::io::{ErrorKind, Read};
 
 /// A step of a server's node: what it took, and what its store did meanwhile.
 #[derive(Drop)]
@@ -81,36 +83,53 @@ fn go_all(
     Ok(())
 }
 
-// Feeds all bytes of a trace.
-fn feed_all<I: Read + Drop>(
+// Feeds all bytes that a reader gives.
+fn feed_all<I: Read>(
     alloc: Global,
     audit: &mut TraceAudit<ServerNode>,
     trace: usize,
-    node: TracedNode,
     reader: &mut I,
-) -> Result<(), AuditFault> {
+) -> io::Result<()> {
     let mut bytes = Vec::new(alloc);
-    if let Err(error) = reader.read_to_end(&mut bytes) {
-        return Err(read_fault(AuditFile::Trace(node), error.kind()));
-    }
+    reader.read_to_end(&mut bytes)?;
     audit.feed(trace, bytes.as_slice())?;
     audit.feed(trace, &[])?;
     Ok(())
 }
 
-// Feeds all bytes of the traces.
+// Feeds all bytes of the traces, and notes up to which trace it came.
 fn feed_traces(
+    alloc: Global,
+    audit: &mut TraceAudit<ServerNode>,
+    sources: &mut Vec<Source<File>>,
+    last: &mut usize,
+) -> io::Result<()> {
+    for trace in 0..sources.len() {
+        *last = trace;
+        feed_all(alloc, audit, trace, &mut sources[trace].reader)?;
+    }
+    Ok(())
+}
+
+// Why the trace of this number can't be read.
+fn fault_at(of: &[TraceOf], trace: usize, kind: ErrorKind) -> AuditFault {
+    match of.get(trace) {
+        Some(one) => read_fault(AuditFile::Trace(one.node), kind),
+        None => AuditFault::NoTraces,
+    }
+}
+
+// Feeds all bytes of traces that were found.
+fn feed_found(
     alloc: Global,
     audit: &mut TraceAudit<ServerNode>,
     traces: &mut Traces<File>,
 ) -> Result<(), AuditFault> {
-    for trace in 0..traces.sources.len() {
-        if let Some(of) = traces.of.get(trace) {
-            let node = of.node;
-            feed_all(alloc, audit, trace, node, &mut traces.sources[trace].reader)?;
-        }
+    let mut last = 0;
+    match feed_traces(alloc, audit, &mut traces.sources, &mut last) {
+        Ok(()) => Ok(()),
+        Err(error) => Err(fault_at(traces.of.as_slice(), last, error.kind())),
     }
-    Ok(())
 }
 
 // The nodes of the traces.
@@ -129,7 +148,7 @@ fn steps_in(alloc: Global, mut traces: Traces<File>) -> Result<Vec<ServerStep>, 
     let Ok(mut audit) = TraceAudit::<ServerNode>::new(alloc, traces.of.as_slice()) else {
         return Err(AuditFault::Memory);
     };
-    let fed = feed_traces(alloc, &mut audit, &mut traces);
+    let fed = feed_found(alloc, &mut audit, &mut traces);
     drop(traces);
     if fed.is_ok() {
         let _ = go_all(&mut audit, names.as_slice(), &mut steps);
