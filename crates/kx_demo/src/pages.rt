@@ -44,5 +44,7 @@ pub fn write_page<W: Write>(alloc: Global, run: &Found, out: &mut W) -> Result<(
     ensures fault { IfErr result (λ fault. (fault ≡ Memory) ⊎ (fault ≡ Page)) }
 {
     let drawn = drawn(alloc, run)?;
-    write_drawn(alloc, &drawn, out)
+    let wrote = write_drawn(alloc, &drawn, out);
+    drop(drawn);
+    wrote
 }
