@@ -31,28 +31,18 @@ fn watch_all<F: Process + Copy>(
     Ok(())
 }
 
-// Events happen in a world, and are recorded with the logs to which they led.
-fn watch_world<F: Process + Copy>(
-    alloc: Global,
-    recorder: &mut Recorder,
-    world: &mut LocalWorld<F>,
-    events: &[Event<F>],
-) -> Result<(), AllocError>
-    ensures { OnOk result (length recorder.new ≡ length recorder.old + length events.now) }
-{
-    watch_all(recorder, world, events)?;
-    add_logs(alloc, recorder, world)
-}
-
-// The recorder of events that happen in a world of all data partitions.
+// The recorder of events that happen in a world of all data partitions, and of the logs to which they
+// lead.
 fn recorded<F: Process + Copy>(alloc: Global, events: &[Event<F>]) -> Result<Recorder, AllocError>
     ensures { IfOk result (λ recorder. length recorder ≡ length events.now) }
 {
     let mut recorder = Recorder::new(alloc);
     let mut world = whole_world(alloc)?;
-    let watched = watch_world(alloc, &mut recorder, &mut world, events);
+    let watched = watch_all(&mut recorder, &mut world, events);
+    let added = add_logs(alloc, &mut recorder, &world);
     drop(world);
     watched?;
+    added?;
     Ok(recorder)
 }
 

@@ -20,13 +20,8 @@ fn happen(
     Ok(())
 }
 
-// Carries a line out that is no event, of which nothing is shown; false where it is bad.
-fn perform(alloc: Global, running: &mut Running, line: &[u8]) -> Result<bool, ScriptFault> {
-    let mut unseen: Vec<u8> = Vec::new(alloc);
-    answer_in(alloc, running, line, &mut unseen)
-}
-
-// Carries a line out in a world, and watches its event if it is one; false where it is bad.
+// Carries a line out in a world, and watches its event if it is one; false where it is bad. Of a line
+// that is no event nothing is shown.
 fn take_line(
     alloc: Global,
     recorder: &mut Recorder,
@@ -35,13 +30,18 @@ fn take_line(
 ) -> Result<bool, ScriptFault> {
     match event_in(alloc, running, line) {
         Some(Ok(read)) => {
-            if happen(recorder, running, &read).is_err() {
-                return Err(ScriptFault::Memory);
+            let happened = happen(recorder, running, &read);
+            drop(read);
+            match happened {
+                Ok(()) => Ok(true),
+                Err(_) => Err(ScriptFault::Memory),
             }
-            Ok(true)
         }
         Some(Err(_)) => Err(ScriptFault::Memory),
-        None => perform(alloc, running, line),
+        None => {
+            let mut unseen: Vec<u8> = Vec::new(alloc);
+            answer_in(alloc, running, line, &mut unseen)
+        }
     }
 }
 
@@ -60,21 +60,8 @@ fn take_lines(
     Ok(())
 }
 
-// Watches the lines after the first of a script, and then the logs to which they led.
-fn watched(
-    alloc: Global,
-    recorder: &mut Recorder,
-    running: &mut Running,
-    script: &[u8],
-) -> Result<(), ScriptFault> {
-    take_lines(alloc, recorder, running, script)?;
-    match add_logs(alloc, recorder, &running.world) {
-        Ok(()) => Ok(()),
-        Err(_) => Err(ScriptFault::Memory),
-    }
-}
-
-// Watches the lines of a script after the one that makes its world.
+// Watches the lines of a script after the one that makes its world, and then the logs to which they
+// led.
 fn watch_world(
     alloc: Global,
     recorder: &mut Recorder,
@@ -84,9 +71,14 @@ fn watch_world(
     let Ok(mut running) = Running::new(alloc, count) else {
         return Err(ScriptFault::Memory);
     };
-    let done = watched(alloc, recorder, &mut running, script);
+    let taken = take_lines(alloc, recorder, &mut running, script);
+    let added = add_logs(alloc, recorder, &running.world);
     drop(running);
-    done
+    taken?;
+    match added {
+        Ok(()) => Ok(()),
+        Err(_) => Err(ScriptFault::Memory),
+    }
 }
 
 // The bytes of a script without the empty lines that it begins with.

@@ -46,6 +46,26 @@ fn request_in(input: &Input) -> Result<Option<OutsideRequest>, AllocError>
     }
 }
 
+// The event that a node takes an input that no client sent.
+fn event_of(
+    transit: &mut Transit,
+    to: NodeId,
+    input: &Input,
+    store: StoreMode,
+) -> Result<Event<Prefixed>, AllocError> {
+    match input {
+        Input::Deliver(message) => {
+            let number = transit.arrive(message)?.unwrap_or(usize::MAX);
+            Ok(Event::Deliver { number, to, store })
+        }
+        other => Ok(Event::Hand {
+            to,
+            input: other.clone()?,
+            store,
+        }),
+    }
+}
+
 impl ServerWatch {
     /// A server of all data partitions, of which no step was made.
     ///
@@ -63,74 +83,17 @@ impl ServerWatch {
         })
     }
 
-    // A client's request arrives from outside. Answers its number among the messages.
-    fn arrive(&mut self, request: OutsideRequest) -> Result<usize, AllocError>
+    // An event happens, and what is sent in it is on its way.
+    fn happen(&mut self, event: Event<Prefixed>) -> Result<(), AllocError>
         ensures { OnOk result (AddsSteps 1 self.old self.new) }
     {
-        let event = Event::Arrive { request };
         let watched = watch(&mut self.recorder, &mut self.world, &event);
         drop(event);
         watched?;
-        Ok(self.world.sent().len().saturating_sub(1))
-    }
-
-    // An event happens at a node, and what it sends is on its way.
-    fn happen(&mut self, event: &Event<Prefixed>) -> Result<(), AllocError>
-        ensures { OnOk result (AddsSteps 1 self.old self.new) }
-    {
-        watch(&mut self.recorder, &mut self.world, event)?;
         let sent = self.world.sent();
         let last = sent.last();
-        self.transit
-            .add(sent.len().saturating_sub(last.len()), last)
-    }
-
-    // The event that a node takes an input that no client sent.
-    fn event_of(
-        &mut self,
-        to: NodeId,
-        input: &Input,
-        store: StoreMode,
-    ) -> Result<Event<Prefixed>, AllocError>
-        ensures { self.new ≡ self.old }
-    {
-        match input {
-            Input::Deliver(message) => {
-                let number = self.transit.arrive(message)?.unwrap_or(usize::MAX);
-                Ok(Event::Deliver { number, to, store })
-            }
-            other => Ok(Event::Hand {
-                to,
-                input: other.clone()?,
-                store,
-            }),
-        }
-    }
-
-    // A node takes what a client outside sends.
-    fn take_request(
-        &mut self,
-        to: NodeId,
-        request: OutsideRequest,
-        store: StoreMode,
-    ) -> Result<(), AllocError>
-        ensures { OnOk result (AddsSteps 2 self.old self.new) }
-    {
-        let number = self.arrive(request)?;
-        let event = Event::Deliver { number, to, store };
-        let happened = self.happen(&event);
-        drop(event);
-        happened
-    }
-
-    // A node takes what no client sent.
-    fn take_other(&mut self, to: NodeId, input: &Input, store: StoreMode) -> Result<(), AllocError>
-        ensures { OnOk result (AddsSteps 1 self.old self.new) }
-    {
-        let event = self.event_of(to, input, store)?;
-        let happened = self.happen(&event);
-        drop(event);
-        happened
+        let first = sent.len().saturating_sub(last.len());
+        self.transit.add(first, last)
     }
 
     /// A node takes an input, while its store does this. A client's request is sent by a client
@@ -144,8 +107,15 @@ impl ServerWatch {
         ensures { OnOk result (AddsSteps (steps_of input.now) self.old self.new) }
     {
         match request_in(input)? {
-            Some(request) => self.take_request(to, request, store),
-            None => self.take_other(to, input, store),
+            Some(request) => {
+                let number = self.world.sent().len();
+                self.happen(Event::Arrive { request })?;
+                self.happen(Event::Deliver { number, to, store })
+            }
+            None => {
+                let event = event_of(&mut self.transit, to, input, store)?;
+                self.happen(event)
+            }
         }
     }
 

@@ -1,20 +1,26 @@
-use Rattle.std.proofs.Common.{◌≡◌, ◌∙◌, Bool, ap, false, is_some, subst, sym, true}
+use Rattle.std.proofs.Common.{◌≡◌, ◌∙◌, Bool, List, ap, false, is_some, subst, sym, true}
+use Rattle.std.proofs.lemmas.Result.{on_ok_weaker}
 use Rattle.std.specs.Prelude.{OnOk, if◌then◌else◌}
+use Rattle.kx_page.specs.declared.run.Step.{Step}
 use Rattle.kx_watch.specs.Steps.{AddsSteps, is_outside}
+use Rattle.kx_watch.proofs.Counting.{then_more}
 use Rattle.kx_watch.proofs.server.ServerWatch.take.Goals as goal
 
-pub returns-in-Some : goal.returns-in-Some
-returns-in-Some c =
+pub returns-in_ok-happen-in-Some : goal.returns-in_ok-happen-in-Some
+returns-in_ok-happen-in-Some c =
     let outside : true ≡ is_outside c.args.input.now =
     sym (ap is_some c.in-Some.is) ∙ c.in_ok-request.ensures in
-    subst (λ (b : Bool). OnOk c.take_request.result
-    (AddsSteps (if b then 2 else 1) c.args.self.now c.take_request.new.self)) outside
-    c.take_request.ensures
+    let first : AddsSteps 1 c.args.self.now c.happen.new.self = c.in_ok-happen-in-Some.ensures in
+    subst (λ (b : Bool). OnOk c.happen-in-Some.result
+    (AddsSteps (if b then 2 else 1) c.args.self.now c.happen-in-Some.new.self)) outside
+    (on_ok_weaker c.happen-in-Some.result (λ one. then_more 1 1 _ _ _ first one)
+    c.happen-in-Some.ensures)
 
-pub returns-in-None : goal.returns-in-None
-returns-in-None c =
+pub returns-in_ok-event-in-None : goal.returns-in_ok-event-in-None
+returns-in_ok-event-in-None c =
     let inside : false ≡ is_outside c.args.input.now =
     sym (ap is_some c.in-None.is) ∙ c.in_ok-request.ensures in
-    subst (λ (b : Bool). OnOk c.take_other.result
-    (AddsSteps (if b then 2 else 1) c.args.self.now c.take_other.new.self)) inside
-    c.take_other.ensures
+    subst (λ (b : Bool). OnOk c.happen-in-None.result
+    (AddsSteps (if b then 2 else 1) c.args.self.now c.happen-in-None.new.self)) inside
+    (subst (λ (s : List Step). OnOk c.happen-in-None.result
+    (AddsSteps 1 s c.happen-in-None.new.self)) c.self-in-None.view_is c.happen-in-None.ensures)
