@@ -139,7 +139,7 @@ fn server_run(alloc: Global, steps: &[ServerStep]) -> Result<Run, AllocError>
     match take_all(&mut watch, steps) {
         Ok(()) => watch.into_run(title),
         Err(error) => {
-            drop(watch);
+            watch.end();
             Err(error)
         }
     }

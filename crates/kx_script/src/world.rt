@@ -46,6 +46,12 @@ impl Running {
             marks: Marks::none(),
         })
     }
+
+    /// Drops the world. A crate that ends it by this call, and not by dropping it, need not prove the
+    /// drop of each of its types.
+    pub fn end(self) {
+        drop(self);
+    }
 }
 
 // Whether a client is there.

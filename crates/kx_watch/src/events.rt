@@ -2,19 +2,20 @@
 ghost use Rattle.std.specs.Prelude.{◌≡◌, ◌+◌, IfOk, OnOk, length};
 
 use crate::world::{add_logs, watch};
-use kx_core::{Config, Event, LocalWorld, PartitionCount};
+use kx_core::{Event, LocalWorld, PartitionCount};
 use kx_message::PartitionId;
 use kx_page::Run;
-use kx_processor::Process;
+use kx_processor::{Prefixed, Process};
+use kx_script::Running;
 use kx_view::Recorder;
 use std::alloc::{AllocError, Global};
 
 /// A world of all data partitions, in which nothing has happened.
-pub(crate) fn whole_world<F: Process + Copy>(alloc: Global) -> Result<LocalWorld<F>, AllocError> {
+pub(crate) fn whole_world(alloc: Global) -> Result<Running, AllocError> {
     let Some(partitions) = PartitionCount::new(PartitionId::DATA_COUNT) else {
         return Err(AllocError);
     };
-    LocalWorld::new(alloc, Config { partitions })
+    Running::new(alloc, partitions)
 }
 
 // Events happen in a world, one after the other, and each is recorded.
@@ -33,14 +34,14 @@ fn watch_all<F: Process + Copy>(
 
 // The recorder of events that happen in a world of all data partitions, and of the logs to which they
 // lead.
-fn recorded<F: Process + Copy>(alloc: Global, events: &[Event<F>]) -> Result<Recorder, AllocError>
+fn recorded(alloc: Global, events: &[Event<Prefixed>]) -> Result<Recorder, AllocError>
     ensures { IfOk result (λ recorder. length recorder ≡ length events.now) }
 {
     let mut recorder = Recorder::new(alloc);
-    let mut world = whole_world(alloc)?;
-    let watched = watch_all(&mut recorder, &mut world, events);
-    let added = add_logs(alloc, &mut recorder, &world);
-    drop(world);
+    let mut running = whole_world(alloc)?;
+    let watched = watch_all(&mut recorder, &mut running.world, events);
+    let added = add_logs(alloc, &mut recorder, &running.world);
+    running.end();
     watched?;
     added?;
     Ok(recorder)
@@ -52,10 +53,10 @@ fn recorded<F: Process + Copy>(alloc: Global, events: &[Event<F>]) -> Result<Rec
 /// # Errors
 ///
 /// Only where memory runs out.
-pub fn run_of_events<F: Process + Copy>(
+pub fn run_of_events(
     alloc: Global,
     title: String,
-    events: &[Event<F>],
+    events: &[Event<Prefixed>],
 ) -> Result<Run, AllocError>
     ensures { IfOk result (λ run. length run.steps.items ≡ length events.now) }
 {

@@ -73,7 +73,7 @@ fn watch_world(
     };
     let taken = take_lines(alloc, recorder, &mut running, script);
     let added = add_logs(alloc, recorder, &running.world);
-    drop(running);
+    running.end();
     taken?;
     match added {
         Ok(()) => Ok(()),

@@ -6,22 +6,23 @@ ghost use Rattle.kx_watch.specs.Steps.{AddsSteps, is_outside, steps_of};
 use crate::events::whole_world;
 use crate::transit::Transit;
 use crate::world::{add_logs, watch};
-use kx_core::{Event, LocalWorld};
+use kx_core::Event;
 use kx_machine::{Input, StoreMode};
 use kx_message::NodeId;
 use kx_outside::{OutsideRequest, can_arrive};
 use kx_page::Run;
 use kx_processor::Prefixed;
+use kx_script::Running;
 use kx_view::Recorder;
 use std::alloc::{AllocError, Global};
 use std::marker::Model;
 
-/// A server that is watched: its nodes with empty logs at first, and what they sent.
-#[derive(Drop)]
+/// A server that is watched: its nodes with empty logs at first, and what they sent. It ends by
+/// [`into_run`](ServerWatch::into_run) or [`end`](ServerWatch::end).
 pub struct ServerWatch {
     alloc: Global,
     recorder: Recorder,
-    world: LocalWorld<Prefixed>,
+    running: Running,
     transit: Transit,
 }
 
@@ -75,10 +76,11 @@ impl ServerWatch {
     pub fn new(alloc: Global) -> Result<ServerWatch, AllocError>
         ensures { IfOk result (λ watch. watch ≡ []) }
     {
+        let running = whole_world(alloc)?;
         Ok(ServerWatch {
             alloc,
             recorder: Recorder::new(alloc),
-            world: whole_world(alloc)?,
+            running,
             transit: Transit::new(alloc),
         })
     }
@@ -87,10 +89,10 @@ impl ServerWatch {
     fn happen(&mut self, event: Event<Prefixed>) -> Result<(), AllocError>
         ensures { OnOk result (AddsSteps 1 self.old self.new) }
     {
-        let watched = watch(&mut self.recorder, &mut self.world, &event);
+        let watched = watch(&mut self.recorder, &mut self.running.world, &event);
         drop(event);
         watched?;
-        let sent = self.world.sent();
+        let sent = self.running.world.sent();
         let last = sent.last();
         let first = sent.len().saturating_sub(last.len());
         self.transit.add(first, last)
@@ -108,7 +110,7 @@ impl ServerWatch {
     {
         match request_in(input)? {
             Some(request) => {
-                let number = self.world.sent().len();
+                let number = self.running.world.sent().len();
                 self.happen(Event::Arrive { request })?;
                 self.happen(Event::Deliver { number, to, store })
             }
@@ -130,13 +132,18 @@ impl ServerWatch {
         let ServerWatch {
             alloc,
             mut recorder,
-            world,
+            running,
             transit,
         } = self;
         drop(transit);
-        let added = add_logs(alloc, &mut recorder, &world);
-        drop(world);
+        let added = add_logs(alloc, &mut recorder, &running.world);
+        running.end();
         added?;
         recorder.into_run(title)
+    }
+
+    /// Drops all that was watched.
+    pub fn end(self) {
+        self.running.end();
     }
 }
