@@ -144,6 +144,14 @@ impl ServerWatch {
 
     /// Drops all that was watched.
     pub fn end(self) {
-        self.running.end();
+        let ServerWatch {
+            alloc: _alloc,
+            recorder,
+            running,
+            transit,
+        } = self;
+        drop(recorder);
+        drop(transit);
+        running.end();
     }
 }
