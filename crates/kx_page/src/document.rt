@@ -171,12 +171,26 @@ fn batch<'a>(html: &mut Html<'a>, batch: &'a LoggedBatch) -> Result<(), AllocErr
     valued(html, "<td>", batch.reading.as_bytes(), "</td></tr>\n")
 }
 
+// Adds a batch of a log; before it a part of the table ends, if it is as long as a part may be.
+fn next_batch<'a>(
+    html: &mut Html<'a>,
+    number: usize,
+    given: &'a LoggedBatch,
+) -> Result<(), AllocError>
+    ensures { OnOk result (KeepsRows html.old.items html.new.items) }
+{
+    if number != 0 && number % PART == 0 {
+        markup(html, "</table></div>\n<div class=\"log\"><table>\n")?;
+    }
+    batch(html, given)
+}
+
 // Adds the batches of a log.
 fn batches<'a>(html: &mut Html<'a>, all: &'a [LoggedBatch]) -> Result<(), AllocError>
     ensures { OnOk result (KeepsRows html.old.items html.new.items) }
 {
-    for given in all {
-        batch(html, given)?;
+    for number in 0..all.len() {
+        next_batch(html, number, &all[number])?;
     }
     Ok(())
 }
@@ -190,11 +204,11 @@ fn log<'a>(html: &mut Html<'a>, log: &'a Log) -> Result<(), AllocError>
     numbered(html, ", end ", log.end, "</p>\n")?;
     markup(
         html,
-        "<table><tr><th>offset</th><th>batch</th><th>records</th>",
+        "<div class=\"log\"><table><tr><th>offset</th><th>batch</th><th>records</th>",
     )?;
     markup(html, "<th>a reader of committed records</th></tr>\n")?;
     batches(html, log.batches.as_slice())?;
-    markup(html, "</table>\n")
+    markup(html, "</table></div>\n")
 }
 
 // Adds the logs.

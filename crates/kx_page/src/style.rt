@@ -66,9 +66,12 @@ td,th{border-top:1px solid var(--line);padding:.2rem .4rem;text-align:left;verti
 td{overflow-wrap:break-word}
 td:nth-child(3){overflow-wrap:anywhere;min-width:5rem}
 td.k{border-left:4px solid var(--k)}
+.log{content-visibility:auto;contain-intrinsic-size:auto 30rem}
+.log table{table-layout:fixed}.log td,.log th{overflow-wrap:anywhere}
+.log :is(td,th):nth-child(1){width:15%}.log :is(td,th):nth-child(2){width:29%}.log :is(td,th):nth-child(4){width:28%}
 tr:target td{background:var(--pick)}
 #rules{border-top:1px solid var(--line);max-width:70rem}
 :focus-visible{outline:2px solid var(--o);outline-offset:1px}
 @media (max-width:60rem){main{grid-template-columns:minmax(0,1fr)}#run{max-height:80vh}aside{border-left:0;border-top:1px solid var(--line);position:static;max-height:none}}
-@media print{form,#chosen{display:none}main{display:block}#run{overflow:visible;max-height:none}.part{content-visibility:visible;break-inside:auto}aside{position:static;max-height:none;border:0;break-before:page}.names{position:static}}
+@media print{form,#chosen{display:none}main{display:block}#run{overflow:visible;max-height:none}.part,.log{content-visibility:visible;break-inside:auto}aside{position:static;max-height:none;border:0;break-before:page}.names{position:static}}
 ";

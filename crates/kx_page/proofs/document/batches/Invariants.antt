@@ -1,5 +1,5 @@
 use Rattle.kx_page.specs.Rows.{KeepsRows}
 use Rattle.kx_page.proofs.document.batches.Given as goal
 
-abbrev pub invariant-loop-given : goal.invariant-loop-given
-invariant-loop-given l = KeepsRows l.fn.html.items l.html.items
+abbrev pub invariant-loop-number : goal.invariant-loop-number
+invariant-loop-number l = KeepsRows l.fn.html.items l.html.items
