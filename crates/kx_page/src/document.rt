@@ -2,8 +2,9 @@
 ghost use Rattle.std.specs.Prelude.{◌≡◌, ◌++◌, ◌∷◌, [], IfOk, OnOk};
 ghost use Rattle.kx_page.specs.Rows.{IsDrawn, IsPageOf, KeepsRows, rows_from, rows_of, told};
 
-use crate::drawing::{Part, about, fated, lane_names, shown, svg_head};
-use crate::html::{Html, markup, number, numbered, row, value, valued};
+use crate::drawing::{Part, about, class_of, lane_names, shown, svg_head};
+use crate::html::{Html, add, row};
+use crate::piece::Piece::{Markup, Number, Value};
 use crate::piece::{Row, text};
 use crate::places::{ROW, top_of, written};
 use crate::rules::RULES;
@@ -26,50 +27,42 @@ const FORM: &str =
 <main><div id=\"run\">
 ";
 
-// Adds how many there are of something.
-fn count(html: &mut Html<'_>, many: usize, what: &'static str) -> Result<(), AllocError>
-    ensures { OnOk result (KeepsRows html.old.items html.new.items) }
-{
-    number(html, written(many))?;
-    markup(html, what)
-}
-
 // Adds the head of a page.
 fn head<'a>(html: &mut Html<'a>, run: &'a Run) -> Result<(), AllocError>
     ensures { OnOk result (KeepsRows html.old.items html.new.items) }
 {
     let title = run.title.as_bytes();
-    markup(
+    add(
         html,
-        "<!DOCTYPE html>\n<html lang=\"en\"><head><meta charset=\"utf-8\">\n",
-    )?;
-    markup(
-        html,
-        "<meta name=\"viewport\" content=\"width=device-width,initial-scale=1\">\n",
-    )?;
-    valued(html, "<title>", title, "</title>\n<style>\n")?;
-    markup(html, DIAGRAM)?;
-    markup(html, PAGE)?;
-    valued(
-        html,
-        "</style></head>\n<body><header><h1>",
-        title,
-        "</h1><p>",
-    )?;
-    count(html, run.steps.len(), " steps, ")?;
-    count(html, run.arrows.len(), " messages</p>\n")?;
-    markup(html, FORM)
+        &[
+            Markup("<!DOCTYPE html>\n<html lang=\"en\"><head><meta charset=\"utf-8\">\n"),
+            Markup("<meta name=\"viewport\" content=\"width=device-width,initial-scale=1\">\n"),
+            Markup("<title>"),
+            Value(title),
+            Markup("</title>\n<style>\n"),
+            Markup(DIAGRAM),
+            Markup(PAGE),
+            Markup("</style></head>\n<body><header><h1>"),
+            Value(title),
+            Markup("</h1><p>"),
+            Number(written(run.steps.len())),
+            Markup(" steps, "),
+            Number(written(run.arrows.len())),
+            Markup(" messages</p>\n"),
+            Markup(FORM),
+        ],
+    )
 }
 
 // Adds the names of the lanes, which stay in sight.
 fn names<'a>(html: &mut Html<'a>, run: &'a Run) -> Result<(), AllocError>
     ensures { OnOk result (KeepsRows html.old.items html.new.items) }
 {
-    markup(html, "<div class=\"names\">")?;
+    add(html, &[Markup("<div class=\"names\">")])?;
     svg_head(html, run.lanes.len(), 0, NAMES)?;
-    markup(html, TIPS)?;
+    add(html, &[Markup(TIPS)])?;
     lane_names(html, run.lanes.as_slice())?;
-    markup(html, "</svg></div>\n")
+    add(html, &[Markup("</svg></div>\n")])
 }
 
 // Adds the diagram of a part, and the head of the list of its rows.
@@ -79,15 +72,25 @@ fn part_head<'a>(html: &mut Html<'a>, run: &'a Run, first: usize) -> Result<(), 
     let end = first.saturating_add(PART).min(run.steps.len());
     let top = top_of(first);
     let height = top_of(end).saturating_sub(top);
-    numbered(
+    let number = written(first);
+    add(
         html,
-        "<section class=\"part\" style=\"--h:",
-        height,
-        "px\">\n",
+        &[
+            Markup("<section class=\"part\" style=\"--h:"),
+            Number(height),
+            Markup("px\">\n"),
+        ],
     )?;
     svg_head(html, run.lanes.len(), top, height)?;
     shown(html, run, Part { first, end })?;
-    numbered(html, "</svg>\n<ol start=\"", written(first), "\">\n")
+    add(
+        html,
+        &[
+            Markup("</svg>\n<ol start=\""),
+            Number(number),
+            Markup("\">\n"),
+        ],
+    )
 }
 
 // Adds what stands between the parts of a page.
@@ -95,24 +98,29 @@ fn part_begins<'a>(html: &mut Html<'a>, run: &'a Run, first: usize) -> Result<()
     ensures { OnOk result (KeepsRows html.old.items html.new.items) }
 {
     if first != 0 {
-        markup(html, "</ol></section>\n")?;
+        add(html, &[Markup("</ol></section>\n")])?;
     }
     part_head(html, run, first)
 }
 
-// Adds the link to the rule by which a step answered.
+// Adds the link to the rule by which a step answered, and ends its row.
 fn rule_of(html: &mut Html<'_>, step: &Step) -> Result<(), AllocError>
     ensures { OnOk result (KeepsRows html.old.items html.new.items) }
 {
     let Some(rule) = step.rule else {
-        return markup(html, "</li>\n");
+        return add(html, &[Markup("</li>\n")]);
     };
     let anchor = rule.anchor();
-    markup(html, " <a class=\"rule\" href=\"#")?;
-    markup(html, anchor)?;
-    markup(html, "\">")?;
-    markup(html, anchor)?;
-    markup(html, "</a></li>\n")
+    add(
+        html,
+        &[
+            Markup(" <a class=\"rule\" href=\"#"),
+            Markup(anchor),
+            Markup("\">"),
+            Markup(anchor),
+            Markup("</a></li>\n"),
+        ],
+    )
 }
 
 // Adds the row of a step.
@@ -120,7 +128,7 @@ fn row_of<'a>(html: &mut Html<'a>, number: usize, step: &'a Step) -> Result<(), 
     ensures { OnOk result (rows_of html.new.items
         ≡ rows_of html.old.items ++ told number step.now ∷ []) }
 {
-    markup(html, "<li")?;
+    add(html, &[Markup("<li")])?;
     about(html, step.lane, step.client, step.producer)?;
     let told = Row {
         number: number as u64,
@@ -163,12 +171,22 @@ fn rows<'a>(html: &mut Html<'a>, run: &'a Run) -> Result<(), AllocError>
 fn batch<'a>(html: &mut Html<'a>, batch: &'a LoggedBatch) -> Result<(), AllocError>
     ensures { OnOk result (KeepsRows html.old.items html.new.items) }
 {
-    markup(html, "<tr class=\"")?;
-    fated(html, batch.fate)?;
-    numbered(html, "\"><td class=\"k\">", batch.offset, "</td>")?;
-    valued(html, "<td>", batch.kind.as_bytes(), "</td>")?;
-    valued(html, "<td>", batch.records.as_slice(), "</td>")?;
-    valued(html, "<td>", batch.reading.as_bytes(), "</td></tr>\n")
+    add(
+        html,
+        &[
+            Markup("<tr class=\""),
+            Markup(class_of(batch.fate)),
+            Markup("\"><td class=\"k\">"),
+            Number(batch.offset),
+            Markup("</td><td>"),
+            Value(batch.kind.as_bytes()),
+            Markup("</td><td>"),
+            Value(batch.records.as_slice()),
+            Markup("</td><td>"),
+            Value(batch.reading.as_bytes()),
+            Markup("</td></tr>\n"),
+        ],
+    )
 }
 
 // Adds a batch of a log; before it a part of the table ends, if it is as long as a part may be.
@@ -180,7 +198,10 @@ fn next_batch<'a>(
     ensures { OnOk result (KeepsRows html.old.items html.new.items) }
 {
     if number != 0 && number % PART == 0 {
-        markup(html, "</table></div>\n<div class=\"log\"><table>\n")?;
+        add(
+            html,
+            &[Markup("</table></div>\n<div class=\"log\"><table>\n")],
+        )?;
     }
     batch(html, given)
 }
@@ -199,16 +220,22 @@ fn batches<'a>(html: &mut Html<'a>, all: &'a [LoggedBatch]) -> Result<(), AllocE
 fn log<'a>(html: &mut Html<'a>, log: &'a Log) -> Result<(), AllocError>
     ensures { OnOk result (KeepsRows html.old.items html.new.items) }
 {
-    valued(html, "<h3>", log.name.as_bytes(), "</h3>")?;
-    numbered(html, "<p>last stable offset ", log.stable, "")?;
-    numbered(html, ", end ", log.end, "</p>\n")?;
-    markup(
+    add(
         html,
-        "<div class=\"log\"><table><tr><th>offset</th><th>batch</th><th>records</th>",
+        &[
+            Markup("<h3>"),
+            Value(log.name.as_bytes()),
+            Markup("</h3><p>last stable offset "),
+            Number(log.stable),
+            Markup(", end "),
+            Number(log.end),
+            Markup("</p>\n"),
+            Markup("<div class=\"log\"><table><tr><th>offset</th><th>batch</th><th>records</th>"),
+            Markup("<th>a reader of committed records</th></tr>\n"),
+        ],
     )?;
-    markup(html, "<th>a reader of committed records</th></tr>\n")?;
     batches(html, log.batches.as_slice())?;
-    markup(html, "</table></div>\n")
+    add(html, &[Markup("</table></div>\n")])
 }
 
 // Adds the logs.
@@ -226,21 +253,26 @@ fn tail<'a>(html: &mut Html<'a>, run: &'a Run) -> Result<(), AllocError>
     ensures { OnOk result (KeepsRows html.old.items html.new.items) }
 {
     if !run.steps.is_empty() {
-        markup(html, "</ol></section>\n")?;
+        add(html, &[Markup("</ol></section>\n")])?;
     }
-    markup(
+    add(
         html,
-        "</div>\n<aside><div id=\"chosen\">Point at a step, or choose it by a key.</div>\n<h2>Logs as they end</h2>\n",
+        &[
+            Markup("</div>\n<aside><div id=\"chosen\">"),
+            Markup("Point at a step, or choose it by a key.</div>\n<h2>Logs as they end</h2>\n"),
+        ],
     )?;
     logs(html, run.logs.as_slice())?;
-    markup(
+    add(
         html,
-        "</aside></main>\n<section id=\"rules\"><h2>Rules</h2>\n",
-    )?;
-    markup(html, RULES)?;
-    markup(html, "</section>\n<script>\n")?;
-    markup(html, SCRIPT)?;
-    markup(html, "</script></body></html>\n")
+        &[
+            Markup("</aside></main>\n<section id=\"rules\"><h2>Rules</h2>\n"),
+            Markup(RULES),
+            Markup("</section>\n<script>\n"),
+            Markup(SCRIPT),
+            Markup("</script></body></html>\n"),
+        ],
+    )
 }
 
 // Adds a whole page.
@@ -260,10 +292,10 @@ fn whole<'a>(html: &mut Html<'a>, run: &'a Run) -> Result<(), AllocError>
 /// # Errors
 ///
 /// Only where memory runs out.
-pub fn page(alloc: Global, run: &Run) -> Result<Vec<u8>, AllocError>
+pub fn page<'a>(alloc: Global, run: &'a Run) -> Result<Vec<u8>, AllocError>
     ensures { IfOk result (λ page. IsPageOf run.now page.items) }
 {
-    let mut html = Vec::new(alloc);
+    let mut html: Html<'a> = Vec::new(alloc);
     whole(&mut html, run)?;
     text(alloc, html.as_slice())
 }
@@ -275,18 +307,25 @@ fn drawn<'a>(html: &mut Html<'a>, run: &'a Run) -> Result<(), AllocError>
     let end = run.steps.len();
     let height = top_of(end).saturating_add(NAMES).saturating_add(ROW);
     svg_head(html, run.lanes.len(), -NAMES, height)?;
-    valued(html, "<title>", run.title.as_bytes(), "</title>\n<style>")?;
-    markup(html, DIAGRAM)?;
-    markup(
+    add(
         html,
-        "</style>\n<rect class=\"back\" x=\"0\" y=\"-28\" width=\"100%\" height=\"100%\"/>",
+        &[
+            Markup("<title>"),
+            Value(run.title.as_bytes()),
+            Markup("</title>\n<style>"),
+            Markup(DIAGRAM),
+            Markup("</style>\n<rect class=\"back\" x=\"0\" y=\"-28\""),
+            Markup(" width=\"100%\" height=\"100%\"/>"),
+            Markup(TIPS),
+            Markup("<g transform=\"translate(0 "),
+            Number(-NAMES),
+            Markup(")\">\n"),
+        ],
     )?;
-    markup(html, TIPS)?;
-    numbered(html, "<g transform=\"translate(0 ", -NAMES, ")\">\n")?;
     lane_names(html, run.lanes.as_slice())?;
-    markup(html, "</g>\n")?;
+    add(html, &[Markup("</g>\n")])?;
     shown(html, run, Part { first: 0, end })?;
-    markup(html, "</svg>\n")
+    add(html, &[Markup("</svg>\n")])
 }
 
 /// The diagram of a run alone, in SVG. No value of the run can become markup.
@@ -294,10 +333,10 @@ fn drawn<'a>(html: &mut Html<'a>, run: &'a Run) -> Result<(), AllocError>
 /// # Errors
 ///
 /// Only where memory runs out.
-pub fn diagram(alloc: Global, run: &Run) -> Result<Vec<u8>, AllocError>
+pub fn diagram<'a>(alloc: Global, run: &'a Run) -> Result<Vec<u8>, AllocError>
     ensures { IfOk result (λ image. IsDrawn image.items) }
 {
-    let mut html = Vec::new(alloc);
+    let mut html: Html<'a> = Vec::new(alloc);
     drawn(&mut html, run)?;
     text(alloc, html.as_slice())
 }

@@ -5,8 +5,9 @@
 ghost use Rattle.std.specs.Prelude.{OnOk};
 ghost use Rattle.kx_page.specs.Rows.{KeepsRows};
 
-use crate::html::{Html, markup, number, numbered, value, valued};
-use crate::places::{HALF, ROW, top_of, width_of, written, x_of, y_of};
+use crate::html::{Html, add};
+use crate::piece::Piece::{Markup, Number, Value};
+use crate::places::{HALF, ROW, left_of, right_of, top_of, width_of, written, x_of, y_of};
 use crate::run::{Arrow, Fate, Lane, Mark, Run, Step, Way};
 use std::alloc::AllocError;
 
@@ -17,13 +18,23 @@ pub(crate) struct Part {
     pub(crate) end: usize,
 }
 
-// The class of what is about a transaction.
-fn class_of(fate: Fate) -> &'static str {
+/// The class of what is about a transaction.
+pub(crate) fn class_of(fate: Fate) -> &'static str {
     match fate {
         Fate::Plain => "n",
         Fate::Open => "o",
         Fate::Committed => "c",
         Fate::Aborted => "a",
+    }
+}
+
+// Adds an attribute of this name, if there is a number for it.
+fn attribute(html: &mut Html<'_>, name: &'static str, number: Option<i64>) -> Result<(), AllocError>
+    ensures { OnOk result (KeepsRows html.old.items html.new.items) }
+{
+    match number {
+        Some(number) => add(html, &[Markup(name), Number(number), Markup("\"")]),
+        None => Ok(()),
     }
 }
 
@@ -37,46 +48,31 @@ pub(crate) fn about(
 ) -> Result<(), AllocError>
     ensures { OnOk result (KeepsRows html.old.items html.new.items) }
 {
-    numbered(html, " data-n=\"", written(lane), "\"")?;
-    if let Some(client) = client {
-        numbered(html, " data-c=\"", i64::from(client), "\"")?;
-    }
-    if let Some(producer) = producer {
-        numbered(html, " data-t=\"", producer, "\"")?;
-    }
-    Ok(())
-}
-
-/// Adds a class by what became of a transaction.
-pub(crate) fn fated(html: &mut Html<'_>, fate: Fate) -> Result<(), AllocError>
-    ensures { OnOk result (KeepsRows html.old.items html.new.items) }
-{
-    markup(html, class_of(fate))
-}
-
-// Adds a point of a path.
-fn point(html: &mut Html<'_>, letter: &'static str, x: i64, y: i64) -> Result<(), AllocError>
-    ensures { OnOk result (KeepsRows html.old.items html.new.items) }
-{
-    numbered(html, letter, x, " ")?;
-    number(html, y)
-}
-
-// Adds a place of a text or a shape.
-fn at(html: &mut Html<'_>, x: i64, y: i64) -> Result<(), AllocError>
-    ensures { OnOk result (KeepsRows html.old.items html.new.items) }
-{
-    numbered(html, " x=\"", x, "\"")?;
-    numbered(html, " y=\"", y, "\"")
+    let client = match client {
+        Some(client) => Some(i64::from(client)),
+        None => None,
+    };
+    attribute(html, " data-n=\"", Some(written(lane)))?;
+    attribute(html, " data-c=\"", client)?;
+    attribute(html, " data-t=\"", producer)
 }
 
 // Adds the line of a lane.
 fn lane_line(html: &mut Html<'_>, lane: usize, part: Part) -> Result<(), AllocError>
     ensures { OnOk result (KeepsRows html.old.items html.new.items) }
 {
-    markup(html, "<path class=\"lane\" d=\"")?;
-    point(html, "M", x_of(lane), top_of(part.first))?;
-    numbered(html, "V", top_of(part.end), "\"/>\n")
+    add(
+        html,
+        &[
+            Markup("<path class=\"lane\" d=\"M"),
+            Number(x_of(lane)),
+            Markup(" "),
+            Number(top_of(part.first)),
+            Markup("V"),
+            Number(top_of(part.end)),
+            Markup("\"/>\n"),
+        ],
+    )
 }
 
 // Adds the line from a batch's box to the marker that ended its transaction.
@@ -86,52 +82,79 @@ fn waiting(html: &mut Html<'_>, number: usize, step: &Step) -> Result<(), AllocE
     let Some(ended) = step.ended else {
         return Ok(());
     };
-    markup(html, "<path class=\"wait ")?;
-    fated(html, step.fate)?;
-    markup(html, "\" d=\"")?;
-    point(
+    add(
         html,
-        "M",
-        x_of(step.lane).saturating_sub(HALF),
-        y_of(number),
-    )?;
-    numbered(html, "V", y_of(ended), "\"/>\n")
+        &[
+            Markup("<path class=\"wait "),
+            Markup(class_of(step.fate)),
+            Markup("\" d=\"M"),
+            Number(left_of(step.lane)),
+            Markup(" "),
+            Number(y_of(number)),
+            Markup("V"),
+            Number(y_of(ended)),
+            Markup("\"/>\n"),
+        ],
+    )
 }
 
-// Adds a box of this height around a step.
-fn boxed(html: &mut Html<'_>, number: usize, step: &Step, round: bool) -> Result<(), AllocError>
+// Adds a box around a step, whose corners are as round as this says.
+fn boxed(
+    html: &mut Html<'_>,
+    number: usize,
+    step: &Step,
+    corners: &'static str,
+) -> Result<(), AllocError>
     ensures { OnOk result (KeepsRows html.old.items html.new.items) }
 {
-    markup(html, "<rect")?;
-    at(
+    add(
         html,
-        x_of(step.lane).saturating_sub(HALF),
-        y_of(number).saturating_sub(9),
-    )?;
-    numbered(html, " width=\"", 2 * HALF, "\" height=\"18\"")?;
-    markup(html, if round { " rx=\"9\"/>" } else { " rx=\"2\"/>" })
+        &[
+            Markup("<rect x=\""),
+            Number(left_of(step.lane)),
+            Markup("\" y=\""),
+            Number(y_of(number).saturating_sub(9)),
+            Markup("\" width=\""),
+            Number(2 * HALF),
+            Markup("\" height=\"18\" rx=\""),
+            Markup(corners),
+            Markup("\"/>"),
+        ],
+    )
 }
 
 // Adds the line across a lane at which its node was opened again, or its store failed.
 fn across(html: &mut Html<'_>, number: usize, step: &Step) -> Result<(), AllocError>
     ensures { OnOk result (KeepsRows html.old.items html.new.items) }
 {
-    markup(html, "<path class=\"across\" d=\"")?;
-    point(
+    add(
         html,
-        "M",
-        x_of(step.lane).saturating_sub(HALF),
-        y_of(number).saturating_add(10),
-    )?;
-    numbered(html, "h", 2 * HALF, "\"/>")
+        &[
+            Markup("<path class=\"across\" d=\"M"),
+            Number(left_of(step.lane)),
+            Markup(" "),
+            Number(y_of(number).saturating_add(10)),
+            Markup("h"),
+            Number(2 * HALF),
+            Markup("\"/>"),
+        ],
+    )
 }
 
 // Adds a dot.
 fn dot(html: &mut Html<'_>, number: usize, step: &Step) -> Result<(), AllocError>
     ensures { OnOk result (KeepsRows html.old.items html.new.items) }
 {
-    numbered(html, "<circle r=\"4\" cx=\"", x_of(step.lane), "\"")?;
-    numbered(html, " cy=\"", y_of(number), "\"/>")
+    add(
+        html,
+        &[
+            Markup("<circle r=\"4\" cx=\""),
+            Number(x_of(step.lane)),
+            Markup("\" cy=\""),
+            Number(y_of(number)),
+            Markup("\"/>"),
+        ],
+    )
 }
 
 // Adds the shape of a step.
@@ -140,8 +163,8 @@ fn shape(html: &mut Html<'_>, number: usize, step: &Step) -> Result<(), AllocErr
 {
     match step.mark {
         Mark::Dot => dot(html, number, step),
-        Mark::Batch => boxed(html, number, step, false),
-        Mark::Marker => boxed(html, number, step, true),
+        Mark::Batch => boxed(html, number, step, "2"),
+        Mark::Marker => boxed(html, number, step, "9"),
         Mark::Restart | Mark::Failure => across(html, number, step),
     }
 }
@@ -162,13 +185,18 @@ fn title<'a>(html: &mut Html<'a>, number: usize, step: &'a Step) -> Result<(), A
     ensures { OnOk result (KeepsRows html.old.items html.new.items) }
 {
     let beside = if matches!(step.mark, Mark::Dot) { 8 } else { 0 };
-    markup(html, "<text")?;
-    at(
+    add(
         html,
-        x_of(step.lane).saturating_add(beside),
-        y_of(number).saturating_add(4),
-    )?;
-    valued(html, ">", step.title.as_bytes(), "</text>")
+        &[
+            Markup("<text x=\""),
+            Number(x_of(step.lane).saturating_add(beside)),
+            Markup("\" y=\""),
+            Number(y_of(number).saturating_add(4)),
+            Markup("\">"),
+            Value(step.title.as_bytes()),
+            Markup("</text></a>\n"),
+        ],
+    )
 }
 
 // Adds the line at which the last stable offset of a partition changed.
@@ -179,15 +207,24 @@ fn stable(html: &mut Html<'_>, number: usize, step: &Step) -> Result<(), AllocEr
         return Ok(());
     };
     let y = y_of(number).saturating_add(ROW / 2);
-    markup(html, "<path class=\"lso\" d=\"")?;
-    point(html, "M", x_of(step.lane).saturating_sub(HALF), y)?;
-    numbered(html, "h", 2 * HALF, "\"/><text class=\"lso\"")?;
-    at(
+    add(
         html,
-        x_of(step.lane).saturating_add(HALF),
-        y.saturating_add(3),
-    )?;
-    numbered(html, ">LSO ", offset, "</text>\n")
+        &[
+            Markup("<path class=\"lso\" d=\"M"),
+            Number(left_of(step.lane)),
+            Markup(" "),
+            Number(y),
+            Markup("h"),
+            Number(2 * HALF),
+            Markup("\"/><text class=\"lso\" x=\""),
+            Number(right_of(step.lane)),
+            Markup("\" y=\""),
+            Number(y.saturating_add(3)),
+            Markup("\">LSO "),
+            Number(offset),
+            Markup("</text>\n"),
+        ],
+    )
 }
 
 // Adds a step.
@@ -195,15 +232,21 @@ fn step_of<'a>(html: &mut Html<'a>, number: usize, step: &'a Step) -> Result<(),
     ensures { OnOk result (KeepsRows html.old.items html.new.items) }
 {
     waiting(html, number, step)?;
-    markup(html, "<a class=\"")?;
-    markup(html, mark_class(step.mark))?;
-    fated(html, step.fate)?;
-    numbered(html, "\" href=\"#s", written(number), "\"")?;
+    add(
+        html,
+        &[
+            Markup("<a class=\""),
+            Markup(mark_class(step.mark)),
+            Markup(class_of(step.fate)),
+            Markup("\" href=\"#s"),
+            Number(written(number)),
+            Markup("\""),
+        ],
+    )?;
     about(html, step.lane, step.client, step.producer)?;
-    markup(html, ">")?;
+    add(html, &[Markup(">")])?;
     shape(html, number, step)?;
     title(html, number, step)?;
-    markup(html, "</a>\n")?;
     stable(html, number, step)
 }
 
@@ -233,42 +276,55 @@ fn end_of(arrow: &Arrow) -> (i64, i64) {
     }
 }
 
-// Adds the end of an arrow.
-fn tip(html: &mut Html<'_>, arrow: &Arrow) -> Result<(), AllocError>
+// Adds the line of an arrow, and the name of its message in the middle of it.
+fn arrow_line<'a>(html: &mut Html<'a>, arrow: &'a Arrow) -> Result<(), AllocError>
     ensures { OnOk result (KeepsRows html.old.items html.new.items) }
 {
-    let (x, y) = end_of(arrow);
-    point(html, "L", x, y)
-}
-
-// Adds the name of a message, in the middle of its way.
-fn named<'a>(html: &mut Html<'a>, arrow: &'a Arrow) -> Result<(), AllocError>
-    ensures { OnOk result (KeepsRows html.old.items html.new.items) }
-{
-    let (x, y) = end_of(arrow);
-    let x = x_of(arrow.from) / 2 + x / 2;
-    let y = y_of(arrow.sent) / 2 + y / 2;
-    markup(html, "<text class=\"name\"")?;
-    at(html, x, y.saturating_add(3))?;
-    valued(html, ">", arrow.name.as_bytes(), "</text>")
+    let (from, sent) = (x_of(arrow.from), y_of(arrow.sent));
+    let (to, taken) = end_of(arrow);
+    add(
+        html,
+        &[
+            Markup("><path d=\"M"),
+            Number(from),
+            Markup(" "),
+            Number(sent),
+            Markup("L"),
+            Number(to),
+            Markup(" "),
+            Number(taken),
+            Markup("\"/><title>"),
+            Value(arrow.text.as_bytes()),
+            Markup("</title><text class=\"name\" x=\""),
+            Number(from / 2 + to / 2),
+            Markup("\" y=\""),
+            Number((sent / 2 + taken / 2).saturating_add(3)),
+            Markup("\">"),
+            Value(arrow.name.as_bytes()),
+            Markup("</text></g>\n"),
+        ],
+    )
 }
 
 // Adds an arrow.
 fn arrow_of<'a>(html: &mut Html<'a>, arrow: &'a Arrow) -> Result<(), AllocError>
     ensures { OnOk result (KeepsRows html.old.items html.new.items) }
 {
-    markup(html, "<g class=\"")?;
-    markup(html, way_class(arrow.way))?;
-    fated(html, arrow.fate)?;
-    numbered(html, "\" data-f=\"", written(arrow.sent), "\"")?;
-    numbered(html, " data-s=\"", written(arrow.taken), "\"")?;
+    add(
+        html,
+        &[
+            Markup("<g class=\""),
+            Markup(way_class(arrow.way)),
+            Markup(class_of(arrow.fate)),
+            Markup("\" data-f=\""),
+            Number(written(arrow.sent)),
+            Markup("\" data-s=\""),
+            Number(written(arrow.taken)),
+            Markup("\""),
+        ],
+    )?;
     about(html, arrow.to, arrow.client, arrow.producer)?;
-    markup(html, "><path d=\"")?;
-    point(html, "M", x_of(arrow.from), y_of(arrow.sent))?;
-    tip(html, arrow)?;
-    valued(html, "\"/><title>", arrow.text.as_bytes(), "</title>")?;
-    named(html, arrow)?;
-    markup(html, "</g>\n")
+    arrow_line(html, arrow)
 }
 
 // Adds the arrows that cross the rows of a part.
@@ -318,9 +374,16 @@ pub(crate) fn shown<'a>(html: &mut Html<'a>, run: &'a Run, part: Part) -> Result
 fn lane_name<'a>(html: &mut Html<'a>, number: usize, lane: &'a Lane) -> Result<(), AllocError>
     ensures { OnOk result (KeepsRows html.old.items html.new.items) }
 {
-    markup(html, "<text class=\"lane\"")?;
-    at(html, x_of(number), 18)?;
-    valued(html, ">", lane.name.as_bytes(), "</text>\n")
+    add(
+        html,
+        &[
+            Markup("<text class=\"lane\" x=\""),
+            Number(x_of(number)),
+            Markup("\" y=\"18\">"),
+            Value(lane.name.as_bytes()),
+            Markup("</text>\n"),
+        ],
+    )
 }
 
 /// Adds the names of the lanes.
@@ -343,14 +406,20 @@ pub(crate) fn svg_head(
     ensures { OnOk result (KeepsRows html.old.items html.new.items) }
 {
     let width = width_of(lanes);
-    numbered(
+    add(
         html,
-        "<svg xmlns=\"http://www.w3.org/2000/svg\" width=\"",
-        width,
-        "\"",
-    )?;
-    numbered(html, " height=\"", height, "\" viewBox=\"0 ")?;
-    numbered(html, "", top, " ")?;
-    numbered(html, "", width, " ")?;
-    numbered(html, "", height, "\">\n")
+        &[
+            Markup("<svg xmlns=\"http://www.w3.org/2000/svg\" width=\""),
+            Number(width),
+            Markup("\" height=\""),
+            Number(height),
+            Markup("\" viewBox=\"0 "),
+            Number(top),
+            Markup(" "),
+            Number(width),
+            Markup(" "),
+            Number(height),
+            Markup("\">\n"),
+        ],
+    )
 }

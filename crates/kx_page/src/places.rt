@@ -6,7 +6,7 @@ pub(crate) const ROW: i64 = 26;
 // How far a lane is right of the lane before.
 const LANE: i64 = 152;
 
-// How far a box reaches to each side of the middle of its lane.
+/// How far a box reaches to each side of the middle of its lane.
 pub(crate) const HALF: i64 = 58;
 
 // As a signed number.
@@ -17,6 +17,16 @@ fn signed(number: usize) -> i64 {
 /// The middle of a lane.
 pub(crate) fn x_of(lane: usize) -> i64 {
     signed(lane).saturating_mul(LANE).saturating_add(LANE / 2)
+}
+
+/// The left edge of a box in a lane.
+pub(crate) fn left_of(lane: usize) -> i64 {
+    x_of(lane).saturating_sub(HALF)
+}
+
+/// The right edge of a box in a lane.
+pub(crate) fn right_of(lane: usize) -> i64 {
+    x_of(lane).saturating_add(HALF)
 }
 
 /// The middle of a step's row.

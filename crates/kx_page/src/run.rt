@@ -96,7 +96,7 @@ pub struct Arrow {
     /// The producer id that it names, if any.
     pub producer: Option<i64>,
     /// Its kind.
-    pub name: String,
+    pub name: &'static str,
     /// Its kind and its fields.
     pub text: String,
 }
@@ -113,7 +113,7 @@ pub struct LoggedBatch {
     /// What became of its transaction.
     pub fate: Fate,
     /// Whether a reader of committed records is shown its records, and why.
-    pub reading: String,
+    pub reading: &'static str,
 }
 
 /// A partition's log as it ends.

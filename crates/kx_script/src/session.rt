@@ -131,7 +131,7 @@ pub(crate) fn happen<W: Write>(
         (W.contents writer.old) (W.contents writer.new) result }
 {
     let first = sent(&running.world);
-    let happened = match running.world.happen(&read.event) {
+    let happened = match running.happen(&read.event) {
         Ok(happened) => happened,
         Err(_) => {
             lose(writer)?;

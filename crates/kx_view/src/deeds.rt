@@ -2,44 +2,115 @@
 use crate::fields::{answer_in, code_of, has_marker};
 use crate::seen::{Seen, Took};
 use crate::words::{ends, marker_of, name_of, prepares, word_of};
+use kx_client::ClientFault;
 use kx_machine::{Command, Input, Note};
-use kx_message::{EndTxn, ErrorCode, InitReply, Message, Outcome, ProduceReply};
+use kx_message::{EndTxn, ErrorCode, Held, InitReply, Message, Outcome, PartitionId, ProduceReply};
 use kx_page::{Mark, Rule};
 use kx_partition::Produced;
-use std::alloc::{AllocError, Global};
+use std::fmt;
+
+/// What a step did, in a few words.
+#[derive(Clone, Copy)]
+pub(crate) enum Title {
+    /// These words.
+    Words(&'static str),
+    /// These words and an offset.
+    At(&'static str, i64),
+    /// These words and the id and epoch of a producer.
+    Id(&'static str, Held),
+    /// A client sends this many records to a partition.
+    Sends(usize, PartitionId),
+    /// A client outside sends a request of this kind.
+    Asks(&'static str),
+    /// A client refuses a command.
+    Refuses(ClientFault),
+}
+
+impl fmt::Display for Title {
+    fn fmt<W: fmt::Write>(&self, f: &mut fmt::Formatter<W>) -> fmt::Result {
+        match self {
+            Title::Words(words) => f.write_str(words),
+            Title::At(words, offset) => write!(f, "{words} {offset}"),
+            Title::Id(words, Held { id, epoch }) => write!(f, "{words} id {id} epoch {epoch}"),
+            Title::Sends(count, partition) => write!(f, "sends {count} to p{partition}"),
+            Title::Asks(name) => write!(f, "sends {name}"),
+            Title::Refuses(fault) => write!(f, "refuses: {fault:?}"),
+        }
+    }
+}
 
 /// What a step did.
-#[derive(Drop)]
+#[derive(Clone, Copy)]
 pub(crate) struct Deed {
     /// In a few words.
-    pub(crate) title: String,
+    pub(crate) title: Title,
     /// By which rule, if by one.
     pub(crate) rule: Option<Rule>,
     /// How it is marked.
     pub(crate) mark: Mark,
 }
 
-// What a step did that appended nothing.
-fn plain(title: String, rule: Option<Rule>) -> Deed {
+// A step that appended nothing, with a title that is known beforehand.
+fn said(words: &'static str, rule: Option<Rule>) -> Deed {
     Deed {
-        title,
+        title: Title::Words(words),
         rule,
         mark: Mark::Dot,
     }
 }
 
-// A step that appended nothing, with a title that is known beforehand.
-fn said(alloc: Global, words: &str, rule: Option<Rule>) -> Result<Deed, AllocError> {
-    Ok(plain(String::from_str(alloc, words)?, rule))
+// A step that appended nothing, and is about what stands at an offset.
+fn at(words: &'static str, offset: i64, rule: Option<Rule>) -> Deed {
+    Deed {
+        title: Title::At(words, offset),
+        rule,
+        mark: Mark::Dot,
+    }
 }
 
-// A batch was appended at an offset.
-fn appended(alloc: Global, offset: i64, rule: Rule) -> Result<Deed, AllocError> {
-    Ok(Deed {
-        title: format!(in alloc; "append at {offset}")?,
-        rule: Some(rule),
+// A step that appended nothing, and is about a producer's id and epoch.
+fn with_id(words: &'static str, held: Held, rule: Option<Rule>) -> Deed {
+    Deed {
+        title: Title::Id(words, held),
+        rule,
+        mark: Mark::Dot,
+    }
+}
+
+// A client sends records.
+fn sends(partition: PartitionId, count: usize) -> Deed {
+    Deed {
+        title: Title::Sends(count, partition),
+        rule: None,
+        mark: Mark::Dot,
+    }
+}
+
+// A client outside sends a request of this kind.
+fn asks(name: &'static str) -> Deed {
+    Deed {
+        title: Title::Asks(name),
+        rule: None,
+        mark: Mark::Dot,
+    }
+}
+
+// A client refuses a command.
+fn refuses(fault: ClientFault) -> Deed {
+    Deed {
+        title: Title::Refuses(fault),
+        rule: None,
+        mark: Mark::Dot,
+    }
+}
+
+// A step that appended a batch.
+fn appended(seen: &Seen<'_>) -> Deed {
+    Deed {
+        title: Title::At("append at", seen.before.end),
+        rule: Some(Rule::BatchAppended),
         mark: Mark::Batch,
-    })
+    }
 }
 
 // The line of the rules on batches by which a code is answered.
@@ -58,66 +129,71 @@ fn batch_rule(code: ErrorCode) -> Option<Rule> {
     }
 }
 
-// Where a batch stands that came again, by the reply to it.
-fn duplicate(alloc: Global, sent: &[Message]) -> Result<Deed, AllocError> {
+// Where a batch stands that arrived again, by the reply to it.
+fn duplicate(sent: &[Message]) -> Deed {
     for message in sent {
         if let Message::ProduceReply(ProduceReply { offset, .. }) = message {
-            let title = format!(in alloc; "duplicate of {offset}")?;
-            return Ok(plain(title, Some(Rule::BatchDuplicate)));
+            return at("duplicate of", *offset, Some(Rule::BatchDuplicate));
         }
     }
-    said(alloc, "duplicate", Some(Rule::BatchDuplicate))
+    said("duplicate", Some(Rule::BatchDuplicate))
+}
+
+// What a partition answered on a batch that it didn't append.
+fn batch_answered(seen: &Seen<'_>, code: ErrorCode) -> Deed {
+    match code {
+        ErrorCode::NoError => duplicate(seen.sent),
+        code => said(word_of(code), batch_rule(code)),
+    }
 }
 
 // What a partition did with a batch.
-fn batch_arrived(alloc: Global, seen: &Seen<'_>) -> Result<Deed, AllocError> {
+fn batch_arrived(seen: &Seen<'_>) -> Deed {
     if seen.has_appended() {
-        return appended(alloc, seen.before.end, Rule::BatchAppended);
+        return appended(seen);
     }
     match answer_in(seen.sent) {
-        None if seen.sent.is_empty() => said(alloc, "not for it", None),
-        None => said(alloc, "parked, asks", Some(Rule::BatchUnverified)),
-        Some(ErrorCode::NoError) => duplicate(alloc, seen.sent),
-        Some(code) => said(alloc, word_of(code), batch_rule(code)),
+        Some(code) => batch_answered(seen, code),
+        None if seen.sent.is_empty() => said("not for it", None),
+        None => said("parked, asks", Some(Rule::BatchUnverified)),
     }
 }
 
 // What a partition did with the coordinator's answer on requests that are parked.
-fn verified(alloc: Global, seen: &Seen<'_>) -> Result<Deed, AllocError> {
+fn verified(seen: &Seen<'_>) -> Deed {
     if seen.has_appended() {
-        return appended(alloc, seen.before.end, Rule::BatchAppended);
+        return appended(seen);
     }
     match answer_in(seen.sent) {
-        None => said(alloc, "nothing is parked", None),
-        Some(ErrorCode::NoError) => duplicate(alloc, seen.sent),
-        Some(code) => said(alloc, word_of(code), batch_rule(code)),
+        Some(code) => batch_answered(seen, code),
+        None => said("nothing is parked", None),
     }
 }
 
 // What a partition did with a marker.
-fn marker_arrived(alloc: Global, seen: &Seen<'_>, outcome: Outcome) -> Result<Deed, AllocError> {
+fn marker_arrived(seen: &Seen<'_>, outcome: Outcome) -> Deed {
     if seen.has_appended() {
-        return Ok(Deed {
-            title: String::from_str(alloc, marker_of(outcome))?,
+        return Deed {
+            title: Title::Words(marker_of(outcome)),
             rule: Some(Rule::MarkerAppended),
             mark: Mark::Marker,
-        });
+        };
     }
     match answer_in(seen.sent) {
-        None => said(alloc, "not for it", None),
-        Some(ErrorCode::NoError) => { said(alloc, "marker is there", Some(Rule::MarkerThere)) }
+        None => said("not for it", None),
+        Some(ErrorCode::NoError) => said("marker is there", Some(Rule::MarkerThere)),
         Some(ErrorCode::TransactionCoordinatorFenced) => {
-            said(alloc, "coordinator fenced", Some(Rule::MarkerFenced))
+            said("coordinator fenced", Some(Rule::MarkerFenced))
         }
         Some(ErrorCode::InvalidTxnState) => {
-            said(alloc, "another is open", Some(Rule::MarkerAnotherOpen))
+            said("another is open", Some(Rule::MarkerAnotherOpen))
         }
-        Some(code) => said(alloc, word_of(code), Some(Rule::MarkerClosed)),
+        Some(code) => said(word_of(code), Some(Rule::MarkerClosed)),
     }
 }
 
 // The id and the epoch that a reply gives.
-fn given(alloc: Global, sent: &[Message]) -> Result<Deed, AllocError> {
+fn given(sent: &[Message]) -> Deed {
     for message in sent {
         if let Message::InitReply(
             InitReply {
@@ -131,94 +207,83 @@ fn given(alloc: Global, sent: &[Message]) -> Result<Deed, AllocError> {
             } else {
                 Rule::InitTakesOver
             };
-            let title = format!(in alloc; "gives id {} epoch {}", held.id, held.epoch)?;
-            return Ok(plain(title, Some(rule)));
+            return with_id("gives", *held, Some(rule));
         }
     }
-    said(alloc, "done", None)
+    said("done", None)
 }
 
 // What the coordinator did with a request for an id.
-fn init_arrived(alloc: Global, seen: &Seen<'_>) -> Result<Deed, AllocError> {
+fn init_arrived(seen: &Seen<'_>) -> Deed {
     match answer_in(seen.sent) {
-        None => said(alloc, "not for it", None),
-        Some(ErrorCode::NoError) => given(alloc, seen.sent),
+        None => said("not for it", None),
+        Some(ErrorCode::NoError) => given(seen.sent),
         Some(ErrorCode::ConcurrentTransactions) if has_marker(seen.sent) => {
-            said(alloc, "fences: aborts", Some(Rule::InitFences))
+            said("fences: aborts", Some(Rule::InitFences))
         }
         Some(ErrorCode::ConcurrentTransactions) => {
-            said(alloc, "still preparing", Some(Rule::InitPreparing))
+            said("still preparing", Some(Rule::InitPreparing))
         }
-        Some(ErrorCode::ProducerFenced) => {
-            said(alloc, "below the owner", Some(Rule::InitBelowOwner))
-        }
-        Some(ErrorCode::InvalidTxnState) => said(alloc, "not twice", Some(Rule::InitNotTwice)),
-        Some(code) => said(alloc, word_of(code), None),
+        Some(ErrorCode::ProducerFenced) => said("below the owner", Some(Rule::InitBelowOwner)),
+        Some(ErrorCode::InvalidTxnState) => said("not twice", Some(Rule::InitNotTwice)),
+        Some(code) => said(word_of(code), None),
     }
 }
 
 // What the coordinator did with a partition's request to be listed.
-fn add_arrived(alloc: Global, seen: &Seen<'_>) -> Result<Deed, AllocError> {
+fn add_arrived(seen: &Seen<'_>) -> Deed {
     match answer_in(seen.sent) {
-        None => said(alloc, "not for it", None),
-        Some(ErrorCode::NoError) => said(alloc, "lists it", Some(Rule::AddListed)),
+        None => said("not for it", None),
+        Some(ErrorCode::NoError) => said("lists it", Some(Rule::AddListed)),
         Some(ErrorCode::InvalidProducerIdMapping) => {
-            said(alloc, "unknown producer id", Some(Rule::AddUnknown))
+            said("unknown producer id", Some(Rule::AddUnknown))
         }
-        Some(ErrorCode::InvalidProducerEpoch) => {
-            said(alloc, "epoch never given", Some(Rule::AddEpoch))
-        }
-        Some(ErrorCode::ProducerFenced) => said(alloc, "producer fenced", Some(Rule::AddOld)),
+        Some(ErrorCode::InvalidProducerEpoch) => said("epoch never given", Some(Rule::AddEpoch)),
+        Some(ErrorCode::ProducerFenced) => said("producer fenced", Some(Rule::AddOld)),
         Some(ErrorCode::ConcurrentTransactions) => {
-            said(alloc, "still preparing", Some(Rule::AddPreparing))
+            said("still preparing", Some(Rule::AddPreparing))
         }
-        Some(code) => said(alloc, word_of(code), None),
+        Some(code) => said(word_of(code), None),
     }
 }
 
 // What the coordinator did with the end of a transaction.
-fn end_arrived(alloc: Global, seen: &Seen<'_>, asked: &EndTxn) -> Result<Deed, AllocError> {
+fn end_arrived(seen: &Seen<'_>, asked: &EndTxn) -> Deed {
     match answer_in(seen.sent) {
-        None => said(alloc, "not for it", None),
+        None => said("not for it", None),
         Some(ErrorCode::NoError) if has_marker(seen.sent) => {
-            said(alloc, prepares(asked.outcome), Some(Rule::Ends))
+            said(prepares(asked.outcome), Some(Rule::Ends))
         }
-        Some(ErrorCode::NoError) => said(alloc, "ended already", Some(Rule::EndEnded)),
-        Some(ErrorCode::ProducerFenced) => said(alloc, "producer fenced", Some(Rule::EndOld)),
+        Some(ErrorCode::NoError) => said("ended already", Some(Rule::EndEnded)),
+        Some(ErrorCode::ProducerFenced) => said("producer fenced", Some(Rule::EndOld)),
         Some(ErrorCode::ConcurrentTransactions) => {
-            said(alloc, "still preparing", Some(Rule::EndPreparing))
+            said("still preparing", Some(Rule::EndPreparing))
         }
-        Some(ErrorCode::InvalidTxnState) => said(alloc, "ended otherwise", Some(Rule::EndOther)),
-        Some(code) => said(alloc, word_of(code), None),
+        Some(ErrorCode::InvalidTxnState) => said("ended otherwise", Some(Rule::EndOther)),
+        Some(code) => said(word_of(code), None),
     }
 }
 
 // What a node did with a group's request, by the rule for what it takes and for what it refuses.
-fn group_arrived(
-    alloc: Global,
-    seen: &Seen<'_>,
-    words: &str,
-    taken: Rule,
-    refused: Rule,
-) -> Result<Deed, AllocError> {
+fn group_arrived(seen: &Seen<'_>, words: &'static str, taken: Rule, refused: Rule) -> Deed {
     match answer_in(seen.sent) {
-        None if seen.sent.is_empty() => said(alloc, "not for it", None),
-        None => said(alloc, "parked, asks", Some(Rule::BatchUnverified)),
-        Some(ErrorCode::NoError) if seen.has_appended() => {
-            let mut deed = appended(alloc, seen.before.end, taken)?;
-            drop(std::mem::replace(&mut deed.title, String::from_str(alloc, words)?));
-            Ok(deed)
-        }
-        Some(ErrorCode::NoError) => said(alloc, words, Some(taken)),
+        None if seen.sent.is_empty() => said("not for it", None),
+        None => said("parked, asks", Some(Rule::BatchUnverified)),
+        Some(ErrorCode::NoError) if seen.has_appended() => Deed {
+            title: Title::Words(words),
+            rule: Some(taken),
+            mark: Mark::Batch,
+        },
+        Some(ErrorCode::NoError) => said(words, Some(taken)),
         Some(ErrorCode::IllegalGeneration) => {
-            said(alloc, "illegal generation", Some(Rule::OffsetsGeneration))
+            said("illegal generation", Some(Rule::OffsetsGeneration))
         }
-        Some(code) => said(alloc, word_of(code), Some(refused)),
+        Some(code) => said(word_of(code), Some(refused)),
     }
 }
 
 // What a client makes of a reply.
-fn heard(alloc: Global, reply: &Message) -> Result<Deed, AllocError> {
+fn heard(reply: &Message) -> Deed {
     match reply {
         Message::InitReply(
             InitReply {
@@ -226,162 +291,139 @@ fn heard(alloc: Global, reply: &Message) -> Result<Deed, AllocError> {
                 held: Some(held),
                 ..
             },
-        ) => {
-            let title = format!(in alloc; "is given id {} epoch {}", held.id, held.epoch)?;
-            Ok(plain(title, None))
-        }
+        ) => with_id("is given", *held, None),
         Message::ProduceReply(
             ProduceReply {
                 code: ErrorCode::NoError,
                 offset,
                 ..
             },
-        ) => Ok(plain(format!(in alloc; "stands at {offset}")?, None)),
+        ) => at("stands at", *offset, None),
         reply => match code_of(reply) {
-            Some(code) => said(alloc, word_of(code), None),
-            None => said(alloc, "not for it", None),
+            Some(code) => said(word_of(code), None),
+            None => said("not for it", None),
         },
     }
 }
 
 // What the coordinator did with the reply to a marker.
-fn settled(alloc: Global, seen: &Seen<'_>) -> Result<Deed, AllocError> {
+fn settled(seen: &Seen<'_>) -> Deed {
     let words = if seen.has_appended() {
         "completes it"
     } else {
         "notes the marker"
     };
-    said(alloc, words, Some(Rule::Settles))
+    said(words, Some(Rule::Settles))
 }
 
 // What a node did with a message.
-fn message_arrived(alloc: Global, seen: &Seen<'_>, message: &Message) -> Result<Deed, AllocError> {
+fn message_arrived(seen: &Seen<'_>, message: &Message) -> Deed {
     match message {
-        Message::InitProducerId(_) => init_arrived(alloc, seen),
-        Message::EndTxn(asked) => end_arrived(alloc, seen, asked),
-        Message::Produce(_) => batch_arrived(alloc, seen),
-        Message::AddPartition(_) => add_arrived(alloc, seen),
-        Message::AddReply(_) => verified(alloc, seen),
-        Message::WriteMarker(marker) => marker_arrived(alloc, seen, marker.outcome),
-        Message::MarkerReply(_) => settled(alloc, seen),
-        Message::Fetch(_) => said(alloc, "sends a page", None),
-        Message::Join(_) => group_arrived(alloc, seen, "joined", Rule::Joins, Rule::JoinRefused),
-        Message::Leave(_) => group_arrived(alloc, seen, "left", Rule::Leaves, Rule::LeaveRefused),
+        Message::InitProducerId(_) => init_arrived(seen),
+        Message::EndTxn(asked) => end_arrived(seen, asked),
+        Message::Produce(_) => batch_arrived(seen),
+        Message::AddPartition(_) => add_arrived(seen),
+        Message::AddReply(_) => verified(seen),
+        Message::WriteMarker(marker) => marker_arrived(seen, marker.outcome),
+        Message::MarkerReply(_) => settled(seen),
+        Message::Fetch(_) => said("sends a page", None),
+        Message::Join(_) => group_arrived(seen, "joined", Rule::Joins, Rule::JoinRefused),
+        Message::Leave(_) => group_arrived(seen, "left", Rule::Leaves, Rule::LeaveRefused),
         Message::TxnOffsetCommit(_) => {
-            let (taken, refused) = (Rule::OffsetsTaken, Rule::OffsetsNotMember);
-            group_arrived(alloc, seen, "offsets taken", taken, refused)
+            group_arrived(
+                seen,
+                "offsets taken",
+                Rule::OffsetsTaken,
+                Rule::OffsetsNotMember,
+            )
         }
         Message::OffsetFetch(_) => {
-            let (taken, refused) = (Rule::OffsetFetched, Rule::OffsetPending);
-            group_arrived(alloc, seen, "tells the offset", taken, refused)
+            group_arrived(
+                seen,
+                "tells the offset",
+                Rule::OffsetFetched,
+                Rule::OffsetPending,
+            )
         }
-        reply => heard(alloc, reply),
+        reply => heard(reply),
     }
 }
 
 // What a client is told to do.
-fn told(alloc: Global, command: &Command) -> Result<Deed, AllocError> {
+fn told(command: &Command) -> Deed {
     match command {
-        Command::Init => said(alloc, "asks for an id", None),
-        Command::Begin => said(alloc, "begins", None),
-        Command::Send(partition, values) => {
-            let count = values.count();
-            let title = format!(in alloc; "sends {count} to p{partition}")?;
-            Ok(plain(title, None))
-        }
-        Command::Join(_) => said(alloc, "asks to join", None),
-        Command::Leave => said(alloc, "asks to leave", None),
-        Command::Offsets(_) => said(alloc, "commits offsets", None),
-        Command::End(outcome) => said(alloc, ends(*outcome), None),
-        Command::Resend => said(alloc, "sends again", None),
-        Command::Poll => said(alloc, "goes on", None),
+        Command::Init => said("asks for an id", None),
+        Command::Begin => said("begins", None),
+        Command::Send(partition, values) => sends(*partition, values.count()),
+        Command::Join(_) => said("asks to join", None),
+        Command::Leave => said("asks to leave", None),
+        Command::Offsets(_) => said("commits offsets", None),
+        Command::End(outcome) => said(ends(*outcome), None),
+        Command::Resend => said("sends again", None),
+        Command::Poll => said("goes on", None),
     }
 }
 
 // What became of a batch of no producer.
-fn was_put(alloc: Global, seen: &Seen<'_>, answer: Produced) -> Result<Deed, AllocError> {
-    match answer {
-        Produced::Refused(code) => said(alloc, word_of(code), batch_rule(code)),
-        _ => appended(alloc, seen.before.end, Rule::BatchAppended),
+fn was_put(seen: &Seen<'_>) -> Deed {
+    match seen.note {
+        Note::Put(Produced::Refused(code)) => said(word_of(code), batch_rule(code)),
+        Note::Put(_) => appended(seen),
+        _ => said("not for it", None),
     }
 }
 
 // A node was opened again.
-fn reopened(alloc: Global, note: Note) -> Result<Deed, AllocError> {
+fn reopened(note: Note) -> Deed {
     let words = match note {
         Note::Closed(_) => "restart fails",
         Note::UsedUp => "epochs used up",
         _ => "restart",
     };
-    Ok(Deed {
-        title: String::from_str(alloc, words)?,
+    Deed {
+        title: Title::Words(words),
         rule: Some(Rule::Restarts),
         mark: Mark::Restart,
-    })
+    }
 }
 
-// What a node did with anything else.
-fn handed(alloc: Global, seen: &Seen<'_>, input: &Input) -> Result<Deed, AllocError> {
+// What a node did with an input.
+fn input_taken(seen: &Seen<'_>, input: &Input) -> Deed {
     match input {
-        Input::Deliver(message) => message_arrived(alloc, seen, message),
-        Input::Command(command) => told(alloc, command),
-        Input::Expire(_) if has_marker(seen.sent) => {
-            said(alloc, "expires: aborts", Some(Rule::Settles))
-        }
-        Input::Expire(_) => said(alloc, "nothing expires", Some(Rule::Settles)),
-        Input::Remind => said(alloc, "reminds", Some(Rule::Settles)),
-        Input::Drop(_, _) if seen.has_appended() => {
-            said(alloc, "drops a member", Some(Rule::Leaves))
-        }
-        Input::Drop(_, _) => said(alloc, "no such member", Some(Rule::LeaveRefused)),
-        Input::Put(_) => match seen.note {
-            Note::Put(answer) => was_put(alloc, seen, answer),
-            _ => said(alloc, "not for it", None),
-        },
-        Input::Restart(_) => reopened(alloc, seen.note),
+        Input::Deliver(message) => message_arrived(seen, message),
+        Input::Command(command) => told(command),
+        Input::Expire(_) if has_marker(seen.sent) => said("expires: aborts", Some(Rule::Settles)),
+        Input::Expire(_) => said("nothing expires", Some(Rule::Settles)),
+        Input::Remind => said("reminds", Some(Rule::Settles)),
+        Input::Drop(_, _) if seen.has_appended() => said("drops a member", Some(Rule::Leaves)),
+        Input::Drop(_, _) => said("no such member", Some(Rule::LeaveRefused)),
+        Input::Put(_) => was_put(seen),
+        Input::Restart(_) => reopened(seen.note),
     }
-}
-
-// What a client refused, which it was told to do.
-fn declined(alloc: Global, seen: &Seen<'_>) -> Result<Option<Deed>, AllocError> {
-    match seen.note {
-        Note::Refused(fault) => {
-            let title = format!(in alloc; "refuses: {fault:?}")?;
-            Ok(Some(plain(title, None)))
-        }
-        _ => Ok(None),
-    }
-}
-
-// What a client outside sends.
-fn asks(alloc: Global, request: &Message) -> Result<Deed, AllocError> {
-    let name = name_of(request);
-    Ok(plain(format!(in alloc; "sends {name}")?, None))
 }
 
 // What a step did, whatever its store did.
-fn done(alloc: Global, seen: &Seen<'_>) -> Result<Deed, AllocError> {
-    if let Some(deed) = declined(alloc, seen)? {
-        return Ok(deed);
+fn done(seen: &Seen<'_>) -> Deed {
+    if let Note::Refused(fault) = seen.note {
+        return refuses(fault);
     }
     match seen.took {
-        Took::Message(_, message) => message_arrived(alloc, seen, message),
-        Took::Input(input) => handed(alloc, seen, input),
-        Took::Nothing => said(alloc, "begins to run", None),
-        Took::Outside(request) => asks(alloc, request),
+        Took::Message(_, message) => message_arrived(seen, message),
+        Took::Input(input) => input_taken(seen, input),
+        Took::Nothing => said("begins to run", None),
+        Took::Outside(request) => asks(name_of(request)),
     }
 }
 
 /// What a step did.
-///
-/// # Errors
-///
-/// Only where memory runs out.
-pub(crate) fn deed_of(alloc: Global, seen: &Seen<'_>) -> Result<Deed, AllocError> {
-    let mut deed = done(alloc, seen)?;
-    if seen.failed && !matches!(deed.mark, Mark::Restart) {
-        drop(std::mem::replace(&mut deed.title, String::from_str(alloc, "store fails")?));
-        deed.mark = Mark::Failure;
+pub(crate) fn deed_of(seen: &Seen<'_>) -> Deed {
+    let deed = done(seen);
+    if !seen.failed || matches!(deed.mark, Mark::Restart) {
+        return deed;
     }
-    Ok(deed)
+    Deed {
+        title: Title::Words("store fails"),
+        rule: deed.rule,
+        mark: Mark::Failure,
+    }
 }

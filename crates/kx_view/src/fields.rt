@@ -37,41 +37,26 @@ pub(crate) fn producer_of(message: &Message) -> Option<i64> {
     }
 }
 
-// The client of a request, if the message is one.
-fn asking(message: &Message) -> Option<ClientId> {
-    match message {
-        Message::InitProducerId(request) => Some(request.caller.client),
-        Message::EndTxn(request) => Some(request.caller.client),
-        Message::Produce(request) => Some(request.caller.client),
-        Message::Fetch(request) => Some(request.caller.client),
-        Message::Join(request) => Some(request.caller.client),
-        Message::Leave(request) => Some(request.caller.client),
-        Message::TxnOffsetCommit(request) => Some(request.caller.client),
-        Message::OffsetFetch(request) => Some(request.caller.client),
-        _ => None,
-    }
-}
-
-// The client of a reply, if the message is one to a client.
-fn answered(message: &Message) -> Option<ClientId> {
-    match message {
-        Message::InitReply(reply) => Some(reply.caller.client),
-        Message::EndReply(reply) => Some(reply.caller.client),
-        Message::ProduceReply(reply) => Some(reply.caller.client),
-        Message::FetchReply(reply) => Some(reply.caller.client),
-        Message::JoinReply(reply) => Some(reply.caller.client),
-        Message::LeaveReply(reply) => Some(reply.caller.client),
-        Message::OffsetsReply(reply) => Some(reply.caller.client),
-        Message::OffsetFetchReply(reply) => Some(reply.caller.client),
-        _ => None,
-    }
-}
-
 /// The client that a message is from or for, if any.
 pub(crate) fn client_of(message: &Message) -> Option<ClientId> {
-    match asking(message) {
-        Some(client) => Some(client),
-        None => answered(message),
+    match message {
+        Message::InitProducerId(request) => Some(request.caller.client),
+        Message::InitReply(reply) => Some(reply.caller.client),
+        Message::EndTxn(request) => Some(request.caller.client),
+        Message::EndReply(reply) => Some(reply.caller.client),
+        Message::Produce(request) => Some(request.caller.client),
+        Message::ProduceReply(reply) => Some(reply.caller.client),
+        Message::Fetch(request) => Some(request.caller.client),
+        Message::FetchReply(reply) => Some(reply.caller.client),
+        Message::Join(request) => Some(request.caller.client),
+        Message::JoinReply(reply) => Some(reply.caller.client),
+        Message::Leave(request) => Some(request.caller.client),
+        Message::LeaveReply(reply) => Some(reply.caller.client),
+        Message::TxnOffsetCommit(request) => Some(request.caller.client),
+        Message::OffsetsReply(reply) => Some(reply.caller.client),
+        Message::OffsetFetch(request) => Some(request.caller.client),
+        Message::OffsetFetchReply(reply) => Some(reply.caller.client),
+        _ => None,
     }
 }
 

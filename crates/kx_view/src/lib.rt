@@ -1,11 +1,12 @@
 //! A run as it is watched: what each node took, did and sent, in Kafka's words, for a page (kx_page).
 //!
 //! `seen` is what a watcher sees of a step, `deeds` says what the step did and by which rule, with
-//! the words of `words` and what `fields` reads of messages; `logs` reads logs as they end, and
-//! `recorder` puts all of it together.
+//! the words of `words` and what `fields` reads of messages; `logs` reads logs as they end, `endings`
+//! has what became of each batch in them, and `recorder` puts all of it together.
 #![tactic(auto)]
 
 mod deeds;
+mod endings;
 mod fields;
 mod logs;
 mod recorder;

@@ -1,4 +1,5 @@
 //! Logs as they end: of each batch, what became of its transaction, and what readers are shown.
+use crate::endings::{Ending, Endings};
 use crate::seen::LogAt;
 use kx_batch::{BatchView, RecordView};
 use kx_message::Outcome;
@@ -32,8 +33,6 @@ pub(crate) struct ReadLog {
     alloc: Global,
     log: Log,
     kinds: Vec<Kind>,
-    // of each batch, the offset of the marker that ended its transaction
-    ends: Vec<Option<i64>>,
 }
 
 // What became of a transaction that ended so.
@@ -124,7 +123,6 @@ impl ReadLog {
                 batches: Vec::new(alloc),
             },
             kinds: Vec::new(alloc),
-            ends: Vec::new(alloc),
         }
     }
 
@@ -143,10 +141,9 @@ impl ReadLog {
             kind: words_of(self.alloc, batch, kind)?,
             records: records_of(self.alloc, batch)?,
             fate: Fate::Plain,
-            reading: String::new(self.alloc),
+            reading: "",
         };
         self.kinds.push(kind)?;
-        self.ends.push(None)?;
         self.log.batches.push(logged)?;
         Ok(())
     }
@@ -166,73 +163,62 @@ impl ReadLog {
     }
 }
 
+// What became of a batch's transaction, by the first marker of its producer after it.
+fn ending_of(kind: Kind, after: Option<&Ended>) -> Ending {
+    if let Some(outcome) = kind.marker {
+        return Ending {
+            fate: fate_of(outcome),
+            marker: None,
+        };
+    }
+    match after {
+        _ if !kind.is_transactional => Ending {
+            fate: Fate::Plain,
+            marker: None,
+        },
+        Some(ended) => Ending {
+            fate: fate_of(ended.outcome),
+            marker: Some(ended.offset),
+        },
+        None => Ending {
+            fate: Fate::Open,
+            marker: None,
+        },
+    }
+}
+
 impl ReadLog {
-    // What became of a batch's transaction, by the first marker of its producer after it.
-    fn judged(kind: Kind, after: Option<&Ended>) -> (Fate, Option<i64>) {
-        if let Some(outcome) = kind.marker {
-            return (fate_of(outcome), None);
-        }
-        if !kind.is_transactional {
-            return (Fate::Plain, None);
-        }
-        match after {
-            Some(ended) => (fate_of(ended.outcome), Some(ended.offset)),
-            None => (Fate::Open, None),
-        }
-    }
-
-    // Says of a batch what became of it.
-    fn settle(&mut self, number: usize, fate: Fate, end: Option<i64>) -> Result<(), AllocError> {
-        let Some(kind) = self.kinds.get(number).copied() else {
-            return Ok(());
-        };
-        let Some(logged) = self.log.batches.get_mut(number) else {
-            return Ok(());
-        };
-        let words = reading(kind, fate, logged.offset, self.log.stable);
+    // Says of a batch what became of it, and answers its offset.
+    fn settle(&mut self, number: usize, kind: Kind, fate: Fate) -> Option<i64> {
+        let stable = self.log.stable;
+        let logged = self.log.batches.get_mut(number)?;
         logged.fate = fate;
-        logged.reading.push_str(words)?;
-        if let Some(place) = self.ends.get_mut(number) {
-            *place = end;
-        }
-        Ok(())
+        logged.reading = reading(kind, fate, logged.offset, stable);
+        Some(logged.offset)
     }
 
-    /// Says of all batches that were read what became of them, from the end on.
+    /// Says of all batches that were read what became of them, from the end on, and notes it among
+    /// the endings of the log's lane.
     ///
     /// # Errors
     ///
     /// Only where memory runs out.
-    pub(crate) fn judge(&mut self) -> Result<(), AllocError> {
+    pub(crate) fn judge(&mut self, lane: usize, endings: &mut Endings) -> Result<(), AllocError> {
         let mut after: HashMap<i64, Ended> = HashMap::new(self.alloc);
         for number in (0..self.kinds.len()).rev() {
             let Some(kind) = self.kinds.get(number).copied() else {
                 continue;
             };
-            let (fate, end) = ReadLog::judged(kind, after.get(&kind.producer));
-            self.settle(number, fate, end)?;
-            if let (Some(outcome), Some(offset)) = (kind.marker, self.offset_of(number)) {
+            let ending = ending_of(kind, after.get(&kind.producer));
+            let Some(offset) = self.settle(number, kind, ending.fate) else {
+                continue;
+            };
+            endings.settle(lane, offset, ending)?;
+            if let Some(outcome) = kind.marker {
                 after.insert(kind.producer, Ended { outcome, offset })?;
             }
         }
         Ok(())
-    }
-
-    // The offset of a batch.
-    fn offset_of(&self, number: usize) -> Option<i64> {
-        Some(self.log.batches.get(number)?.offset)
-    }
-
-    /// What became of the batch at an offset, and at which offset the marker stands that ended its
-    /// transaction.
-    pub(crate) fn at(&self, offset: i64) -> Option<(Fate, Option<i64>)> {
-        let found = self.log.batches.as_slice();
-        let number = found.partition_point(|logged: &LoggedBatch| logged.offset < offset);
-        let logged = found.get(number)?;
-        if logged.offset != offset {
-            return None;
-        }
-        Some((logged.fate, self.ends.get(number).copied()?))
     }
 
     /// The log, as a page shows it.

@@ -2,7 +2,8 @@
 ghost use Rattle.std.specs.Prelude.{◌≡◌, ◌++◌, ◌∷◌, [], IfOk, OnErr, OnOk};
 ghost use Rattle.kx_view.specs.Recording.{AddsStep, TellSame, words_of};
 
-use crate::deeds::deed_of;
+use crate::deeds::{Deed, deed_of};
+use crate::endings::{Endings, Settled};
 use crate::fields::{client_of, producer_of};
 use crate::logs::ReadLog;
 use crate::seen::{LogAt, Seen, Took};
@@ -11,33 +12,17 @@ use kx_machine::{Input, Note};
 use kx_message::{Message, NodeId};
 use kx_page::{Arrow, Fate, Lane, Log, Mark, Run, Step, Way};
 use std::alloc::{AllocError, Global};
-use std::collections::HashMap;
 use std::marker::Model;
 
 // How many clients have a lane of their own; all others share one.
 const MOST_CLIENTS: usize = 12;
 
 // Whose lane it is.
-#[derive(Clone, Copy, Debug, PartialEq, Eq)]
+#[derive(Clone, Copy, PartialEq, Eq)]
 enum Owner {
     Node(NodeId),
     // All clients that have no lane of their own.
     Others,
-}
-
-// A batch or a marker that a step appended.
-#[derive(Clone, Copy)]
-struct Appended {
-    step: usize,
-    lane: usize,
-    offset: i64,
-}
-
-// What became of the batch that a step appended.
-#[derive(Clone, Copy)]
-struct Settled {
-    fate: Fate,
-    ended: Option<usize>,
 }
 
 /// A run as it is watched.
@@ -50,9 +35,8 @@ pub struct Recorder {
     first: Vec<Arrow>,
     // further arrivals
     again: Vec<Arrow>,
-    appended: Vec<Appended>,
-    // logs with their lanes
-    logs: Vec<(usize, ReadLog)>,
+    endings: Endings,
+    logs: Vec<Log>,
     // the lanes of clients outside
     outside: Vec<usize>,
 }
@@ -182,7 +166,7 @@ fn again_to(arrow: &Arrow, taken: usize) -> Result<Arrow, AllocError> {
         fate: Fate::Plain,
         client: arrow.client,
         producer: arrow.producer,
-        name: arrow.name.clone()?,
+        name: arrow.name,
         text: arrow.text.clone()?,
     })
 }
@@ -216,7 +200,7 @@ impl Recorder {
             steps: Vec::new(alloc),
             first: Vec::new(alloc),
             again: Vec::new(alloc),
-            appended: Vec::new(alloc),
+            endings: Endings::new(alloc),
             logs: Vec::new(alloc),
             outside: Vec::new(alloc),
         }
@@ -267,7 +251,7 @@ impl Recorder {
             fate: Fate::Plain,
             client,
             producer: producer_of(message),
-            name: String::from_str(self.alloc, name_of(message))?,
+            name: name_of(message),
             text: format!(in self.alloc; "{message}")?,
         };
         self.first.push(arrow)?;
@@ -312,14 +296,14 @@ impl Recorder {
         }
     }
 
-    // Notes whether a lane is that of a client outside.
-    fn note_outside(&mut self, lane: usize, seen: &Seen<'_>) -> Result<(), AllocError>
+    // Notes that a node is a client outside.
+    fn note_outside(&mut self, node: NodeId) -> Result<(), AllocError>
         ensures { self.new ≡ self.old }
     {
-        if !matches!(seen.took, Took::Outside(_)) || self.outside.as_slice().contains(&lane) {
-            return Ok(());
+        let lane = self.lane_of(node)?;
+        if !self.outside.as_slice().contains(&lane) {
+            self.outside.push(lane)?;
         }
-        self.outside.push(lane)?;
         Ok(())
     }
 
@@ -330,23 +314,18 @@ impl Recorder {
         if !seen.has_appended() {
             return Ok(());
         }
-        self.appended.push(Appended {
-            step: self.steps.len(),
-            lane,
-            offset: seen.before.end,
-        })?;
-        Ok(())
+        self.endings.append(self.steps.len(), lane, seen.before.end)
     }
 
     // A step as it is seen, before anything is known of what becomes of it.
     fn step_of(&self, lane: usize, seen: &Seen<'_>) -> Result<Step, AllocError> {
-        let deed = deed_of(self.alloc, seen)?;
+        let Deed { title, rule, mark } = deed_of(seen);
         Ok(Step {
             lane,
-            title: deed.title,
+            title: format!(in self.alloc; "{title}")?,
             detail: detail_of(self.alloc, seen)?,
-            rule: deed.rule,
-            mark: deed.mark,
+            rule,
+            mark,
             fate: Fate::Plain,
             client: client_in(seen),
             producer: producer_in(seen),
@@ -380,7 +359,6 @@ impl Recorder {
         let lane = self.lane_of(seen.node)?;
         let step = self.step_of(lane, seen)?;
         self.note_arrival(seen)?;
-        self.note_outside(lane, seen)?;
         self.append(lane, seen)?;
         self.send_all(lane, seen.sent)?;
         self.keep(step)
@@ -396,6 +374,7 @@ impl Recorder {
         ensures err { OnErr result (self.new ≡ self.old) }
     {
         let none = LogAt { end: 0, stable: 0 };
+        self.note_outside(sender_in(sent))?;
         self.add(&Seen {
             node: sender_in(sent),
             took: asked_in(sent),
@@ -420,55 +399,10 @@ impl Recorder {
         for text in texts {
             log.read(text)?;
         }
-        log.judge()?;
-        self.logs.push((lane, log))?;
+        log.judge(lane, &mut self.endings)?;
+        self.logs.push(log.into_log())?;
         Ok(())
     }
-}
-
-impl Recorder {
-    // Which step appended what stands at an offset, by lane and offset.
-    fn steps_by_place(&self) -> Result<HashMap<(usize, i64), usize>, AllocError> {
-        let mut found = HashMap::new(self.alloc);
-        for it in self.appended.as_slice() {
-            found.insert((it.lane, it.offset), it.step)?;
-        }
-        Ok(found)
-    }
-
-    // What became of a batch, as the log of its lane has it.
-    fn ending_of(&self, it: Appended) -> Option<(Fate, Option<i64>)> {
-        for (lane, log) in self.logs.as_slice() {
-            if *lane == it.lane {
-                return log.at(it.offset);
-            }
-        }
-        None
-    }
-
-    // What became of what each step appended, by the numbers of the steps.
-    fn endings(&self) -> Result<HashMap<usize, Settled>, AllocError> {
-        let steps = self.steps_by_place()?;
-        let mut found = HashMap::new(self.alloc);
-        for it in self.appended.as_slice() {
-            if let Some((fate, marker)) = self.ending_of(*it) {
-                let ended = match marker {
-                    Some(offset) => steps.get(&(it.lane, offset)).copied(),
-                    None => None,
-                };
-                found.insert(it.step, Settled { fate, ended })?;
-            }
-        }
-        Ok(found)
-    }
-}
-
-// What became of what a step appended; nothing where it appended nothing.
-fn ending_at(endings: &HashMap<usize, Settled>, step: usize) -> Settled {
-    endings.get(&step).copied().unwrap_or(Settled {
-        fate: Fate::Plain,
-        ended: None,
-    })
 }
 
 // The place of a lane from the left.
@@ -484,7 +418,7 @@ fn place_of(owners: &[Owner], lane: usize) -> usize {
 struct Ended<'a> {
     owners: &'a [Owner],
     outside: &'a [usize],
-    endings: &'a HashMap<usize, Settled>,
+    endings: &'a Endings,
 }
 
 // How a message went: what a client outside got isn't seen.
@@ -500,7 +434,7 @@ fn way_in_the_end(arrow: &Arrow, outside: &[usize]) -> Way {
 fn arrow_as_it_ended(arrow: Arrow, ended: Ended<'_>) -> Arrow {
     let fate = match arrow.way {
         Way::Lost | Way::Outside => Fate::Plain,
-        Way::First | Way::Again => ending_at(ended.endings, arrow.taken).fate,
+        Way::First | Way::Again => ended.endings.at(arrow.taken, arrow.to).fate,
     };
     Arrow {
         sent: arrow.sent,
@@ -532,15 +466,14 @@ fn add_arrows(
 fn steps_as_they_ended(
     alloc: Global,
     steps: Vec<Step>,
-    owners: &[Owner],
-    endings: &HashMap<usize, Settled>,
+    ended: Ended<'_>,
 ) -> Result<Vec<Step>, AllocError>
     ensures { IfOk result (λ ended. TellSame steps.items ended.items) }
 {
     let mut all = Vec::new(alloc);
     for step in steps {
-        let lane = place_of(owners, step.lane);
-        let how = ending_at(endings, all.len());
+        let lane = place_of(ended.owners, step.lane);
+        let how = ended.endings.at(all.len(), step.lane);
         all.push(as_it_ended(step, lane, how))?;
     }
     Ok(all)
@@ -562,15 +495,6 @@ fn lanes_of(alloc: Global, owners: &[Owner]) -> Result<Vec<Lane>, AllocError> {
     Ok(lanes)
 }
 
-// The logs, as a page shows them.
-fn logs_of(alloc: Global, logs: Vec<(usize, ReadLog)>) -> Result<Vec<Log>, AllocError> {
-    let mut all = Vec::new(alloc);
-    for (_, log) in logs {
-        all.push(log.into_log())?;
-    }
-    Ok(all)
-}
-
 impl Recorder {
     /// The run that was watched, of this title, once its logs were added.
     ///
@@ -580,16 +504,15 @@ impl Recorder {
     pub fn into_run(self, title: String) -> Result<Run, AllocError>
         ensures { IfOk result (λ run. TellSame self run.steps.items) }
     {
-        let endings = self.endings()?;
         let Recorder {
             alloc,
             owners,
             steps,
             first,
             again,
+            endings,
             logs,
             outside,
-            ..
         } = self;
         let owners = owners.as_slice();
         let ended = Ended {
@@ -603,9 +526,9 @@ impl Recorder {
         Ok(Run {
             title,
             lanes: lanes_of(alloc, owners)?,
-            steps: steps_as_they_ended(alloc, steps, owners, &endings)?,
+            steps: steps_as_they_ended(alloc, steps, ended)?,
             arrows,
-            logs: logs_of(alloc, logs)?,
+            logs,
         })
     }
 }

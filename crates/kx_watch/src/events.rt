@@ -2,10 +2,10 @@
 ghost use Rattle.std.specs.Prelude.{◌≡◌, ◌+◌, IfOk, OnOk, length};
 
 use crate::world::{add_logs, watch};
-use kx_core::{Event, LocalWorld, PartitionCount};
+use kx_core::{Event, PartitionCount};
 use kx_message::PartitionId;
 use kx_page::Run;
-use kx_processor::{Prefixed, Process};
+use kx_processor::Prefixed;
 use kx_script::Running;
 use kx_view::Recorder;
 use std::alloc::{AllocError, Global};
@@ -19,15 +19,15 @@ pub(crate) fn whole_world(alloc: Global) -> Result<Running, AllocError> {
 }
 
 // Events happen in a world, one after the other, and each is recorded.
-fn watch_all<F: Process + Copy>(
+fn watch_all(
     recorder: &mut Recorder,
-    world: &mut LocalWorld<F>,
-    events: &[Event<F>],
+    running: &mut Running,
+    events: &[Event<Prefixed>],
 ) -> Result<(), AllocError>
     ensures { OnOk result (length recorder.new ≡ length recorder.old + length events.now) }
 {
     for event in events {
-        watch(recorder, world, event)?;
+        watch(recorder, running, event)?;
     }
     Ok(())
 }
@@ -39,8 +39,8 @@ fn recorded(alloc: Global, events: &[Event<Prefixed>]) -> Result<Recorder, Alloc
 {
     let mut recorder = Recorder::new(alloc);
     let mut running = whole_world(alloc)?;
-    let watched = watch_all(&mut recorder, &mut running.world, events);
-    let added = add_logs(alloc, &mut recorder, &running.world);
+    let watched = watch_all(&mut recorder, &mut running, events);
+    let added = add_logs(alloc, &mut recorder, &running);
     running.end();
     watched?;
     added?;

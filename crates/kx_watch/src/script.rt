@@ -13,7 +13,7 @@ fn happen(
     running: &mut Running,
     read: &EventAt,
 ) -> Result<(), AllocError> {
-    let happened = watch(recorder, &mut running.world, &read.event)?;
+    let happened = watch(recorder, running, &read.event)?;
     if happened.failed {
         running.marks.set(&read.place, None);
     }
@@ -72,7 +72,7 @@ fn watch_world(
         return Err(ScriptFault::Memory);
     };
     let taken = take_lines(alloc, recorder, &mut running, script);
-    let added = add_logs(alloc, recorder, &running.world);
+    let added = add_logs(alloc, recorder, &running);
     running.end();
     taken?;
     match added {

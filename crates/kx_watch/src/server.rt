@@ -89,10 +89,10 @@ impl ServerWatch {
     fn happen(&mut self, event: Event<Prefixed>) -> Result<(), AllocError>
         ensures { OnOk result (AddsSteps 1 self.old self.new) }
     {
-        let watched = watch(&mut self.recorder, &mut self.running.world, &event);
+        let watched = watch(&mut self.recorder, &mut self.running, &event);
         drop(event);
         watched?;
-        let sent = self.running.world.sent();
+        let sent = self.running.sent();
         let last = sent.last();
         let first = sent.len().saturating_sub(last.len());
         self.transit.add(first, last)
@@ -110,7 +110,7 @@ impl ServerWatch {
     {
         match request_in(input)? {
             Some(request) => {
-                let number = self.running.world.sent().len();
+                let number = self.running.sent().len();
                 self.happen(Event::Arrive { request })?;
                 self.happen(Event::Deliver { number, to, store })
             }
@@ -136,7 +136,7 @@ impl ServerWatch {
             transit,
         } = self;
         drop(transit);
-        let added = add_logs(alloc, &mut recorder, &running.world);
+        let added = add_logs(alloc, &mut recorder, &running);
         running.end();
         added?;
         recorder.into_run(title)

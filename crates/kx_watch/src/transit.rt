@@ -28,7 +28,7 @@ fn next_in(copies: &mut Copies) -> Option<usize> {
 }
 
 impl Transit {
-    /// Nothing is on the way.
+    /// The messages on the way before any was sent: none.
     pub(crate) fn new(alloc: Global) -> Transit {
         Transit {
             alloc,

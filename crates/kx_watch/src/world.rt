@@ -2,12 +2,12 @@
 ghost use Rattle.std.specs.Prelude.{◌≡◌, OnErr, OnOk};
 ghost use Rattle.kx_view.specs.Recording.{AddsStep};
 
-use kx_core::{Event, Happened, LocalWorld, Sent};
-use kx_log::Store;
-use kx_machine::Machine;
+use kx_core::{Event, Happened, Sent};
+use kx_machines::LocalStore;
 use kx_message::{NodeId, PartitionId};
 use kx_partition::Partition;
-use kx_processor::Process;
+use kx_processor::Prefixed;
+use kx_script::Running;
 use kx_view::{LogAt, Recorder, Seen, Took};
 use std::alloc::{AllocError, Global};
 
@@ -15,7 +15,7 @@ use std::alloc::{AllocError, Global};
 const NO_LOG: LogAt = LogAt { end: 0, stable: 0 };
 
 // The node of the world at which an event is. A request from outside is at none.
-fn node_of<F: Process>(event: &Event<F>) -> Option<NodeId> {
+fn node_of(event: &Event<Prefixed>) -> Option<NodeId> {
     match event {
         Event::Make { client, .. } | Event::MakeProcessor { client, .. } => {
             Some(NodeId::Client(*client))
@@ -26,7 +26,7 @@ fn node_of<F: Process>(event: &Event<F>) -> Option<NodeId> {
 }
 
 // How far a partition's log reaches.
-fn reach<S: Store>(partition: &Partition<S>) -> LogAt {
+fn reach(partition: &Partition<LocalStore>) -> LogAt {
     LogAt {
         end: partition.end(),
         stable: partition.lso(),
@@ -42,22 +42,19 @@ fn entries(count: usize) -> LogAt {
 }
 
 // How far a node's log reaches, if it has one.
-fn log_at<F: Process + Copy>(world: &LocalWorld<F>, node: Option<NodeId>) -> LogAt {
+fn log_at(running: &Running, node: Option<NodeId>) -> LogAt {
     match &node {
-        Some(NodeId::Coordinator) => entries(world.coordinator().coordinator().entry_count()),
-        Some(NodeId::Partition(partition)) if partition.is_data() => {
-            match world.partition(*partition) {
-                Some(server) => reach(server.partition()),
-                None => NO_LOG,
-            }
-        }
-        Some(NodeId::Partition(_)) => reach(world.offsets().groups().partition()),
+        Some(NodeId::Coordinator) => entries(running.entry_count()),
+        Some(NodeId::Partition(partition)) => match running.partition(*partition) {
+            Some(partition) => reach(partition),
+            None => NO_LOG,
+        },
         Some(NodeId::Client(_)) | None => NO_LOG,
     }
 }
 
 // What a node takes in an event, of the messages that were sent.
-fn took_in<'a, F: Process>(event: &'a Event<F>, sent: &'a Sent) -> Took<'a> {
+fn took_in<'a>(event: &'a Event<Prefixed>, sent: &'a Sent) -> Took<'a> {
     match event {
         Event::Deliver { number, .. } => match sent.get(*number) {
             Some(message) => Took::Message(*number, message),
@@ -70,10 +67,10 @@ fn took_in<'a, F: Process>(event: &'a Event<F>, sent: &'a Sent) -> Took<'a> {
 
 // Records the step of an event that happened: that of its node, whose log reached so far before and
 // after it, or that of a client outside.
-fn record<'a, F: Process>(
+fn record<'a>(
     recorder: &mut Recorder,
     sent: &'a Sent,
-    event: &'a Event<F>,
+    event: &'a Event<Prefixed>,
     happened: Happened,
     before: LogAt,
     after: LogAt,
@@ -101,57 +98,39 @@ fn record<'a, F: Process>(
 /// # Errors
 ///
 /// Only where memory runs out; then the steps are as before.
-pub fn watch<F: Process + Copy>(
+pub fn watch(
     recorder: &mut Recorder,
-    world: &mut LocalWorld<F>,
-    event: &Event<F>,
+    running: &mut Running,
+    event: &Event<Prefixed>,
 ) -> Result<Happened, AllocError>
     ensures ok { OnOk result (AddsStep recorder.old recorder.new) }
     ensures err { OnErr result (recorder.new ≡ recorder.old) }
 {
-    let before = log_at(world, node_of(event));
-    let happened = world.happen(event)?;
-    let after = log_at(world, node_of(event));
-    record(recorder, world.sent(), event, happened, before, after)?;
+    let before = log_at(running, node_of(event));
+    let happened = running.happen(event)?;
+    let after = log_at(running, node_of(event));
+    record(recorder, running.sent(), event, happened, before, after)?;
     Ok(happened)
 }
 
-// Records a partition's log, which reaches so far, if it has a batch.
-fn add_log<M: Machine>(
+// Records the log of a partition, if the partition is there and has a batch.
+fn add_log(
     alloc: Global,
     recorder: &mut Recorder,
+    running: &Running,
     partition: PartitionId,
-    at: LogAt,
-    machine: &M,
 ) -> Result<(), AllocError>
     ensures { recorder.new ≡ recorder.old }
 {
+    let Some(log) = running.partition(partition) else {
+        return Ok(());
+    };
+    let at = reach(log);
     if at.end == 0 {
         return Ok(());
     }
-    let texts: Vec<&[u8]> = machine.batches_from(0, u32::MAX).collect(alloc)?;
+    let texts: Vec<&[u8]> = log.slice(0, i64::MAX, u32::MAX).collect(alloc)?;
     recorder.add_log(NodeId::Partition(partition), at, texts.as_slice())
-}
-
-// Records the log of the data partition of this number, if it has a batch.
-fn add_data_log<F: Process + Copy>(
-    alloc: Global,
-    recorder: &mut Recorder,
-    world: &LocalWorld<F>,
-    number: u16,
-) -> Result<(), AllocError>
-    ensures { recorder.new ≡ recorder.old }
-{
-    let Ok(partition) = PartitionId::try_from(number) else {
-        return Ok(());
-    };
-    match world.partition(partition) {
-        Some(server) => {
-            let at = reach(server.partition());
-            add_log(alloc, recorder, partition, at, server)
-        }
-        None => Ok(()),
-    }
 }
 
 /// Records the logs of a world's partitions that have a batch, as they end.
@@ -159,16 +138,13 @@ fn add_data_log<F: Process + Copy>(
 /// # Errors
 ///
 /// Only where memory runs out.
-pub fn add_logs<F: Process + Copy>(
-    alloc: Global,
-    recorder: &mut Recorder,
-    world: &LocalWorld<F>,
-) -> Result<(), AllocError>
+pub fn add_logs(alloc: Global, recorder: &mut Recorder, running: &Running) -> Result<(), AllocError>
     ensures { recorder.new ≡ recorder.old }
 {
     for number in 0..PartitionId::DATA_COUNT {
-        add_data_log(alloc, recorder, world, number)?;
+        if let Ok(partition) = PartitionId::try_from(number) {
+            add_log(alloc, recorder, running, partition)?;
+        }
     }
-    let at = reach(world.offsets().groups().partition());
-    add_log(alloc, recorder, PartitionId::OFFSETS, at, world.offsets())
+    add_log(alloc, recorder, running, PartitionId::OFFSETS)
 }
