@@ -10,7 +10,7 @@ use kx_machine::{Input, StoreMode};
 use kx_message::NodeId;
 use kx_nodes::Made;
 use kx_trace::TracedNode;
-use kx_trace_audit::{Progress, ToldStep, TraceAudit, TraceOf, TraceRefusal};
+use kx_trace_audit::{Progress, Server, ToldStep, TraceAudit, TraceOf, TraceRefusal};
 use std::alloc::{AllocError, Global};
 use std::fs::{File, Files};
 use std::io;
@@ -48,26 +48,25 @@ fn keep(
 
 // Makes the next step of a trace again, if it can be made now, and keeps it; says whether the trace
 // went on.
-fn go_on(
-    audit: &mut TraceAudit<ServerNode>,
+fn go_on<B: Server>(
+    audit: &mut TraceAudit<B>,
     trace: usize,
     node: NodeId,
     steps: &mut Vec<ServerStep>,
 ) -> Result<bool, TraceRefusal> {
     let told = audit.next(trace)?;
-    match audit.go(trace)? {
-        Progress::Made { .. } => {
-            keep(steps, node, told)?;
-            Ok(true)
-        }
-        Progress::NotTaken => Ok(true),
-        Progress::Waits | Progress::NeedsMore => Ok(false),
+    let went = audit.go(trace);
+    if matches!(went, Ok(Progress::Made { .. })) {
+        keep(steps, node, told)?;
+    } else {
+        drop(told);
     }
+    Ok(matches!(went?, Progress::Made { .. } | Progress::NotTaken))
 }
 
 // Goes on by an item in each trace, one after the other, until none goes on.
-fn go_all(
-    audit: &mut TraceAudit<ServerNode>,
+fn go_all<B: Server>(
+    audit: &mut TraceAudit<B>,
     nodes: &[NodeId],
     steps: &mut Vec<ServerStep>,
 ) -> Result<(), TraceRefusal> {
@@ -84,9 +83,9 @@ fn go_all(
 }
 
 // Feeds all bytes that a reader gives.
-fn feed_all<I: Read>(
+fn feed_all<B: Server, I: Read>(
     alloc: Global,
-    audit: &mut TraceAudit<ServerNode>,
+    audit: &mut TraceAudit<B>,
     trace: usize,
     reader: &mut I,
 ) -> io::Result<()> {
@@ -98,9 +97,9 @@ fn feed_all<I: Read>(
 }
 
 // Feeds all bytes of the traces, and notes up to which trace it came.
-fn feed_traces(
+fn feed_traces<B: Server>(
     alloc: Global,
-    audit: &mut TraceAudit<ServerNode>,
+    audit: &mut TraceAudit<B>,
     sources: &mut Vec<Source<File>>,
     last: &mut usize,
 ) -> io::Result<()> {
@@ -120,9 +119,9 @@ fn fault_at(of: &[TraceOf], trace: usize, kind: ErrorKind) -> AuditFault {
 }
 
 // Feeds all bytes of traces that were found.
-fn feed_found(
+fn feed_found<B: Server>(
     alloc: Global,
-    audit: &mut TraceAudit<ServerNode>,
+    audit: &mut TraceAudit<B>,
     traces: &mut Traces<File>,
 ) -> Result<(), AuditFault> {
     let mut last = 0;

@@ -1,4 +1,5 @@
 pub mod Ahead
+pub mod Mapped
 pub mod Records
 pub mod Telling
 pub mod Texts
