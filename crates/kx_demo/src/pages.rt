@@ -14,9 +14,10 @@ use std::io::Write;
 
 // The audited run as it is drawn: its clients and steps happen again, as events of a world.
 fn drawn(alloc: Global, run: &Found) -> Result<Run, AllocError> {
-    let title = String::from_str(alloc, "A demonstration")?;
     let events = events_of(alloc, run)?;
-    run_of_events(alloc, title, events.as_slice())
+    let drawn = run_of_events(alloc, "A demonstration", events.as_slice());
+    drop(events);
+    drawn
 }
 
 // Writes the page of a run that is drawn.

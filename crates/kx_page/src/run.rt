@@ -133,7 +133,7 @@ pub struct Log {
 #[derive(Drop)]
 pub struct Run {
     /// What ran.
-    pub title: String,
+    pub title: &'static str,
     /// The lanes.
     pub lanes: Vec<Lane>,
     /// The steps.

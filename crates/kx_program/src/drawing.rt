@@ -63,11 +63,7 @@ fn draw<R: Files<File = File> + AllocGlobal, E: Write>(
     script: &[u8],
     errors: &mut E,
 ) -> bool {
-    let Ok(title) = String::from_str(rt.alloc(), "A script") else {
-        let _ = failed(errors, ScriptFault::Memory);
-        return false;
-    };
-    match run_of_script(rt.alloc(), title, script) {
+    match run_of_script(rt.alloc(), "A script", script) {
         Ok(run) => draw_run(rt, asked, &run, errors),
         Err(fault) => {
             let _ = failed(errors, fault);
@@ -134,10 +130,9 @@ fn take_all(watch: &mut ServerWatch, steps: &[ServerStep]) -> Result<(), AllocEr
 fn server_run(alloc: Global, steps: &[ServerStep]) -> Result<Run, AllocError>
     ensures { IfOk result (λ run. length run.steps.items ≡ rows_of steps.now) }
 {
-    let title = String::from_str(alloc, "A server")?;
     let mut watch = ServerWatch::new(alloc)?;
     match take_all(&mut watch, steps) {
-        Ok(()) => watch.into_run(title),
+        Ok(()) => watch.into_run("A server"),
         Err(error) => {
             watch.end();
             Err(error)

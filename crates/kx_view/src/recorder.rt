@@ -501,7 +501,7 @@ impl Recorder {
     /// # Errors
     ///
     /// Only where memory runs out.
-    pub fn into_run(self, title: String) -> Result<Run, AllocError>
+    pub fn into_run(self, title: &'static str) -> Result<Run, AllocError>
         ensures { IfOk result (λ run. TellSame self run.steps.items) }
     {
         let Recorder {

@@ -3,17 +3,14 @@ ghost use Rattle.std.specs.Prelude.{◌≡◌, [], IfOk, OnOk, is_some};
 ghost use Rattle.kx_view.specs.Recording.{TellSame};
 ghost use Rattle.kx_watch.specs.Steps.{AddsSteps, is_outside, steps_of};
 
-use crate::events::whole_world;
 use crate::transit::Transit;
-use crate::world::{add_logs, watch};
+use crate::world::Watched;
 use kx_core::Event;
 use kx_machine::{Input, StoreMode};
 use kx_message::NodeId;
 use kx_outside::{OutsideRequest, can_arrive};
 use kx_page::Run;
 use kx_processor::Prefixed;
-use kx_script::Running;
-use kx_view::Recorder;
 use std::alloc::{AllocError, Global};
 use std::marker::Model;
 
@@ -21,8 +18,7 @@ use std::marker::Model;
 /// [`into_run`](ServerWatch::into_run) or [`end`](ServerWatch::end).
 pub struct ServerWatch {
     alloc: Global,
-    recorder: Recorder,
-    running: Running,
+    watched: Watched,
     transit: Transit,
 }
 
@@ -32,7 +28,7 @@ impl Model for ServerWatch {
 
     ghost Value = { List Step };
 
-    ghost view = { λ w. w.recorder };
+    ghost view = { λ w. w.watched };
 }
 
 // The client's request that an input is, if it arrives from outside.
@@ -76,11 +72,10 @@ impl ServerWatch {
     pub fn new(alloc: Global) -> Result<ServerWatch, AllocError>
         ensures { IfOk result (λ watch. watch ≡ []) }
     {
-        let running = whole_world(alloc)?;
+        let watched = Watched::whole(alloc)?;
         Ok(ServerWatch {
             alloc,
-            recorder: Recorder::new(alloc),
-            running,
+            watched,
             transit: Transit::new(alloc),
         })
     }
@@ -89,10 +84,10 @@ impl ServerWatch {
     fn happen(&mut self, event: Event<Prefixed>) -> Result<(), AllocError>
         ensures { OnOk result (AddsSteps 1 self.old self.new) }
     {
-        let watched = watch(&mut self.recorder, &mut self.running, &event);
+        let happened = self.watched.happen(&event);
         drop(event);
-        watched?;
-        let sent = self.running.sent();
+        happened?;
+        let sent = self.watched.running.sent();
         let last = sent.last();
         let first = sent.len().saturating_sub(last.len());
         self.transit.add(first, last)
@@ -110,7 +105,7 @@ impl ServerWatch {
     {
         match request_in(input)? {
             Some(request) => {
-                let number = self.running.sent().len();
+                let number = self.watched.running.sent().len();
                 self.happen(Event::Arrive { request })?;
                 self.happen(Event::Deliver { number, to, store })
             }
@@ -126,32 +121,26 @@ impl ServerWatch {
     /// # Errors
     ///
     /// Only where memory runs out.
-    pub fn into_run(self, title: String) -> Result<Run, AllocError>
+    pub fn into_run(self, title: &'static str) -> Result<Run, AllocError>
         ensures { IfOk result (λ run. TellSame self run.steps.items) }
     {
         let ServerWatch {
             alloc,
-            mut recorder,
-            running,
+            watched,
             transit,
         } = self;
         drop(transit);
-        let added = add_logs(alloc, &mut recorder, &running);
-        running.end();
-        added?;
-        recorder.into_run(title)
+        watched.into_run(alloc, title)
     }
 
     /// Drops all that was watched.
     pub fn end(self) {
         let ServerWatch {
             alloc: _alloc,
-            recorder,
-            running,
+            watched,
             transit,
         } = self;
-        drop(recorder);
         drop(transit);
-        running.end();
+        watched.end();
     }
 }

@@ -1,15 +1,17 @@
 //! A world in which an event happens and is watched.
-ghost use Rattle.std.specs.Prelude.{◌≡◌, OnErr, OnOk};
-ghost use Rattle.kx_view.specs.Recording.{AddsStep};
+ghost use Rattle.std.specs.Prelude.{◌≡◌, [], IfOk, OnErr, OnOk};
+ghost use Rattle.kx_view.specs.Recording.{AddsStep, TellSame};
 
-use kx_core::{Event, Happened, Sent};
+use kx_core::{Event, Happened, PartitionCount, Sent};
 use kx_machines::LocalStore;
 use kx_message::{NodeId, PartitionId};
+use kx_page::Run;
 use kx_partition::Partition;
 use kx_processor::Prefixed;
 use kx_script::Running;
 use kx_view::{LogAt, Recorder, Seen, Took};
 use std::alloc::{AllocError, Global};
+use std::marker::Model;
 
 // The log of a node that has none.
 const NO_LOG: LogAt = LogAt { end: 0, stable: 0 };
@@ -93,26 +95,6 @@ fn record<'a>(
     recorder.add(&seen)
 }
 
-/// An event happens in a world, and its step is recorded.
-///
-/// # Errors
-///
-/// Only where memory runs out; then the steps are as before.
-pub fn watch(
-    recorder: &mut Recorder,
-    running: &mut Running,
-    event: &Event<Prefixed>,
-) -> Result<Happened, AllocError>
-    ensures ok { OnOk result (AddsStep recorder.old recorder.new) }
-    ensures err { OnErr result (recorder.new ≡ recorder.old) }
-{
-    let before = log_at(running, node_of(event));
-    let happened = running.happen(event)?;
-    let after = log_at(running, node_of(event));
-    record(recorder, running.sent(), event, happened, before, after)?;
-    Ok(happened)
-}
-
 // Records the log of a partition, if the partition is there and has a batch.
 fn add_log(
     alloc: Global,
@@ -133,12 +115,8 @@ fn add_log(
     recorder.add_log(NodeId::Partition(partition), at, texts.as_slice())
 }
 
-/// Records the logs of a world's partitions that have a batch, as they end.
-///
-/// # Errors
-///
-/// Only where memory runs out.
-pub fn add_logs(alloc: Global, recorder: &mut Recorder, running: &Running) -> Result<(), AllocError>
+// Records the logs of a world's partitions that have a batch, as they end.
+fn add_logs(alloc: Global, recorder: &mut Recorder, running: &Running) -> Result<(), AllocError>
     ensures { recorder.new ≡ recorder.old }
 {
     for number in 0..PartitionId::DATA_COUNT {
@@ -147,4 +125,93 @@ pub fn add_logs(alloc: Global, recorder: &mut Recorder, running: &Running) -> Re
         }
     }
     add_log(alloc, recorder, running, PartitionId::OFFSETS)
+}
+
+/// A world that is watched: each event that happens in it is recorded. It ends by
+/// [`into_run`](Watched::into_run) or [`end`](Watched::end).
+pub(crate) struct Watched {
+    pub(crate) recorder: Recorder,
+    pub(crate) running: Running,
+}
+
+impl Model for Watched {
+    ghost use Rattle.std.specs.Prelude.{List};
+    ghost use Rattle.kx_page.specs.declared.run.Step.{Step};
+
+    ghost Value = { List Step };
+
+    ghost view = { λ w. w.recorder };
+}
+
+impl Watched {
+    /// A world of this many data partitions, in which nothing has happened.
+    ///
+    /// # Errors
+    ///
+    /// Only where memory runs out.
+    pub(crate) fn new(alloc: Global, partitions: PartitionCount) -> Result<Watched, AllocError>
+        ensures { IfOk result (λ watched. watched ≡ []) }
+    {
+        let running = Running::new(alloc, partitions)?;
+        Ok(Watched {
+            recorder: Recorder::new(alloc),
+            running,
+        })
+    }
+
+    /// A world of all data partitions, in which nothing has happened.
+    ///
+    /// # Errors
+    ///
+    /// Only where memory runs out.
+    pub(crate) fn whole(alloc: Global) -> Result<Watched, AllocError>
+        ensures { IfOk result (λ watched. watched ≡ []) }
+    {
+        match PartitionCount::new(PartitionId::DATA_COUNT) {
+            Some(partitions) => Watched::new(alloc, partitions),
+            None => Err(AllocError),
+        }
+    }
+
+    /// An event happens in the world, and its step is recorded.
+    ///
+    /// # Errors
+    ///
+    /// Only where memory runs out; then the steps are as before.
+    pub(crate) fn happen(&mut self, event: &Event<Prefixed>) -> Result<Happened, AllocError>
+        ensures ok { OnOk result (AddsStep self.old self.new) }
+        ensures err { OnErr result (self.new ≡ self.old) }
+    {
+        let before = log_at(&self.running, node_of(event));
+        let happened = self.running.happen(event)?;
+        let after = log_at(&self.running, node_of(event));
+        let sent = self.running.sent();
+        record(&mut self.recorder, sent, event, happened, before, after)?;
+        Ok(happened)
+    }
+
+    /// The run that was watched, of this title, with the logs to which it led.
+    ///
+    /// # Errors
+    ///
+    /// Only where memory runs out.
+    pub(crate) fn into_run(self, alloc: Global, title: &'static str) -> Result<Run, AllocError>
+        ensures { IfOk result (λ run. TellSame self run.steps.items) }
+    {
+        let Watched {
+            mut recorder,
+            running,
+        } = self;
+        let added = add_logs(alloc, &mut recorder, &running);
+        running.end();
+        added?;
+        recorder.into_run(title)
+    }
+
+    /// Drops all that was watched.
+    pub(crate) fn end(self) {
+        let Watched { recorder, running } = self;
+        drop(recorder);
+        running.end();
+    }
 }

@@ -1,10 +1,13 @@
-use Rattle.std.proofs.Common.{◌∙◌}
+use Rattle.std.proofs.Common.{◌∙◌, ◌+◌, List, ap, length, zero-add}
 use Rattle.std.proofs.lemmas.Result.{IfOk-weaker}
+use Rattle.kx_page.specs.declared.run.Step.{Step}
 use Rattle.kx_watch.proofs.Counting.{as_many}
 use Rattle.kx_watch.proofs.events.run_of_events.Goals as goal
 
-pub returns : goal.returns
-returns c =
+pub returns-in-Ok : goal.returns-in-Ok
+returns-in-Ok c =
+    let count = length c.args.events.now in
     IfOk-weaker c.into_run.result _ _
-    (λ run same. as_many c.in_ok-recorder.recorder run.steps.items same ∙ c.in_ok-recorder.ensures)
+    (λ run same. as_many c.watch_all.new.watched run.steps.items same ∙ c.in-Ok.ensures
+    ∙ ap (λ (steps : List Step). length steps + count) c.in_ok-watched.ensures ∙ zero-add count)
     c.into_run.ensures
