@@ -2,7 +2,8 @@
 ghost use Rattle.std.specs.Prelude.{◌≡◌, ◌∷◌, [], All, IfErr, OnOk, drop, length, true};
 ghost use Rattle.kx_machine.specs.Meaning.{NodeState};
 ghost use Rattle.kx_machines.specs.Brokers.{broker_stands};
-ghost use Rattle.kx_server_audit.specs.Denials.{IfNo, IsLogDenied, IsNoAtOnce, IsOther, IsOtherLogOf};
+ghost use Rattle.kx_server_audit.specs.Denials.{IfNo, IsBadLog, IsLogDenied, IsNoAtOnce, IsOther};
+ghost use Rattle.kx_server_audit.specs.Denials.{IsOtherLogOf};
 ghost use Rattle.kx_server_audit.specs.Logs.{LogIs};
 ghost use Rattle.kx_server_audit.specs.Telling.{HasLog};
 ghost use Rattle.kx_server_audit.specs.declared.denial.Denial.TheVariants.{OtherLog};
@@ -50,7 +51,10 @@ fn note_log(
     bytes: Vec<u8>,
 ) -> Result<(), Stop>
     ensures count { length of.new.items ≡ length of.old.items }
-    ensures no { IfErr result (λ stop. IfNo stop (IsNoAtOnce true)) }
+    ensures no { IfErr result (λ stop. IfNo stop (λ d.
+        (d ≡ OtherLog node.now) × IsBadLog node.now bytes.items)) }
+    // Such a no is one before the audit.
+    ensures at_once { IfErr result (λ stop. IfNo stop (IsNoAtOnce true)) }
 {
     let Some(trace) = trace_of(of.as_slice(), node) else {
         if bytes.is_empty() {
