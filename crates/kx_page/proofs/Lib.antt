@@ -1,2 +1,3 @@
+mod Flat
 mod Markup
 mod Rows

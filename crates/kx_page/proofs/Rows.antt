@@ -1,8 +1,11 @@
 -- One more row.
 use Rattle.std.proofs.Common.{◌≡◌, ◌∙◌, ◌+◌, ◌<◌, ◌++◌, ◌∷◌, [], ℕ, List, suc, ap, sym, arith}
-use Rattle.std.proofs.Common.{append_assoc, get_or, length, subst, take, zero-add}
+use Rattle.std.proofs.Common.{append-nil, append_assoc, get_or, length, refl, subst, take, zero}
+use Rattle.std.proofs.Common.{zero-add}
+use Rattle.std.proofs.lemmas.Grind.{flat_map-append}
 use Rattle.std.proofs.lemmas.List.{length-take-le, take_more}
-use Rattle.kx_page.specs.Rows.{Told, rows_from, told}
+use Rattle.kx_page.specs.Rows.{Told, rows_from, rows_of, told, told_in}
+use Rattle.kx_page.specs.declared.piece.Piece.{Piece}
 use Rattle.kx_page.specs.declared.run.Step.{Step}
 
 rows_push : (n : ℕ) (xs : List Step) (x : Step)
@@ -25,3 +28,27 @@ rows_more steps i x before within =
     (subst (λ (m : ℕ). rows_from 0 (take i steps) ++ told m y ∷ []
     ≡ rows_from 0 (take i steps ++ y ∷ [])) few (sym (rows_push 0 (take i steps) y))
     ∙ ap (rows_from 0) (sym (take_more steps i x within)))
+
+none_before : (told rest : List Told) → told ++ rest ≡ [] → told ≡ []
+none_before [] rest none = refl
+none_before (t ∷ told) rest none = absurd cc
+
+none_after : (told rest : List Told) → told ++ rest ≡ [] → rest ≡ []
+none_after [] rest none = none
+none_after (t ∷ told) rest none = absurd cc
+
+-- a piece among others that have no row has none
+pub no_row : (pieces : List Piece) (i : ℕ) (p : Piece) → i < length pieces → rows_of pieces ≡ []
+    → told_in (get_or pieces i p) ≡ []
+no_row [] i p within none = absurd (omega (arith, within))
+no_row (first ∷ pieces) zero p within none = none_before (told_in first) (rows_of pieces) none
+no_row (first ∷ pieces) (suc i) p within none = no_row pieces i p (omega (arith, within))
+    (none_after (told_in first) (rows_of pieces) none)
+
+-- one more piece, which has no row
+pub none_more : (old new : List Piece) (p : Piece) → new ≡ old ++ p ∷ [] → told_in p ≡ []
+    → rows_of new ≡ rows_of old
+none_more old new p pushed none =
+    ap rows_of pushed ∙ flat_map-append told_in old (p ∷ [])
+    ∙ ap (λ (told : List Told). rows_of old ++ (told ++ [])) none
+    ∙ append-nil (rows_of old)

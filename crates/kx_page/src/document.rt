@@ -34,21 +34,21 @@ fn head<'a>(html: &mut Html<'a>, run: &'a Run) -> Result<(), AllocError>
     let title = run.title.as_bytes();
     add(
         html,
+        "<!DOCTYPE html>
+<html lang=\"en\"><head><meta charset=\"utf-8\">
+<meta name=\"viewport\" content=\"width=device-width,initial-scale=1\">
+<title>{}</title>
+<style>
+{}{}</style></head>
+<body><header><h1>{}</h1><p>{} steps, {} messages</p>
+{}",
         &[
-            Markup("<!DOCTYPE html>\n<html lang=\"en\"><head><meta charset=\"utf-8\">\n"),
-            Markup("<meta name=\"viewport\" content=\"width=device-width,initial-scale=1\">\n"),
-            Markup("<title>"),
             Value(title),
-            Markup("</title>\n<style>\n"),
             Markup(DIAGRAM),
             Markup(PAGE),
-            Markup("</style></head>\n<body><header><h1>"),
             Value(title),
-            Markup("</h1><p>"),
             Number(written(run.steps.len())),
-            Markup(" steps, "),
             Number(written(run.arrows.len())),
-            Markup(" messages</p>\n"),
             Markup(FORM),
         ],
     )
@@ -58,11 +58,11 @@ fn head<'a>(html: &mut Html<'a>, run: &'a Run) -> Result<(), AllocError>
 fn names<'a>(html: &mut Html<'a>, run: &'a Run) -> Result<(), AllocError>
     ensures { OnOk result (KeepsRows html.old.items html.new.items) }
 {
-    add(html, &[Markup("<div class=\"names\">")])?;
+    add(html, "<div class=\"names\">", &[])?;
     svg_head(html, run.lanes.len(), 0, NAMES)?;
-    add(html, &[Markup(TIPS)])?;
+    add(html, "{}", &[Markup(TIPS)])?;
     lane_names(html, run.lanes.as_slice())?;
-    add(html, &[Markup("</svg></div>\n")])
+    add(html, "</svg></div>\n", &[])
 }
 
 // Adds the diagram of a part, and the head of the list of its rows.
@@ -75,22 +75,12 @@ fn part_head<'a>(html: &mut Html<'a>, run: &'a Run, first: usize) -> Result<(), 
     let number = written(first);
     add(
         html,
-        &[
-            Markup("<section class=\"part\" style=\"--h:"),
-            Number(height),
-            Markup("px\">\n"),
-        ],
+        "<section class=\"part\" style=\"--h:{}px\">\n",
+        &[Number(height)],
     )?;
     svg_head(html, run.lanes.len(), top, height)?;
     shown(html, run, Part { first, end })?;
-    add(
-        html,
-        &[
-            Markup("</svg>\n<ol start=\""),
-            Number(number),
-            Markup("\">\n"),
-        ],
-    )
+    add(html, "</svg>\n<ol start=\"{}\">\n", &[Number(number)])
 }
 
 // Adds what stands between the parts of a page.
@@ -98,7 +88,7 @@ fn part_begins<'a>(html: &mut Html<'a>, run: &'a Run, first: usize) -> Result<()
     ensures { OnOk result (KeepsRows html.old.items html.new.items) }
 {
     if first != 0 {
-        add(html, &[Markup("</ol></section>\n")])?;
+        add(html, "</ol></section>\n", &[])?;
     }
     part_head(html, run, first)
 }
@@ -108,18 +98,13 @@ fn rule_of(html: &mut Html<'_>, step: &Step) -> Result<(), AllocError>
     ensures { OnOk result (KeepsRows html.old.items html.new.items) }
 {
     let Some(rule) = step.rule else {
-        return add(html, &[Markup("</li>\n")]);
+        return add(html, "</li>\n", &[]);
     };
     let anchor = rule.anchor();
     add(
         html,
-        &[
-            Markup(" <a class=\"rule\" href=\"#"),
-            Markup(anchor),
-            Markup("\">"),
-            Markup(anchor),
-            Markup("</a></li>\n"),
-        ],
+        " <a class=\"rule\" href=\"#{}\">{}</a></li>\n",
+        &[Markup(anchor), Markup(anchor)],
     )
 }
 
@@ -128,7 +113,7 @@ fn row_of<'a>(html: &mut Html<'a>, number: usize, step: &'a Step) -> Result<(), 
     ensures { OnOk result (rows_of html.new.items
         ≡ rows_of html.old.items ++ told number step.now ∷ []) }
 {
-    add(html, &[Markup("<li")])?;
+    add(html, "<li", &[])?;
     about(html, step.lane, step.client, step.producer)?;
     let told = Row {
         number: number as u64,
@@ -173,18 +158,13 @@ fn batch<'a>(html: &mut Html<'a>, batch: &'a LoggedBatch) -> Result<(), AllocErr
 {
     add(
         html,
+        "<tr class=\"{}\"><td class=\"k\">{}</td><td>{}</td><td>{}</td><td>{}</td></tr>\n",
         &[
-            Markup("<tr class=\""),
             Markup(class_of(batch.fate)),
-            Markup("\"><td class=\"k\">"),
             Number(batch.offset),
-            Markup("</td><td>"),
             Value(batch.kind.as_bytes()),
-            Markup("</td><td>"),
             Value(batch.records.as_slice()),
-            Markup("</td><td>"),
             Value(batch.reading.as_bytes()),
-            Markup("</td></tr>\n"),
         ],
     )
 }
@@ -198,10 +178,7 @@ fn next_batch<'a>(
     ensures { OnOk result (KeepsRows html.old.items html.new.items) }
 {
     if number != 0 && number % PART == 0 {
-        add(
-            html,
-            &[Markup("</table></div>\n<div class=\"log\"><table>\n")],
-        )?;
+        add(html, "</table></div>\n<div class=\"log\"><table>\n", &[])?;
     }
     batch(html, given)
 }
@@ -222,20 +199,15 @@ fn log<'a>(html: &mut Html<'a>, log: &'a Log) -> Result<(), AllocError>
 {
     add(
         html,
+        "<h3>{}</h3><p>last stable offset {}, end {}</p>\n<div class=\"log\"><table><tr><th>offset</th><th>batch</th><th>records</th><th>a reader of committed records</th></tr>\n",
         &[
-            Markup("<h3>"),
             Value(log.name.as_bytes()),
-            Markup("</h3><p>last stable offset "),
             Number(log.stable),
-            Markup(", end "),
             Number(log.end),
-            Markup("</p>\n"),
-            Markup("<div class=\"log\"><table><tr><th>offset</th><th>batch</th><th>records</th>"),
-            Markup("<th>a reader of committed records</th></tr>\n"),
         ],
     )?;
     batches(html, log.batches.as_slice())?;
-    add(html, &[Markup("</table></div>\n")])
+    add(html, "</table></div>\n", &[])
 }
 
 // Adds the logs.
@@ -248,30 +220,39 @@ fn logs<'a>(html: &mut Html<'a>, all: &'a [Log]) -> Result<(), AllocError>
     Ok(())
 }
 
-// Adds what stands beside and below the steps.
+// Adds the end of the last part, if there is one.
+fn parts_end(html: &mut Html<'_>, run: &Run) -> Result<(), AllocError>
+    ensures { OnOk result (KeepsRows html.old.items html.new.items) }
+{
+    if run.steps.is_empty() {
+        return Ok(());
+    }
+    add(html, "</ol></section>\n", &[])
+}
+
+// Adds what stands beside and below the steps: the logs, the rules, and the page's script.
 fn tail<'a>(html: &mut Html<'a>, run: &'a Run) -> Result<(), AllocError>
     ensures { OnOk result (KeepsRows html.old.items html.new.items) }
 {
-    if !run.steps.is_empty() {
-        add(html, &[Markup("</ol></section>\n")])?;
-    }
+    parts_end(html, run)?;
     add(
         html,
-        &[
-            Markup("</div>\n<aside><div id=\"chosen\">"),
-            Markup("Point at a step, or choose it by a key.</div>\n<h2>Logs as they end</h2>\n"),
-        ],
+        "</div>
+<aside><div id=\"chosen\">Point at a step, or choose it by a key.</div>
+<h2>Logs as they end</h2>
+",
+        &[],
     )?;
     logs(html, run.logs.as_slice())?;
     add(
         html,
-        &[
-            Markup("</aside></main>\n<section id=\"rules\"><h2>Rules</h2>\n"),
-            Markup(RULES),
-            Markup("</section>\n<script>\n"),
-            Markup(SCRIPT),
-            Markup("</script></body></html>\n"),
-        ],
+        "</aside></main>
+<section id=\"rules\"><h2>Rules</h2>
+{}</section>
+<script>
+{}</script></body></html>
+",
+        &[Markup(RULES), Markup(SCRIPT)],
     )
 }
 
@@ -300,6 +281,19 @@ pub fn page<'a>(alloc: Global, run: &'a Run) -> Result<Vec<u8>, AllocError>
     text(alloc, html.as_slice())
 }
 
+// Adds the title and the style of an image, and the names of the lanes above its steps.
+fn image_head<'a>(html: &mut Html<'a>, run: &'a Run) -> Result<(), AllocError>
+    ensures { OnOk result (KeepsRows html.old.items html.new.items) }
+{
+    add(
+        html,
+        "<title>{}</title>\n<style>{}</style>\n<rect class=\"back\" x=\"0\" y=\"-28\" width=\"100%\" height=\"100%\"/>{}<g transform=\"translate(0 -28)\">\n",
+        &[Value(run.title.as_bytes()), Markup(DIAGRAM), Markup(TIPS)],
+    )?;
+    lane_names(html, run.lanes.as_slice())?;
+    add(html, "</g>\n", &[])
+}
+
 // Adds the diagram of a whole run as an image of its own.
 fn drawn<'a>(html: &mut Html<'a>, run: &'a Run) -> Result<(), AllocError>
     ensures { OnOk result (KeepsRows html.old.items html.new.items) }
@@ -307,25 +301,9 @@ fn drawn<'a>(html: &mut Html<'a>, run: &'a Run) -> Result<(), AllocError>
     let end = run.steps.len();
     let height = top_of(end).saturating_add(NAMES).saturating_add(ROW);
     svg_head(html, run.lanes.len(), -NAMES, height)?;
-    add(
-        html,
-        &[
-            Markup("<title>"),
-            Value(run.title.as_bytes()),
-            Markup("</title>\n<style>"),
-            Markup(DIAGRAM),
-            Markup("</style>\n<rect class=\"back\" x=\"0\" y=\"-28\""),
-            Markup(" width=\"100%\" height=\"100%\"/>"),
-            Markup(TIPS),
-            Markup("<g transform=\"translate(0 "),
-            Number(-NAMES),
-            Markup(")\">\n"),
-        ],
-    )?;
-    lane_names(html, run.lanes.as_slice())?;
-    add(html, &[Markup("</g>\n")])?;
+    image_head(html, run)?;
     shown(html, run, Part { first: 0, end })?;
-    add(html, &[Markup("</svg>\n")])
+    add(html, "</svg>\n", &[])
 }
 
 /// The diagram of a run alone, in SVG. No value of the run can become markup.

@@ -7,7 +7,7 @@ ghost use Rattle.kx_page.specs.Rows.{KeepsRows};
 
 use crate::html::{Html, add};
 use crate::piece::Piece::{Markup, Number, Value};
-use crate::places::{HALF, ROW, left_of, right_of, top_of, width_of, written, x_of, y_of};
+use crate::places::{HALF, ROW, left_of, middle, right_of, top_of, width_of, written, x_of, y_of};
 use crate::run::{Arrow, Fate, Lane, Mark, Run, Step, Way};
 use std::alloc::AllocError;
 
@@ -33,7 +33,7 @@ fn attribute(html: &mut Html<'_>, name: &'static str, number: Option<i64>) -> Re
     ensures { OnOk result (KeepsRows html.old.items html.new.items) }
 {
     match number {
-        Some(number) => add(html, &[Markup(name), Number(number), Markup("\"")]),
+        Some(number) => add(html, "{}{}\"", &[Markup(name), Number(number)]),
         None => Ok(()),
     }
 }
@@ -63,14 +63,11 @@ fn lane_line(html: &mut Html<'_>, lane: usize, part: Part) -> Result<(), AllocEr
 {
     add(
         html,
+        "<path class=\"lane\" d=\"M{} {}V{}\"/>\n",
         &[
-            Markup("<path class=\"lane\" d=\"M"),
             Number(x_of(lane)),
-            Markup(" "),
             Number(top_of(part.first)),
-            Markup("V"),
             Number(top_of(part.end)),
-            Markup("\"/>\n"),
         ],
     )
 }
@@ -84,16 +81,12 @@ fn waiting(html: &mut Html<'_>, number: usize, step: &Step) -> Result<(), AllocE
     };
     add(
         html,
+        "<path class=\"wait {}\" d=\"M{} {}V{}\"/>\n",
         &[
-            Markup("<path class=\"wait "),
             Markup(class_of(step.fate)),
-            Markup("\" d=\"M"),
             Number(left_of(step.lane)),
-            Markup(" "),
             Number(y_of(number)),
-            Markup("V"),
             Number(y_of(ended)),
-            Markup("\"/>\n"),
         ],
     )
 }
@@ -109,16 +102,12 @@ fn boxed(
 {
     add(
         html,
+        "<rect x=\"{}\" y=\"{}\" width=\"{}\" height=\"18\" rx=\"{}\"/>",
         &[
-            Markup("<rect x=\""),
             Number(left_of(step.lane)),
-            Markup("\" y=\""),
             Number(y_of(number).saturating_sub(9)),
-            Markup("\" width=\""),
             Number(2 * HALF),
-            Markup("\" height=\"18\" rx=\""),
             Markup(corners),
-            Markup("\"/>"),
         ],
     )
 }
@@ -129,14 +118,11 @@ fn across(html: &mut Html<'_>, number: usize, step: &Step) -> Result<(), AllocEr
 {
     add(
         html,
+        "<path class=\"across\" d=\"M{} {}h{}\"/>",
         &[
-            Markup("<path class=\"across\" d=\"M"),
             Number(left_of(step.lane)),
-            Markup(" "),
             Number(y_of(number).saturating_add(10)),
-            Markup("h"),
             Number(2 * HALF),
-            Markup("\"/>"),
         ],
     )
 }
@@ -147,13 +133,8 @@ fn dot(html: &mut Html<'_>, number: usize, step: &Step) -> Result<(), AllocError
 {
     add(
         html,
-        &[
-            Markup("<circle r=\"4\" cx=\""),
-            Number(x_of(step.lane)),
-            Markup("\" cy=\""),
-            Number(y_of(number)),
-            Markup("\"/>"),
-        ],
+        "<circle r=\"4\" cx=\"{}\" cy=\"{}\"/>",
+        &[Number(x_of(step.lane)), Number(y_of(number))],
     )
 }
 
@@ -187,14 +168,11 @@ fn title<'a>(html: &mut Html<'a>, number: usize, step: &'a Step) -> Result<(), A
     let beside = if matches!(step.mark, Mark::Dot) { 8 } else { 0 };
     add(
         html,
+        "<text x=\"{}\" y=\"{}\">{}</text></a>\n",
         &[
-            Markup("<text x=\""),
             Number(x_of(step.lane).saturating_add(beside)),
-            Markup("\" y=\""),
             Number(y_of(number).saturating_add(4)),
-            Markup("\">"),
             Value(step.title.as_bytes()),
-            Markup("</text></a>\n"),
         ],
     )
 }
@@ -209,22 +187,42 @@ fn stable(html: &mut Html<'_>, number: usize, step: &Step) -> Result<(), AllocEr
     let y = y_of(number).saturating_add(ROW / 2);
     add(
         html,
+        "<path class=\"lso\" d=\"M{} {}h{}\"/><text class=\"lso\" x=\"{}\" y=\"{}\">LSO {}</text>\n",
         &[
-            Markup("<path class=\"lso\" d=\"M"),
             Number(left_of(step.lane)),
-            Markup(" "),
             Number(y),
-            Markup("h"),
             Number(2 * HALF),
-            Markup("\"/><text class=\"lso\" x=\""),
             Number(right_of(step.lane)),
-            Markup("\" y=\""),
             Number(y.saturating_add(3)),
-            Markup("\">LSO "),
             Number(offset),
-            Markup("</text>\n"),
         ],
     )
+}
+
+// Adds the head of the link from a step to its row.
+fn link_head(html: &mut Html<'_>, number: usize, step: &Step) -> Result<(), AllocError>
+    ensures { OnOk result (KeepsRows html.old.items html.new.items) }
+{
+    add(
+        html,
+        "<a class=\"{}{}\" href=\"#s{}\"",
+        &[
+            Markup(mark_class(step.mark)),
+            Markup(class_of(step.fate)),
+            Number(written(number)),
+        ],
+    )?;
+    about(html, step.lane, step.client, step.producer)?;
+    add(html, ">", &[])
+}
+
+// Adds the shape of a step and what it did, as a link to its row.
+fn link<'a>(html: &mut Html<'a>, number: usize, step: &'a Step) -> Result<(), AllocError>
+    ensures { OnOk result (KeepsRows html.old.items html.new.items) }
+{
+    link_head(html, number, step)?;
+    shape(html, number, step)?;
+    title(html, number, step)
 }
 
 // Adds a step.
@@ -232,21 +230,7 @@ fn step_of<'a>(html: &mut Html<'a>, number: usize, step: &'a Step) -> Result<(),
     ensures { OnOk result (KeepsRows html.old.items html.new.items) }
 {
     waiting(html, number, step)?;
-    add(
-        html,
-        &[
-            Markup("<a class=\""),
-            Markup(mark_class(step.mark)),
-            Markup(class_of(step.fate)),
-            Markup("\" href=\"#s"),
-            Number(written(number)),
-            Markup("\""),
-        ],
-    )?;
-    about(html, step.lane, step.client, step.producer)?;
-    add(html, &[Markup(">")])?;
-    shape(html, number, step)?;
-    title(html, number, step)?;
+    link(html, number, step)?;
     stable(html, number, step)
 }
 
@@ -272,7 +256,7 @@ fn end_of(arrow: &Arrow) -> (i64, i64) {
     match arrow.way {
         Way::First | Way::Again => (x_of(arrow.to), y_of(arrow.taken)),
         Way::Outside => (x_of(arrow.to), below),
-        Way::Lost => (x_of(arrow.from) / 2 + x_of(arrow.to) / 2, below),
+        Way::Lost => (middle(x_of(arrow.from), x_of(arrow.to)), below),
     }
 }
 
@@ -284,24 +268,16 @@ fn arrow_line<'a>(html: &mut Html<'a>, arrow: &'a Arrow) -> Result<(), AllocErro
     let (to, taken) = end_of(arrow);
     add(
         html,
+        "><path d=\"M{} {}L{} {}\"/><title>{}</title><text class=\"name\" x=\"{}\" y=\"{}\">{}</text></g>\n",
         &[
-            Markup("><path d=\"M"),
             Number(from),
-            Markup(" "),
             Number(sent),
-            Markup("L"),
             Number(to),
-            Markup(" "),
             Number(taken),
-            Markup("\"/><title>"),
             Value(arrow.text.as_bytes()),
-            Markup("</title><text class=\"name\" x=\""),
-            Number(from / 2 + to / 2),
-            Markup("\" y=\""),
-            Number((sent / 2 + taken / 2).saturating_add(3)),
-            Markup("\">"),
+            Number(middle(from, to)),
+            Number(middle(sent, taken).saturating_add(3)),
             Value(arrow.name.as_bytes()),
-            Markup("</text></g>\n"),
         ],
     )
 }
@@ -312,15 +288,12 @@ fn arrow_of<'a>(html: &mut Html<'a>, arrow: &'a Arrow) -> Result<(), AllocError>
 {
     add(
         html,
+        "<g class=\"{}{}\" data-f=\"{}\" data-s=\"{}\"",
         &[
-            Markup("<g class=\""),
             Markup(way_class(arrow.way)),
             Markup(class_of(arrow.fate)),
-            Markup("\" data-f=\""),
             Number(written(arrow.sent)),
-            Markup("\" data-s=\""),
             Number(written(arrow.taken)),
-            Markup("\""),
         ],
     )?;
     about(html, arrow.to, arrow.client, arrow.producer)?;
@@ -376,13 +349,8 @@ fn lane_name<'a>(html: &mut Html<'a>, number: usize, lane: &'a Lane) -> Result<(
 {
     add(
         html,
-        &[
-            Markup("<text class=\"lane\" x=\""),
-            Number(x_of(number)),
-            Markup("\" y=\"18\">"),
-            Value(lane.name.as_bytes()),
-            Markup("</text>\n"),
-        ],
+        "<text class=\"lane\" x=\"{}\" y=\"18\">{}</text>\n",
+        &[Number(x_of(number)), Value(lane.name.as_bytes())],
     )
 }
 
@@ -408,18 +376,13 @@ pub(crate) fn svg_head(
     let width = width_of(lanes);
     add(
         html,
+        "<svg xmlns=\"http://www.w3.org/2000/svg\" width=\"{}\" height=\"{}\" viewBox=\"0 {} {} {}\">\n",
         &[
-            Markup("<svg xmlns=\"http://www.w3.org/2000/svg\" width=\""),
             Number(width),
-            Markup("\" height=\""),
             Number(height),
-            Markup("\" viewBox=\"0 "),
             Number(top),
-            Markup(" "),
             Number(width),
-            Markup(" "),
             Number(height),
-            Markup("\">\n"),
         ],
     )
 }

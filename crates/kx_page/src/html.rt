@@ -9,11 +9,26 @@ use std::alloc::AllocError;
 /// The pieces of a page.
 pub type Html<'a> = Vec<Piece<'a>>;
 
-/// Adds pieces, none of which is the head of a row.
-pub(crate) fn add<'a>(html: &mut Html<'a>, pieces: &[Piece<'a>]) -> Result<(), AllocError>
+/// Adds markup with these pieces in the place of its holes `{}`, one after the other; none of them is
+/// the head of a row. A piece without a hole is left out.
+pub(crate) fn add<'a>(
+    html: &mut Html<'a>,
+    template: &'static str,
+    pieces: &[Piece<'a>],
+) -> Result<(), AllocError>
     ensures { rows_of pieces.now ≡ [] → OnOk result (KeepsRows html.old.items html.new.items) }
 {
-    html.extend_from_slice(pieces)
+    let mut rest = template;
+    for piece in pieces {
+        let Some((before, after)) = rest.split_once("{}") else {
+            break;
+        };
+        html.push(Piece::Markup(before))?;
+        html.push(*piece)?;
+        rest = after;
+    }
+    html.push(Piece::Markup(rest))?;
+    Ok(())
 }
 
 /// Adds the head of a step's row.

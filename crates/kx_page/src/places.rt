@@ -39,6 +39,11 @@ pub(crate) fn top_of(step: usize) -> i64 {
     signed(step).saturating_mul(ROW)
 }
 
+/// The place halfway between two.
+pub(crate) fn middle(one: i64, other: i64) -> i64 {
+    one / 2 + other / 2
+}
+
 /// How wide this many lanes are, with room for what the last one says.
 pub(crate) fn width_of(lanes: usize) -> i64 {
     signed(lanes).saturating_mul(LANE).saturating_add(LANE / 3)

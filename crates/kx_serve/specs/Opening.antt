@@ -4,14 +4,17 @@ use Rattle.logbook.specs.Pages.{Book}
 use Rattle.kx_broker.specs.Serving.{opened_partition}
 use Rattle.kx_laws.specs.Grown.{IsGrown}
 use Rattle.kx_log.specs.Log.{IsLog}
-use Rattle.kx_machine.specs.Meaning.{AtCoordinator, AtPartition}
+use Rattle.kx_machine.specs.Meaning.{AtCoordinator, AtPartition, NodeState}
 use Rattle.kx_message.specs.Ranges.{data_partitions}
 use Rattle.kx_model.specs.CoordinatorNode.{Coordinator}
 use Rattle.kx_published.specs.declared.book.Opened.{Opened}
 use Rattle.kx_machines.specs.Brokers.{broker_stands}
 use Rattle.kx_publishing.specs.Brokers.{broker_log}
 use Rattle.kx_machines.specs.declared.broker.BrokerMachine.{BrokerMachine}
+use Rattle.kx_model.specs.Log.{Stored}
+use Rattle.kx_nodes.specs.Taking.{Alone}
 use Rattle.kx_recording.specs.Recorded.{Recorded}
+use Rattle.kx_serve.specs.declared.placing.OpenedNode.{OpenedNode}
 
 -- the machine is the server of the partition whose log was opened, and has parked nothing
 pub record IsOpened {S : Type 0} (number : ℕ) (machine : BrokerMachine S) : Type 0 where
@@ -29,6 +32,22 @@ pub record StandsForCoordinator {S : Type 0} (r : Recorded (BrokerMachine S)) : 
 pub record HasBook (named : ℕ → Book) (opened : Opened) : Type 0 where
   pub is_data : opened.partition < data_partitions
   pub book : opened.seen.book ≡ named opened.partition
+
+-- a partition's node serves it as its log was opened, and has parked nothing; the book of its publishes
+-- is the one that its name stands for
+pub record IsReady {L : Type 0} (stands : NodeState → L → Type 0) (log : L → List Stored)
+    (named : ℕ → Book) (node : OpenedNode L) : Type 0 where
+  pub stands : stands
+      (AtPartition node.opened.partition (opened_partition (log node.locked))) node.locked
+  pub placed : IsLog (log node.locked)
+  pub grown : IsGrown (log node.locked)
+  pub book : node.opened.seen.book ≡ named node.opened.partition
+
+-- so of a node whose machine's steps may be written to a trace
+abbrev pub IsServing : {S : Type 0} → (ℕ → Book) → OpenedNode (Alone (Recorded (BrokerMachine S)))
+    → Type 0
+IsServing = IsReady (λ node locked. broker_stands node locked.machine.machine)
+    (λ locked. broker_log locked.machine.machine)
 
 -- books of partitions, from this one on
 abbrev pub InOrder : ℕ → List Opened → Type 0

@@ -1,47 +1,61 @@
 //! The nodes of a server, whose logs are in memory or in the files of a folder, and what a folder
 //! lacks.
-ghost use Rattle.std.specs.Prelude.{◌≡◌, ◌<◌, All, IfOk};
+ghost use Rattle.std.specs.Prelude.{◌≡◌, ◌<◌, ◌++◌, ◌∷◌, [], All, IfOk, OnOk};
 ghost use Rattle.kx_coord_node.specs.Stands.{Stands, opened_coordinator};
 ghost use Rattle.kx_machine.specs.Meaning.{AtCoordinator};
 ghost use Rattle.kx_message.specs.Ranges.{data_partitions, offsets_partition};
-ghost use Rattle.kx_serve.specs.Opening.{HasBook, IsOpened, StandsForCoordinator};
+ghost use Rattle.kx_serve.specs.Opening.{HasBook, IsOpened, IsServing, StandsForCoordinator};
 
 use crate::fault::ServeFault;
 use crate::files::LogFile;
 use crate::folder::{Folder, fault_in};
 use crate::members::members_of;
 use crate::owed::{first_missing, names};
-use crate::placing::{placed, unpublished};
+use crate::placing::{OpenedNode, OpenedNodes};
 use crate::tracing::{ServerMachine, Traces, recorded, restarted};
 use kx_broker::{OffsetsMachine, PartitionMachine};
 use kx_coord_node::CoordinatorMachine;
+use kx_log::Store;
 use kx_machines::BrokerMachine;
 use kx_message::{NodeId, PartitionId};
 use kx_nodes::Untraced;
 use kx_published::book::{Naming, Opened};
-use kx_server::{Connections, MOST_READERS, Member, Nodes, Partitions, Place};
+use kx_server::{Member, Partitions};
 use kx_trace::TracedNode;
 use kx_trace_files::{OpenedTrace, TraceFile};
 use kx_txnlog::TxnLog;
 use std::alloc::{AllocError, Global};
 use std::fs::{File, Files};
-use std::sync::Wait;
 
 // Puts a node after the others.
-fn add<N: Drop>(nodes: &mut Vec<N>, node: N) -> Result<(), AllocError> {
+fn add<N: Drop>(nodes: &mut Vec<N>, node: N) -> Result<(), AllocError>
+    ensures { OnOk result (nodes.new.items ≡ nodes.old.items ++ node ∷ []) }
+{
     Ok(nodes.push(node)?)
 }
 
-/// What nodes are made with.
+// The node of a partition whose log was opened, under its lock.
+fn locked<S: Store, R: Eprint + Drop>(
+    machine: ServerMachine<S, R>,
+    opened: Opened,
+) -> OpenedNode<Untraced<ServerMachine<S, R>>>
+    requires { IsOpened opened.partition machine.machine }
+    ensures opened { result.opened ≡ opened }
+    ensures machine { result.locked.machine ≡ machine }
+{
+    OpenedNode {
+        locked: Untraced::new(NodeId::Partition(opened.partition), machine),
+        opened,
+    }
+}
+
+/// What nodes are opened with.
 #[derive(Drop)]
-pub(crate) struct Making<'a, F: Folder, R: Drop> {
-    pub(crate) rt: R,
+pub(crate) struct Opening<'a, F: Folder, R: Drop> {
     pub(crate) alloc: Global,
     pub(crate) folder: &'a F,
     /// how many data partitions there are
     pub(crate) partitions: Partitions,
-    /// how many connections are served, and so how many pages at most are taken at a time
-    pub(crate) connections: Connections,
     /// the time, in milliseconds since 1970
     pub(crate) time: u64,
     /// where the nodes write what they do, if they do
@@ -51,11 +65,7 @@ pub(crate) struct Making<'a, F: Folder, R: Drop> {
 /// What stands under the lock of a server's node.
 pub(crate) type Kept<F, R> = Untraced<ServerMachine<<F as Folder>::Kept, R>>;
 
-impl<'a, F: Folder, R: Files<File = File> + AllocGlobal + Eprint + Wait + Drop + Copy> Making<
-    'a,
-    F,
-    R,
-> {
+impl<'a, F: Folder, R: Files<File = File> + AllocGlobal + Eprint + Drop + Copy> Opening<'a, F, R> {
     // The partitions whose logs were made before, of those that are served.
     fn kept(&self) -> Result<Vec<PartitionId>, AllocError> {
         let mut kept = Vec::new(self.alloc);
@@ -230,10 +240,7 @@ impl<'a, F: Folder, R: Files<File = File> + AllocGlobal + Eprint + Wait + Drop +
     }
 
     // The coordinator's machine, in a folder of whose logs these were made before.
-    fn coordinator_machine(
-        &self,
-        kept: &[PartitionId],
-    ) -> Result<ServerMachine<F::Kept, R>, ServeFault>
+    fn coordinator(&self, kept: &[PartitionId]) -> Result<ServerMachine<F::Kept, R>, ServeFault>
         ensures { IfOk result StandsForCoordinator }
     {
         let store = self.folder.store(self.alloc, LogFile::Coordinator)?;
@@ -241,16 +248,6 @@ impl<'a, F: Folder, R: Files<File = File> + AllocGlobal + Eprint + Wait + Drop +
             None => self.later_coordinator(kept, store, None),
             Some(traces) => self.traced_coordinator(kept, store, traces),
         }
-    }
-
-    // The coordinator's node, in a folder of whose logs these were made before.
-    fn coordinator<J: Naming>(
-        &self,
-        kept: &[PartitionId],
-    ) -> Result<Place<Kept<F, R>, J, R>, ServeFault> {
-        let machine = self.coordinator_machine(kept)?;
-        let locked = Untraced::new(NodeId::Coordinator, machine);
-        Ok(unpublished(self.alloc, locked)?)
     }
 
     // The server of a data partition, as its log is opened.
@@ -320,53 +317,31 @@ impl<'a, F: Folder, R: Files<File = File> + AllocGlobal + Eprint + Wait + Drop +
         }
     }
 
-    // The node of a partition whose log was opened.
-    fn node<J: Naming>(
-        &self,
-        file: LogFile,
-        machine: ServerMachine<F::Kept, R>,
-        opened: Opened,
-    ) -> Result<Place<Kept<F, R>, J, R>, ServeFault>
-        requires opened { IsOpened opened.partition machine.machine }
-        requires book { opened.seen.book ≡ J.book opened.partition }
-    {
-        let readers = usize::from(self.connections.get()).min(MOST_READERS);
-        let locked = Untraced::new(NodeId::Partition(opened.partition), machine);
-        let place = placed(self.rt, self.alloc, locked, opened, readers)?;
-        if !place.is_published() {
-            self.folder.warn(
-                file,
-                "another program wrote a batch; pages are steps of the node",
-            );
-        }
-        Ok(place)
-    }
-
     // The node of a data partition.
-    fn data_node<J: Naming>(&self, opened: Opened) -> Result<Place<Kept<F, R>, J, R>, ServeFault>
+    fn data_node<J: Naming>(&self, opened: Opened) -> Result<OpenedNode<Kept<F, R>>, ServeFault>
         requires { HasBook J.book opened }
+        ensures { IfOk result (IsServing J.book) }
     {
         let file = LogFile::of(opened.partition);
         let machine = self.partition(file, opened.partition)?;
         let machine = self.traced(file, opened.partition, machine)?;
-        self.node(file, machine, opened)
+        Ok(locked(machine, opened))
     }
 
-    // The members of all groups of the offsets partition, and its node.
-    fn offsets_place<J: Naming>(
+    // The node of the offsets partition, and the members of all its groups.
+    fn offsets_node<J: Naming>(
         &self,
-        places: &mut Vec<Place<Kept<F, R>, J, R>>,
         opened: Opened,
-    ) -> Result<Vec<Member>, ServeFault>
+    ) -> Result<(OpenedNode<Kept<F, R>>, Vec<Member>), ServeFault>
         requires opened { opened.partition ≡ offsets_partition }
         requires book { opened.seen.book ≡ J.book offsets_partition }
+        ensures { IfOk result (λ made. IsServing J.book made.0) }
     {
         let machine = self.offsets(LogFile::Offsets)?;
         match members_of(self.alloc, &machine) {
             Ok(members) => {
                 let machine = self.traced(LogFile::Offsets, opened.partition, machine)?;
-                add(places, self.node(LogFile::Offsets, machine, opened)?)?;
-                Ok(members)
+                Ok((locked(machine, opened), members))
             }
             Err(refused) => {
                 drop(machine);
@@ -375,41 +350,55 @@ impl<'a, F: Folder, R: Files<File = File> + AllocGlobal + Eprint + Wait + Drop +
         }
     }
 
-    // Puts the nodes in order, and returns the members of all groups.
-    fn place_all<J: Naming>(
+    // Opens the partitions in order, and returns the members of all groups.
+    fn open_partitions<J: Naming>(
         &self,
-        places: &mut Vec<Place<Kept<F, R>, J, R>>,
+        nodes: &mut Vec<OpenedNode<Kept<F, R>>>,
         books: Vec<Opened>,
         offsets: Opened,
     ) -> Result<Vec<Member>, ServeFault>
+        requires nodes { nodes.old.items ≡ [] }
         requires books { All (HasBook J.book) books.items }
         requires offsets { (offsets.partition ≡ offsets_partition)
             × (offsets.seen.book ≡ J.book offsets_partition) }
+        ensures { OnOk result (All (IsServing J.book) nodes.new.items) }
     {
-        let kept = self.kept()?;
-        self.warn_of_files(kept.as_slice())?;
-        add(places, self.coordinator(kept.as_slice())?)?;
         for opened in books {
-            add(places, self.data_node(opened)?)?;
+            add(nodes, self.data_node::<J>(opened)?)?;
         }
-        self.offsets_place(places, offsets)
+        let (node, members) = self.offsets_node::<J>(offsets)?;
+        add(nodes, node)?;
+        Ok(members)
     }
 
-    /// The nodes, whose published logs have these books.
-    pub(crate) fn nodes<J: Naming>(
+    /// Opens the nodes, whose published logs have these books.
+    pub(crate) fn open<J: Naming>(
         &self,
         books: Vec<Opened>,
         offsets: Opened,
-    ) -> Result<Nodes<Kept<F, R>, J, R>, ServeFault>
+    ) -> Result<OpenedNodes<Kept<F, R>>, ServeFault>
         requires books { All (HasBook J.book) books.items }
         requires offsets { (offsets.partition ≡ offsets_partition)
             × (offsets.seen.book ≡ J.book offsets_partition) }
+        ensures coordinator { IfOk result (λ nodes.
+            StandsForCoordinator nodes.coordinator.machine) }
+        ensures partitions { IfOk result (λ nodes.
+            All (IsServing J.book) nodes.partitions.items) }
     {
-        let mut places = Vec::new(self.alloc);
-        match self.place_all(&mut places, books, offsets) {
-            Ok(members) => Ok(Nodes { places, members }),
+        let kept = self.kept()?;
+        self.warn_of_files(kept.as_slice())?;
+        let machine = self.coordinator(kept.as_slice())?;
+        let coordinator = Untraced::new(NodeId::Coordinator, machine);
+        let mut partitions = Vec::new(self.alloc);
+        match self.open_partitions::<J>(&mut partitions, books, offsets) {
+            Ok(members) => Ok(OpenedNodes {
+                coordinator,
+                partitions,
+                members,
+            }),
             Err(fault) => {
-                drop(places);
+                drop(coordinator);
+                drop(partitions);
                 Err(fault)
             }
         }

@@ -1,18 +1,21 @@
 //! Serving nodes whose logs are in memory or in a folder.
 ghost use Rattle.std.specs.Prelude.{◌≡◌, ◌≤◌, All, IfOk, OnOk, length, option_map};
+ghost use Rattle.kx_machine.specs.Meaning.{NodeState};
 ghost use Rattle.kx_message.specs.Ranges.{data_partitions, offsets_partition};
 ghost use Rattle.kx_serve.specs.Files.{IsNamed};
-ghost use Rattle.kx_serve.specs.Opening.{HasBook, InOrder};
+ghost use Rattle.kx_serve.specs.Opening.{HasBook, InOrder, IsReady};
 ghost use Rattle.kx_server.specs.Lines.{Listens, Prints};
 
 use crate::fault::ServeFault;
 use crate::folder::{Folder, InFiles, InMemory};
 use crate::locking::lock_folders;
-use crate::opening::{Kept, Making};
+use crate::opening::{Kept, Opening};
 use crate::options::ServeOptions;
+use crate::placing::{OpenedNodes, Placing};
 use crate::tracing::Traces;
 use kx_message::PartitionId;
 use kx_published::book::{Naming, Opened};
+use kx_publishing::Readable;
 use kx_server::{OwnFrames, Partitions, Protocol, Until, moment, serve_nodes, tell};
 use std::alloc::{AllocError, Global};
 use std::fs::{File, Files};
@@ -36,6 +39,72 @@ fn open_books(alloc: Global, partitions: Partitions) -> Result<Vec<Opened>, Allo
         books.push(Opened::new(partition))?;
     }
     Ok(books)
+}
+
+// What nodes are opened with.
+fn opening<'a, F: Folder, R: Files<File = File> + AllocGlobal + Eprint + Clock + Copy + Drop>(
+    rt: R,
+    folder: &'a F,
+    options: &ServeOptions<'a>,
+) -> Opening<'a, F, R> {
+    let alloc = rt.alloc();
+    let time = moment(&rt).unwrap_or(0);
+    let traces = options.traces.map(|dir| Traces {
+        rt,
+        alloc,
+        dir,
+        outlives: options.dir.is_some(),
+        time,
+    });
+    Opening {
+        alloc,
+        folder,
+        partitions: options.partitions,
+        time,
+        traces,
+    }
+}
+
+// Serves with nodes that were opened.
+fn serve_opened<
+    L: Readable + Send + Sync + 'static,
+    J: Naming + Send + Sync + 'static,
+    F: Folder,
+    R: Net<Listener = TcpListener, Stream = TcpStream>
+        + Eprint
+        + Threads
+        + Wait
+        + Clock
+        + Copy
+        + Send
+        + Sync
+        + Drop
+        + 'static,
+    P: Protocol,
+    W: Write,
+>(
+    placing: &Placing<'_, F, R>,
+    nodes: OpenedNodes<L>,
+    options: &ServeOptions<'_>,
+    spoken: (&P, Until),
+    out: &mut W,
+) -> Result<(), ServeFault>
+    requires coordinator { (node : NodeState) × L.stands node nodes.coordinator }
+    requires partitions { All (IsReady L.stands L.log J.book) nodes.partitions.items }
+    ensures { OnOk result (Listens (W.contents out.old) (W.contents out.new)) }
+{
+    let nodes = placing.place_all::<L, J>(nodes)?;
+    let asked = options.server();
+    serve_nodes(
+        placing.rt,
+        placing.alloc,
+        nodes,
+        options.port,
+        &asked,
+        spoken,
+        out,
+    )?;
+    Ok(())
 }
 
 // Serves with nodes whose published logs have these books.
@@ -70,28 +139,14 @@ fn serve_named<
         × (offsets.seen.book ≡ J.book offsets_partition) }
     ensures { OnOk result (Listens (W.contents out.old) (W.contents out.new)) }
 {
-    let alloc = rt.alloc();
-    let time = moment(&rt).unwrap_or(0);
-    let traces = options.traces.map(|dir| Traces {
+    let nodes = opening(rt, folder, options).open::<J>(books, offsets)?;
+    let placing = Placing {
         rt,
-        alloc,
-        dir,
-        outlives: options.dir.is_some(),
-        time,
-    });
-    let making = Making {
-        rt,
-        alloc,
+        alloc: rt.alloc(),
         folder,
-        partitions: options.partitions,
         connections: options.connections,
-        time,
-        traces,
     };
-    let nodes = making.nodes::<J>(books, offsets)?;
-    let asked = options.server();
-    serve_nodes::<Kept<F, R>, J, R, P, W>(rt, alloc, nodes, options.port, &asked, spoken, out)?;
-    Ok(())
+    serve_opened::<Kept<F, R>, J, F, R, P, W>(&placing, nodes, options, spoken, out)
 }
 
 // Serves with logs in a folder.

@@ -7,7 +7,7 @@ use kx_machine::{Command, Input, Note};
 use kx_message::{EndTxn, ErrorCode, Held, InitReply, Message, Outcome, PartitionId, ProduceReply};
 use kx_page::{Mark, Rule};
 use kx_partition::Produced;
-use std::fmt;
+use std::alloc::{AllocError, Global};
 
 /// What a step did, in a few words.
 #[derive(Clone, Copy)]
@@ -26,16 +26,19 @@ pub(crate) enum Title {
     Refuses(ClientFault),
 }
 
-impl fmt::Display for Title {
-    fn fmt<W: fmt::Write>(&self, f: &mut fmt::Formatter<W>) -> fmt::Result {
-        match self {
-            Title::Words(words) => f.write_str(words),
-            Title::At(words, offset) => write!(f, "{words} {offset}"),
-            Title::Id(words, Held { id, epoch }) => write!(f, "{words} id {id} epoch {epoch}"),
-            Title::Sends(count, partition) => write!(f, "sends {count} to p{partition}"),
-            Title::Asks(name) => write!(f, "sends {name}"),
-            Title::Refuses(fault) => write!(f, "refuses: {fault:?}"),
-        }
+/// What a title says.
+///
+/// # Errors
+///
+/// Only where memory runs out.
+pub(crate) fn text_of(alloc: Global, title: &Title) -> Result<String, AllocError> {
+    match title {
+        Title::Words(words) => String::from_str(alloc, words),
+        Title::At(words, offset) => format!(in alloc; "{words} {offset}"),
+        Title::Id(words, Held { id, epoch }) => format!(in alloc; "{words} id {id} epoch {epoch}"),
+        Title::Sends(count, partition) => format!(in alloc; "sends {count} to p{partition}"),
+        Title::Asks(name) => format!(in alloc; "sends {name}"),
+        Title::Refuses(fault) => format!(in alloc; "refuses: {fault:?}"),
     }
 }
 
@@ -113,6 +116,110 @@ fn appended(seen: &Seen<'_>) -> Deed {
     }
 }
 
+// How a code is told: in which words, and by which rule.
+struct Line {
+    code: ErrorCode,
+    words: &'static str,
+    rule: Rule,
+}
+
+const MARKER: [Line; 3] = [
+    Line {
+        code: ErrorCode::NoError,
+        words: "marker is there",
+        rule: Rule::MarkerThere,
+    },
+    Line {
+        code: ErrorCode::TransactionCoordinatorFenced,
+        words: "coordinator fenced",
+        rule: Rule::MarkerFenced,
+    },
+    Line {
+        code: ErrorCode::InvalidTxnState,
+        words: "another is open",
+        rule: Rule::MarkerAnotherOpen,
+    },
+];
+
+const INIT: [Line; 3] = [
+    Line {
+        code: ErrorCode::ConcurrentTransactions,
+        words: "still preparing",
+        rule: Rule::InitPreparing,
+    },
+    Line {
+        code: ErrorCode::ProducerFenced,
+        words: "below the owner",
+        rule: Rule::InitBelowOwner,
+    },
+    Line {
+        code: ErrorCode::InvalidTxnState,
+        words: "not twice",
+        rule: Rule::InitNotTwice,
+    },
+];
+
+const ADD: [Line; 5] = [
+    Line {
+        code: ErrorCode::NoError,
+        words: "lists it",
+        rule: Rule::AddListed,
+    },
+    Line {
+        code: ErrorCode::InvalidProducerIdMapping,
+        words: "unknown producer id",
+        rule: Rule::AddUnknown,
+    },
+    Line {
+        code: ErrorCode::InvalidProducerEpoch,
+        words: "epoch never given",
+        rule: Rule::AddEpoch,
+    },
+    Line {
+        code: ErrorCode::ProducerFenced,
+        words: "producer fenced",
+        rule: Rule::AddOld,
+    },
+    Line {
+        code: ErrorCode::ConcurrentTransactions,
+        words: "still preparing",
+        rule: Rule::AddPreparing,
+    },
+];
+
+const END: [Line; 4] = [
+    Line {
+        code: ErrorCode::NoError,
+        words: "ended already",
+        rule: Rule::EndEnded,
+    },
+    Line {
+        code: ErrorCode::ProducerFenced,
+        words: "producer fenced",
+        rule: Rule::EndOld,
+    },
+    Line {
+        code: ErrorCode::ConcurrentTransactions,
+        words: "still preparing",
+        rule: Rule::EndPreparing,
+    },
+    Line {
+        code: ErrorCode::InvalidTxnState,
+        words: "ended otherwise",
+        rule: Rule::EndOther,
+    },
+];
+
+// A step that answered so, by the line for it, or by another rule if none is.
+fn answered(code: ErrorCode, lines: &[Line], other: Option<Rule>) -> Deed {
+    for line in lines {
+        if line.code == code {
+            return said(line.words, Some(line.rule));
+        }
+    }
+    said(word_of(code), other)
+}
+
 // The line of the rules on batches by which a code is answered.
 fn batch_rule(code: ErrorCode) -> Option<Rule> {
     match code {
@@ -181,14 +288,7 @@ fn marker_arrived(seen: &Seen<'_>, outcome: Outcome) -> Deed {
     }
     match answer_in(seen.sent) {
         None => said("not for it", None),
-        Some(ErrorCode::NoError) => said("marker is there", Some(Rule::MarkerThere)),
-        Some(ErrorCode::TransactionCoordinatorFenced) => {
-            said("coordinator fenced", Some(Rule::MarkerFenced))
-        }
-        Some(ErrorCode::InvalidTxnState) => {
-            said("another is open", Some(Rule::MarkerAnotherOpen))
-        }
-        Some(code) => said(word_of(code), Some(Rule::MarkerClosed)),
+        Some(code) => answered(code, &MARKER, Some(Rule::MarkerClosed)),
     }
 }
 
@@ -221,12 +321,7 @@ fn init_arrived(seen: &Seen<'_>) -> Deed {
         Some(ErrorCode::ConcurrentTransactions) if has_marker(seen.sent) => {
             said("fences: aborts", Some(Rule::InitFences))
         }
-        Some(ErrorCode::ConcurrentTransactions) => {
-            said("still preparing", Some(Rule::InitPreparing))
-        }
-        Some(ErrorCode::ProducerFenced) => said("below the owner", Some(Rule::InitBelowOwner)),
-        Some(ErrorCode::InvalidTxnState) => said("not twice", Some(Rule::InitNotTwice)),
-        Some(code) => said(word_of(code), None),
+        Some(code) => answered(code, &INIT, None),
     }
 }
 
@@ -234,16 +329,7 @@ fn init_arrived(seen: &Seen<'_>) -> Deed {
 fn add_arrived(seen: &Seen<'_>) -> Deed {
     match answer_in(seen.sent) {
         None => said("not for it", None),
-        Some(ErrorCode::NoError) => said("lists it", Some(Rule::AddListed)),
-        Some(ErrorCode::InvalidProducerIdMapping) => {
-            said("unknown producer id", Some(Rule::AddUnknown))
-        }
-        Some(ErrorCode::InvalidProducerEpoch) => said("epoch never given", Some(Rule::AddEpoch)),
-        Some(ErrorCode::ProducerFenced) => said("producer fenced", Some(Rule::AddOld)),
-        Some(ErrorCode::ConcurrentTransactions) => {
-            said("still preparing", Some(Rule::AddPreparing))
-        }
-        Some(code) => said(word_of(code), None),
+        Some(code) => answered(code, &ADD, None),
     }
 }
 
@@ -254,13 +340,7 @@ fn end_arrived(seen: &Seen<'_>, asked: &EndTxn) -> Deed {
         Some(ErrorCode::NoError) if has_marker(seen.sent) => {
             said(prepares(asked.outcome), Some(Rule::Ends))
         }
-        Some(ErrorCode::NoError) => said("ended already", Some(Rule::EndEnded)),
-        Some(ErrorCode::ProducerFenced) => said("producer fenced", Some(Rule::EndOld)),
-        Some(ErrorCode::ConcurrentTransactions) => {
-            said("still preparing", Some(Rule::EndPreparing))
-        }
-        Some(ErrorCode::InvalidTxnState) => said("ended otherwise", Some(Rule::EndOther)),
-        Some(code) => said(word_of(code), None),
+        Some(code) => answered(code, &END, None),
     }
 }
 

@@ -60,6 +60,11 @@ pub(crate) fn client_of(message: &Message) -> Option<ClientId> {
     }
 }
 
+/// The number of the client that a message is from or for, if any.
+pub(crate) fn number_of(message: &Message) -> Option<u32> {
+    Some(client_of(message)?.get())
+}
+
 /// The code of a reply, if the message is one.
 pub(crate) fn code_of(message: &Message) -> Option<ErrorCode> {
     match message {

@@ -1,5 +1,5 @@
 //! Logs as they end: of each batch, what became of its transaction, and what readers are shown.
-use crate::endings::{Ending, Endings};
+use crate::endings::Endings;
 use crate::seen::LogAt;
 use kx_batch::{BatchView, RecordView};
 use kx_message::Outcome;
@@ -27,9 +27,9 @@ struct Kind {
     marker: Option<Outcome>,
 }
 
-/// A log as it is read.
+// A log as it is read.
 #[derive(Drop)]
-pub(crate) struct ReadLog {
+struct ReadLog {
     alloc: Global,
     log: Log,
     kinds: Vec<Kind>,
@@ -65,21 +65,25 @@ fn add_record(text: &mut Vec<u8>, record: &RecordView<'_>) -> Result<(), AllocEr
     }
 }
 
-// The first records of a batch; none of a control batch.
-fn records_of(alloc: Global, batch: &BatchView<'_>) -> Result<Vec<u8>, AllocError> {
-    let mut text = Vec::new(alloc);
-    if batch.is_control() {
-        return Ok(text);
-    }
+// Adds the first records of a batch.
+fn add_records(text: &mut Vec<u8>, batch: &BatchView<'_>) -> Result<(), AllocError> {
     for (number, record) in batch.records().enumerate() {
         if number == MOST_RECORDS {
-            text.extend_from_slice(b", ..")?;
-            return Ok(text);
+            return text.extend_from_slice(b", ..");
         }
         if number != 0 {
             text.extend_from_slice(b", ")?;
         }
-        add_record(&mut text, &record)?;
+        add_record(text, &record)?;
+    }
+    Ok(())
+}
+
+// The first records of a batch; none of a control batch.
+fn records_of(alloc: Global, batch: &BatchView<'_>) -> Result<Vec<u8>, AllocError> {
+    let mut text = Vec::new(alloc);
+    if !batch.is_control() {
+        add_records(&mut text, batch)?;
     }
     Ok(text)
 }
@@ -111,9 +115,20 @@ fn reading(kind: Kind, fate: Fate, offset: i64, stable: i64) -> &'static str {
     }
 }
 
+// A batch of a log, of whose transaction nothing is known yet.
+fn logged(alloc: Global, batch: &BatchView<'_>, kind: Kind) -> Result<LoggedBatch, AllocError> {
+    Ok(LoggedBatch {
+        offset: batch.base_offset(),
+        kind: words_of(alloc, batch, kind)?,
+        records: records_of(alloc, batch)?,
+        fate: Fate::Plain,
+        reading: "",
+    })
+}
+
 impl ReadLog {
-    /// A log of which no batch was read.
-    pub(crate) fn new(alloc: Global, name: String, at: LogAt) -> ReadLog {
+    // A log of which no batch was read.
+    fn new(alloc: Global, name: String, at: LogAt) -> ReadLog {
         ReadLog {
             alloc,
             log: Log {
@@ -136,24 +151,13 @@ impl ReadLog {
                 None => None,
             },
         };
-        let logged = LoggedBatch {
-            offset: batch.base_offset(),
-            kind: words_of(self.alloc, batch, kind)?,
-            records: records_of(self.alloc, batch)?,
-            fate: Fate::Plain,
-            reading: "",
-        };
         self.kinds.push(kind)?;
-        self.log.batches.push(logged)?;
+        self.log.batches.push(logged(self.alloc, batch, kind)?)?;
         Ok(())
     }
 
-    /// Adds the batches that these bytes are.
-    ///
-    /// # Errors
-    ///
-    /// Only where memory runs out.
-    pub(crate) fn read(&mut self, bytes: &[u8]) -> Result<(), AllocError> {
+    // Adds the batches that these bytes are.
+    fn read(&mut self, bytes: &[u8]) -> Result<(), AllocError> {
         let mut rest = bytes;
         while let Ok((batch, behind)) = BatchView::read(rest) {
             self.add(&batch)?;
@@ -163,27 +167,16 @@ impl ReadLog {
     }
 }
 
-// What became of a batch's transaction, by the first marker of its producer after it.
-fn ending_of(kind: Kind, after: Option<&Ended>) -> Ending {
+// What became of a batch's transaction, by the first marker of its producer after it, and the offset
+// of that marker, if it ended it.
+fn ending_of(kind: Kind, after: Option<&Ended>) -> (Fate, Option<i64>) {
     if let Some(outcome) = kind.marker {
-        return Ending {
-            fate: fate_of(outcome),
-            marker: None,
-        };
+        return (fate_of(outcome), None);
     }
     match after {
-        _ if !kind.is_transactional => Ending {
-            fate: Fate::Plain,
-            marker: None,
-        },
-        Some(ended) => Ending {
-            fate: fate_of(ended.outcome),
-            marker: Some(ended.offset),
-        },
-        None => Ending {
-            fate: Fate::Open,
-            marker: None,
-        },
+        _ if !kind.is_transactional => (Fate::Plain, None),
+        Some(ended) => (fate_of(ended.outcome), Some(ended.offset)),
+        None => (Fate::Open, None),
     }
 }
 
@@ -197,23 +190,23 @@ impl ReadLog {
         Some(logged.offset)
     }
 
-    /// Says of all batches that were read what became of them, from the end on, and notes it among
-    /// the endings of the log's lane.
-    ///
-    /// # Errors
-    ///
-    /// Only where memory runs out.
-    pub(crate) fn judge(&mut self, lane: usize, endings: &mut Endings) -> Result<(), AllocError> {
-        let mut after: HashMap<i64, Ended> = HashMap::new(self.alloc);
+    // Says of all batches that were read what became of them, from the end on, and notes it among
+    // the endings of the log's lane. These markers are after them, each the first of its producer.
+    fn judge(
+        &mut self,
+        after: &mut HashMap<i64, Ended>,
+        lane: usize,
+        endings: &mut Endings,
+    ) -> Result<(), AllocError> {
         for number in (0..self.kinds.len()).rev() {
             let Some(kind) = self.kinds.get(number).copied() else {
                 continue;
             };
-            let ending = ending_of(kind, after.get(&kind.producer));
-            let Some(offset) = self.settle(number, kind, ending.fate) else {
+            let (fate, marker) = ending_of(kind, after.get(&kind.producer));
+            let Some(offset) = self.settle(number, kind, fate) else {
                 continue;
             };
-            endings.settle(lane, offset, ending)?;
+            endings.settle(lane, offset, fate, marker)?;
             if let Some(outcome) = kind.marker {
                 after.insert(kind.producer, Ended { outcome, offset })?;
             }
@@ -221,9 +214,46 @@ impl ReadLog {
         Ok(())
     }
 
-    /// The log, as a page shows it.
-    pub(crate) fn into_log(self) -> Log {
-        let ReadLog { log, .. } = self;
-        log
+    // Reads the batches that stand in these texts, and says what became of them.
+    fn read_all(
+        &mut self,
+        texts: &[&[u8]],
+        lane: usize,
+        endings: &mut Endings,
+    ) -> Result<(), AllocError> {
+        for text in texts {
+            self.read(text)?;
+        }
+        let mut after = HashMap::new(self.alloc);
+        let judged = self.judge(&mut after, lane, endings);
+        drop(after);
+        judged
+    }
+}
+
+/// A log of this name as it ends, whose batches stand in these texts. What became of them is noted
+/// among the endings of its lane.
+///
+/// # Errors
+///
+/// Only where memory runs out.
+pub(crate) fn read_log(
+    alloc: Global,
+    name: String,
+    at: LogAt,
+    texts: &[&[u8]],
+    lane: usize,
+    endings: &mut Endings,
+) -> Result<Log, AllocError> {
+    let mut log = ReadLog::new(alloc, name, at);
+    match log.read_all(texts, lane, endings) {
+        Ok(()) => {
+            let ReadLog { log, .. } = log;
+            Ok(log)
+        }
+        Err(error) => {
+            drop(log);
+            Err(error)
+        }
     }
 }

@@ -2,10 +2,10 @@
 ghost use Rattle.std.specs.Prelude.{◌≡◌, ◌++◌, ◌∷◌, [], IfOk, OnErr, OnOk};
 ghost use Rattle.kx_view.specs.Recording.{AddsStep, TellSame, words_of};
 
-use crate::deeds::{Deed, deed_of};
-use crate::endings::{Endings, Settled};
-use crate::fields::{client_of, producer_of};
-use crate::logs::ReadLog;
+use crate::deeds::{Deed, deed_of, text_of};
+use crate::endings::Endings;
+use crate::fields::{client_of, number_of, producer_of};
+use crate::logs::read_log;
 use crate::seen::{LogAt, Seen, Took};
 use crate::words::name_of;
 use kx_machine::{Input, Note};
@@ -100,18 +100,33 @@ fn add_sent(text: &mut String, sent: &[Message]) -> Result<(), AllocError> {
     Ok(())
 }
 
+// Adds what a step took.
+fn add_taken(text: &mut String, took: Took<'_>) -> Result<(), AllocError> {
+    match took {
+        Took::Message(number, message) => write!(text, " takes #{number} {message}"),
+        Took::Input(Input::Deliver(message)) => write!(text, " takes {message}"),
+        Took::Input(Input::Expire(time)) => write!(text, " hears that it is {time} ms"),
+        Took::Input(_) | Took::Nothing | Took::Outside(_) => Ok(()),
+    }
+}
+
+// Adds what a step took and what it sent.
+fn add_detail(text: &mut String, seen: &Seen<'_>) -> Result<(), AllocError> {
+    add_taken(text, seen.took)?;
+    add_sent(text, seen.sent)
+}
+
 // What a step took and what it sent.
 fn detail_of(alloc: Global, seen: &Seen<'_>) -> Result<String, AllocError> {
     let node = seen.node;
     let mut text = format!(in alloc; "{node}")?;
-    match seen.took {
-        Took::Message(number, message) => write!(text, " takes #{number} {message}")?,
-        Took::Input(Input::Deliver(message)) => write!(text, " takes {message}")?,
-        Took::Input(Input::Expire(time)) => write!(text, " hears that it is {time} ms")?,
-        Took::Input(_) | Took::Nothing | Took::Outside(_) => {}
+    match add_detail(&mut text, seen) {
+        Ok(()) => Ok(text),
+        Err(error) => {
+            drop(text);
+            Err(error)
+        }
     }
-    add_sent(&mut text, seen.sent)?;
-    Ok(text)
 }
 
 // The message that a step is about, if it is about one: what it took, or what a client outside sent.
@@ -128,7 +143,7 @@ fn client_in(seen: &Seen<'_>) -> Option<u32> {
     if let NodeId::Client(client) = seen.node {
         return Some(client.get());
     }
-    Some(client_of(message_in(seen)?)?.get())
+    number_of(message_in(seen)?)
 }
 
 // The producer id that a step is about.
@@ -155,6 +170,28 @@ fn asked_in(sent: &[Message]) -> Took<'_> {
     }
 }
 
+// The arrow of a message that hasn't arrived.
+fn arrow_of(
+    alloc: Global,
+    step: usize,
+    from: usize,
+    to: usize,
+    message: &Message,
+) -> Result<Arrow, AllocError> {
+    Ok(Arrow {
+        sent: step,
+        from,
+        taken: step,
+        to,
+        way: Way::Lost,
+        fate: Fate::Plain,
+        client: number_of(message),
+        producer: producer_of(message),
+        name: name_of(message),
+        text: format!(in alloc; "{message}")?,
+    })
+}
+
 // A copy of an arrow, to another step.
 fn again_to(arrow: &Arrow, taken: usize) -> Result<Arrow, AllocError> {
     Ok(Arrow {
@@ -169,24 +206,6 @@ fn again_to(arrow: &Arrow, taken: usize) -> Result<Arrow, AllocError> {
         name: arrow.name,
         text: arrow.text.clone()?,
     })
-}
-
-// A step as it settled in the end.
-fn as_it_ended(step: Step, lane: usize, how: Settled) -> Step
-    ensures { words_of result ≡ words_of step }
-{
-    Step {
-        lane,
-        title: step.title,
-        detail: step.detail,
-        rule: step.rule,
-        mark: step.mark,
-        fate: how.fate,
-        client: step.client,
-        producer: step.producer,
-        ended: how.ended,
-        stable: step.stable,
-    }
 }
 
 impl Recorder {
@@ -236,24 +255,8 @@ impl Recorder {
     fn send(&mut self, from: usize, message: &Message) -> Result<(), AllocError>
         ensures { self.new ≡ self.old }
     {
-        let step = self.steps.len();
         let to = self.lane_of(message.receiver())?;
-        let client = match client_of(message) {
-            Some(client) => Some(client.get()),
-            None => None,
-        };
-        let arrow = Arrow {
-            sent: step,
-            from,
-            taken: step,
-            to,
-            way: Way::Lost,
-            fate: Fate::Plain,
-            client,
-            producer: producer_of(message),
-            name: name_of(message),
-            text: format!(in self.alloc; "{message}")?,
-        };
+        let arrow = arrow_of(self.alloc, self.steps.len(), from, to, message)?;
         self.first.push(arrow)?;
         Ok(())
     }
@@ -322,7 +325,7 @@ impl Recorder {
         let Deed { title, rule, mark } = deed_of(seen);
         Ok(Step {
             lane,
-            title: format!(in self.alloc; "{title}")?,
+            title: text_of(self.alloc, &title)?,
             detail: detail_of(self.alloc, seen)?,
             rule,
             mark,
@@ -357,10 +360,10 @@ impl Recorder {
         ensures err { OnErr result (self.new ≡ self.old) }
     {
         let lane = self.lane_of(seen.node)?;
-        let step = self.step_of(lane, seen)?;
         self.note_arrival(seen)?;
         self.append(lane, seen)?;
         self.send_all(lane, seen.sent)?;
+        let step = self.step_of(lane, seen)?;
         self.keep(step)
     }
 
@@ -395,12 +398,9 @@ impl Recorder {
         ensures { self.new ≡ self.old }
     {
         let lane = self.lane_of(node)?;
-        let mut log = ReadLog::new(self.alloc, format!(in self.alloc; "{node}")?, at);
-        for text in texts {
-            log.read(text)?;
-        }
-        log.judge(lane, &mut self.endings)?;
-        self.logs.push(log.into_log())?;
+        let name = format!(in self.alloc; "{node}")?;
+        let log = read_log(self.alloc, name, at, texts, lane, &mut self.endings)?;
+        self.logs.push(log)?;
         Ok(())
     }
 }
@@ -421,62 +421,50 @@ struct Ended<'a> {
     endings: &'a Endings,
 }
 
-// How a message went: what a client outside got isn't seen.
-fn way_in_the_end(arrow: &Arrow, outside: &[usize]) -> Way {
-    if matches!(arrow.way, Way::Lost) && outside.contains(&arrow.to) {
-        Way::Outside
-    } else {
-        arrow.way
-    }
-}
-
-// An arrow as its message ended, in its lanes from the left.
-fn arrow_as_it_ended(arrow: Arrow, ended: Ended<'_>) -> Arrow {
-    let fate = match arrow.way {
-        Way::Lost | Way::Outside => Fate::Plain,
-        Way::First | Way::Again => ended.endings.at(arrow.taken, arrow.to).fate,
-    };
-    Arrow {
-        sent: arrow.sent,
-        from: place_of(ended.owners, arrow.from),
-        taken: arrow.taken,
-        to: place_of(ended.owners, arrow.to),
-        way: way_in_the_end(&arrow, ended.outside),
-        fate,
-        client: arrow.client,
-        producer: arrow.producer,
-        name: arrow.name,
-        text: arrow.text,
-    }
-}
-
-// Adds arrows as their messages ended.
-fn add_arrows(
-    all: &mut Vec<Arrow>,
-    arrows: Vec<Arrow>,
-    ended: Ended<'_>,
-) -> Result<(), AllocError> {
-    for arrow in arrows {
-        all.push(arrow_as_it_ended(arrow, ended))?;
-    }
-    Ok(())
-}
-
-// The steps as they ended, in their lanes from the left.
-fn steps_as_they_ended(
-    alloc: Global,
-    steps: Vec<Step>,
-    ended: Ended<'_>,
-) -> Result<Vec<Step>, AllocError>
-    ensures { IfOk result (λ ended. TellSame steps.items ended.items) }
+// Says of a step what became of it, and gives it its lane from the left.
+fn settle_step(step: &mut Step, number: usize, ended: Ended<'_>)
+    ensures { words_of step.new ≡ words_of step.old }
 {
-    let mut all = Vec::new(alloc);
-    for step in steps {
-        let lane = place_of(ended.owners, step.lane);
-        let how = ended.endings.at(all.len(), step.lane);
-        all.push(as_it_ended(step, lane, how))?;
+    let ending = ended.endings.of(number);
+    step.lane = place_of(ended.owners, step.lane);
+    step.fate = ending.fate;
+    step.ended = ending.ended;
+}
+
+// Says of all steps what became of them.
+fn settle_steps(steps: &mut Vec<Step>, ended: Ended<'_>)
+    ensures { TellSame steps.old.items steps.new.items }
+{
+    for number in 0..steps.len() {
+        settle_step(&mut steps[number], number, ended);
     }
-    Ok(all)
+}
+
+// Says of an arrow what became of the transaction that its message is about, or that what a client
+// outside got isn't seen; and gives it its lanes from the left.
+fn settle_arrow(arrow: &mut Arrow, ended: Ended<'_>) {
+    if !matches!(arrow.way, Way::Lost) {
+        arrow.fate = ended.endings.of(arrow.taken).fate;
+    } else if ended.outside.contains(&arrow.to) {
+        arrow.way = Way::Outside;
+    }
+    arrow.from = place_of(ended.owners, arrow.from);
+    arrow.to = place_of(ended.owners, arrow.to);
+}
+
+// Says of all arrows what became of them.
+fn settle_arrows(arrows: &mut Vec<Arrow>, ended: Ended<'_>) {
+    for arrow in arrows.iter_mut() {
+        settle_arrow(arrow, ended);
+    }
+}
+
+// The lane of an owner.
+fn lane_for(alloc: Global, owner: &Owner) -> Result<Lane, AllocError> {
+    Ok(Lane {
+        name: name_in(alloc, *owner)?,
+        is_partition: matches!(owner, Owner::Node(NodeId::Partition(_))),
+    })
 }
 
 // The lanes from the left.
@@ -485,10 +473,7 @@ fn lanes_of(alloc: Global, owners: &[Owner]) -> Result<Vec<Lane>, AllocError> {
     for place in 0..owners.len() {
         for owner in owners {
             if left_of(owners, owner) == place {
-                lanes.push(Lane {
-                    name: name_in(alloc, *owner)?,
-                    is_partition: matches!(owner, Owner::Node(NodeId::Partition(_))),
-                })?;
+                lanes.push(lane_for(alloc, owner)?)?;
             }
         }
     }
@@ -496,39 +481,59 @@ fn lanes_of(alloc: Global, owners: &[Owner]) -> Result<Vec<Lane>, AllocError> {
 }
 
 impl Recorder {
+    // Says of all that was watched what became of it.
+    fn settle(&mut self) -> Result<(), AllocError>
+        ensures { TellSame self.old self.new }
+    {
+        self.first.append(&mut self.again)?;
+        let ended = Ended {
+            owners: self.owners.as_slice(),
+            outside: self.outside.as_slice(),
+            endings: &self.endings,
+        };
+        settle_steps(&mut self.steps, ended);
+        settle_arrows(&mut self.first, ended);
+        Ok(())
+    }
+
+    // The run that was watched, of this title and with these lanes, once all was settled.
+    fn with_lanes(self, title: &'static str, lanes: Vec<Lane>) -> Run
+        ensures steps { result.steps.items ≡ self }
+        ensures title { result.title.now ≡ title.now }
+    {
+        let Recorder {
+            steps,
+            first: arrows,
+            logs,
+            ..
+        } = self;
+        Run {
+            title,
+            lanes,
+            steps,
+            arrows,
+            logs,
+        }
+    }
+
     /// The run that was watched, of this title, once its logs were added.
     ///
     /// # Errors
     ///
     /// Only where memory runs out.
-    pub fn into_run(self, title: &'static str) -> Result<Run, AllocError>
-        ensures { IfOk result (λ run. TellSame self run.steps.items) }
+    pub fn into_run(mut self, title: &'static str) -> Result<Run, AllocError>
+        ensures steps { IfOk result (λ run. TellSame self run.steps.items) }
+        ensures title { IfOk result (λ run. run.title.now ≡ title.now) }
     {
-        let Recorder {
-            alloc,
-            owners,
-            steps,
-            first,
-            again,
-            endings,
-            logs,
-            outside,
-        } = self;
-        let owners = owners.as_slice();
-        let ended = Ended {
-            owners,
-            outside: outside.as_slice(),
-            endings: &endings,
-        };
-        let mut arrows = Vec::new(alloc);
-        add_arrows(&mut arrows, first, ended)?;
-        add_arrows(&mut arrows, again, ended)?;
-        Ok(Run {
-            title,
-            lanes: lanes_of(alloc, owners)?,
-            steps: steps_as_they_ended(alloc, steps, ended)?,
-            arrows,
-            logs,
-        })
+        match self.settle() {
+            Ok(()) => {
+                let lanes = lanes_of(self.alloc, self.owners.as_slice())?;
+                Ok(self.with_lanes(title, lanes))
+            }
+            Err(error) => {
+                drop(self);
+                Err(error)
+            }
+        }
     }
 }

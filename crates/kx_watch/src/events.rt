@@ -28,7 +28,8 @@ pub fn run_of_events(
     title: &'static str,
     events: &[Event<Prefixed>],
 ) -> Result<Run, AllocError>
-    ensures { IfOk result (λ run. length run.steps.items ≡ length events.now) }
+    ensures steps { IfOk result (λ run. length run.steps.items ≡ length events.now) }
+    ensures title { IfOk result (λ run. run.title.now ≡ title.now) }
 {
     let mut watched = Watched::whole(alloc)?;
     match watch_all(&mut watched, events) {

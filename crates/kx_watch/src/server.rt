@@ -122,7 +122,8 @@ impl ServerWatch {
     ///
     /// Only where memory runs out.
     pub fn into_run(self, title: &'static str) -> Result<Run, AllocError>
-        ensures { IfOk result (λ run. TellSame self run.steps.items) }
+        ensures steps { IfOk result (λ run. TellSame self run.steps.items) }
+        ensures title { IfOk result (λ run. run.title.now ≡ title.now) }
     {
         let ServerWatch {
             alloc,

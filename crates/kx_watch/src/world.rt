@@ -196,7 +196,8 @@ impl Watched {
     ///
     /// Only where memory runs out.
     pub(crate) fn into_run(self, alloc: Global, title: &'static str) -> Result<Run, AllocError>
-        ensures { IfOk result (λ run. TellSame self run.steps.items) }
+        ensures steps { IfOk result (λ run. TellSame self run.steps.items) }
+        ensures title { IfOk result (λ run. run.title.now ≡ title.now) }
     {
         let Watched {
             mut recorder,
@@ -204,8 +205,13 @@ impl Watched {
         } = self;
         let added = add_logs(alloc, &mut recorder, &running);
         running.end();
-        added?;
-        recorder.into_run(title)
+        match added {
+            Ok(()) => recorder.into_run(title),
+            Err(error) => {
+                drop(recorder);
+                Err(error)
+            }
+        }
     }
 
     /// Drops all that was watched.

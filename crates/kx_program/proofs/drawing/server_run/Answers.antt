@@ -15,4 +15,4 @@ returns-in-Ok c =
     ap length adds.2 ∙ length-append c.in_ok-watch.watch adds.0
     ∙ omega (arith, ap (λ (s : List Step). length s) start, adds.1) in
     IfOk-weaker c.into_run.result _ _
-    (λ run same. as_many c.take_all.new.watch run.steps.items same ∙ count) c.into_run.ensures
+    (λ run same. as_many c.take_all.new.watch run.steps.items same ∙ count) c.into_run.ensures.steps

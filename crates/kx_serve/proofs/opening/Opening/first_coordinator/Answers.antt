@@ -1,6 +1,6 @@
 use Rattle.kx_coord_node.specs.Stands.{opened_coordinator}
 use Rattle.kx_serve.proofs.Coordinators.{made}
-use Rattle.kx_serve.proofs.opening.Making.first_coordinator.Goals as goal
+use Rattle.kx_serve.proofs.opening.Opening.first_coordinator.Goals as goal
 
 pub returns-in-Ok : goal.returns-in-Ok
 returns-in-Ok g c = c.restarted.ensures
