@@ -46,6 +46,6 @@ pub fn write_page<W: Write>(alloc: Global, run: &Found, out: &mut W) -> Result<(
 {
     let drawn = drawn(alloc, run)?;
     let wrote = write_drawn(alloc, &drawn, out);
-    drop(drawn);
+    drawn.end();
     wrote
 }

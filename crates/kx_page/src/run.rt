@@ -143,3 +143,11 @@ pub struct Run {
     /// The logs.
     pub logs: Vec<Log>,
 }
+
+impl Run {
+    /// Drops the run. A crate that ends it by this call, and not by dropping it, need not prove the
+    /// drop of each of its types.
+    pub fn end(self) {
+        drop(self);
+    }
+}

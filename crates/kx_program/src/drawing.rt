@@ -9,7 +9,7 @@ ghost use Rattle.kx_text.specs.declared.program.Ending.TheVariants as ending;
 use crate::streams::{failed, sim};
 use crate::task::Pictures;
 use kx_page::{Run, diagram, page};
-use kx_server_audit::{AuditOptions, ServerStep, server_steps};
+use kx_server_audit::{AuditOptions, ServerStep, end_steps, server_steps};
 use kx_text::{Ending, ScriptFault};
 use kx_watch::{ServerWatch, run_of_script};
 use std::alloc::{AllocError, Global};
@@ -64,7 +64,11 @@ fn draw<R: Files<File = File> + AllocGlobal, E: Write>(
     errors: &mut E,
 ) -> bool {
     match run_of_script(rt.alloc(), "A script", script) {
-        Ok(run) => draw_run(rt, asked, &run, errors),
+        Ok(run) => {
+            let stand = draw_run(rt, asked, &run, errors);
+            run.end();
+            stand
+        }
         Err(fault) => {
             let _ = failed(errors, fault);
             false
@@ -148,7 +152,11 @@ fn draw_steps<R: Files<File = File> + AllocGlobal, E: Write>(
     errors: &mut E,
 ) -> bool {
     match server_run(rt.alloc(), steps) {
-        Ok(run) => drawn(rt, path, page(rt.alloc(), &run), errors),
+        Ok(run) => {
+            let stands = drawn(rt, path, page(rt.alloc(), &run), errors);
+            run.end();
+            stands
+        }
         Err(_) => {
             let _ = failed(errors, ScriptFault::Memory);
             false
@@ -165,7 +173,11 @@ pub(crate) fn draw_server<R: Files<File = File> + AllocGlobal, E: Write>(
     errors: &mut E,
 ) -> bool {
     match server_steps(rt, options) {
-        Ok(steps) => draw_steps(rt, path, steps.as_slice(), errors),
+        Ok(steps) => {
+            let stands = draw_steps(rt, path, steps.as_slice(), errors);
+            end_steps(steps);
+            stands
+        }
         Err(fault) => {
             let _ = failed(errors, fault);
             false

@@ -37,6 +37,19 @@ pub struct EventAt {
     pub event: Event<Prefixed>,
 }
 
+impl EventAt {
+    /// Drops the event, as [`end_event`] does.
+    pub fn end(self) {
+        drop(self);
+    }
+}
+
+/// Drops an event. A crate that ends it by this call, and not by dropping it, need not prove the drop
+/// of each of its types.
+pub fn end_event(event: Event<Prefixed>) {
+    drop(event);
+}
+
 // The first word of a line that is an event.
 #[derive(Clone, Copy, Debug, PartialEq, Eq)]
 pub(crate) enum Name {

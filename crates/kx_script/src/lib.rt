@@ -17,7 +17,7 @@ mod values;
 mod world;
 
 pub use command::{order_in, world_in};
-pub use event::{EventAt, event_in};
+pub use event::{EventAt, end_event, event_in};
 pub use marks::Marks;
 pub use order::{Left, Order};
 pub use printing::{write_dash, write_message, write_rows};

@@ -24,6 +24,12 @@ pub struct ServerStep {
     pub store: StoreMode,
 }
 
+/// Drops steps. A crate that ends them by this call, and not by dropping them, need not prove the drop
+/// of each of their types.
+pub fn end_steps(steps: Vec<ServerStep>) {
+    drop(steps);
+}
+
 // The node that a trace names.
 fn name_of(node: TracedNode) -> NodeId {
     ServerNode { node }.name()
@@ -64,16 +70,16 @@ fn go_on<B: Server>(
     Ok(matches!(went?, Progress::Made { .. } | Progress::NotTaken))
 }
 
-// Goes on by an item in each trace, one after the other, until none goes on.
+// Goes on by an item in each of these traces, one after the other, until none goes on.
 fn go_all<B: Server>(
     audit: &mut TraceAudit<B>,
-    nodes: &[NodeId],
+    of: &[TraceOf],
     steps: &mut Vec<ServerStep>,
 ) -> Result<(), TraceRefusal> {
     for _ in 0..u64::MAX {
         let mut went_on = false;
-        for (trace, node) in nodes.iter().enumerate() {
-            went_on |= go_on(audit, trace, *node, steps)?;
+        for (trace, one) in of.iter().enumerate() {
+            went_on |= go_on(audit, trace, name_of(one.node), steps)?;
         }
         if !went_on {
             break;
@@ -131,30 +137,25 @@ fn feed_found<B: Server>(
     }
 }
 
-// The nodes of the traces.
-fn names_of(alloc: Global, traces: &Traces<File>) -> Result<Vec<NodeId>, AllocError> {
-    let mut names = Vec::new(alloc);
-    for of in &traces.of {
-        names.push(name_of(of.node))?;
-    }
-    Ok(names)
-}
-
 // The steps of traces that were found.
 fn steps_in(alloc: Global, mut traces: Traces<File>) -> Result<Vec<ServerStep>, AuditFault> {
-    let names = names_of(alloc, &traces)?;
     let mut steps = Vec::new(alloc);
     let Ok(mut audit) = TraceAudit::<ServerNode>::new(alloc, traces.of.as_slice()) else {
         return Err(AuditFault::Memory);
     };
     let fed = feed_found(alloc, &mut audit, &mut traces);
-    drop(traces);
     if fed.is_ok() {
-        let _ = go_all(&mut audit, names.as_slice(), &mut steps);
+        let _ = go_all(&mut audit, traces.of.as_slice(), &mut steps);
     }
     drop(audit);
-    fed?;
-    Ok(steps)
+    drop(traces);
+    match fed {
+        Ok(()) => Ok(steps),
+        Err(fault) => {
+            end_steps(steps);
+            Err(fault)
+        }
+    }
 }
 
 /// The steps of a server by the traces that it left in a folder, in an order in which an audit makes

@@ -531,9 +531,15 @@ impl Recorder {
                 Ok(self.with_lanes(title, lanes))
             }
             Err(error) => {
-                drop(self);
+                self.end();
                 Err(error)
             }
         }
+    }
+
+    /// Drops all that was watched. A crate that ends it by this call, and not by dropping it, need
+    /// not prove the drop of each of its types.
+    pub fn end(self) {
+        drop(self);
     }
 }

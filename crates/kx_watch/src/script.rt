@@ -21,7 +21,7 @@ fn take_line(alloc: Global, watched: &mut Watched, line: &[u8]) -> Result<bool, 
     match event_in(alloc, &watched.running, line) {
         Some(Ok(read)) => {
             let happened = happen(watched, &read);
-            drop(read);
+            read.end();
             match happened {
                 Ok(()) => Ok(true),
                 Err(_) => Err(ScriptFault::Memory),

@@ -11,6 +11,7 @@ use kx_message::NodeId;
 use kx_outside::{OutsideRequest, can_arrive};
 use kx_page::Run;
 use kx_processor::Prefixed;
+use kx_script::end_event;
 use std::alloc::{AllocError, Global};
 use std::marker::Model;
 
@@ -85,7 +86,7 @@ impl ServerWatch {
         ensures { OnOk result (AddsSteps 1 self.old self.new) }
     {
         let happened = self.watched.happen(&event);
-        drop(event);
+        end_event(event);
         happened?;
         let sent = self.watched.running.sent();
         let last = sent.last();

@@ -208,7 +208,7 @@ impl Watched {
         match added {
             Ok(()) => recorder.into_run(title),
             Err(error) => {
-                drop(recorder);
+                recorder.end();
                 Err(error)
             }
         }
@@ -217,7 +217,7 @@ impl Watched {
     /// Drops all that was watched.
     pub(crate) fn end(self) {
         let Watched { recorder, running } = self;
-        drop(recorder);
+        recorder.end();
         running.end();
     }
 }
