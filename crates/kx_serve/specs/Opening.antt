@@ -37,7 +37,7 @@ pub record HasBook (named : ℕ → Book) (opened : Opened) : Type 0 where
 -- is the one that its name stands for
 pub record IsReady {L : Type 0} (stands : NodeState → L → Type 0) (log : L → List Stored)
     (named : ℕ → Book) (node : OpenedNode L) : Type 0 where
-  pub stands : stands
+  pub serves : stands
       (AtPartition node.opened.partition (opened_partition (log node.locked))) node.locked
   pub placed : IsLog (log node.locked)
   pub grown : IsGrown (log node.locked)

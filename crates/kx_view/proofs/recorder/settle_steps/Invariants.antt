@@ -1,4 +1,4 @@
-use Rattle.std.proofs.Common.{◌≡◌, ◌≤◌, length}
+use Rattle.std.proofs.Common.{◌≤◌, length}
 use Rattle.kx_view.specs.Recording.{TellSame}
 use Rattle.kx_view.proofs.recorder.settle_steps.Given as goal
 
