@@ -1,4 +1,5 @@
 mod Books
 mod Coordinators
 mod Named
+mod Opened
 mod Printed
