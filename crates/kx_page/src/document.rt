@@ -199,7 +199,9 @@ fn log<'a>(html: &mut Html<'a>, log: &'a Log) -> Result<(), AllocError>
 {
     add(
         html,
-        "<h3>{}</h3><p>last stable offset {}, end {}</p>\n<div class=\"log\"><table><tr><th>offset</th><th>batch</th><th>records</th><th>a reader of committed records</th></tr>\n",
+        "<h3>{}</h3><p>last stable offset {}, end {}</p>
+<div class=\"log\"><table><tr><th>offset</th><th>batch</th><th>records</th><th>a reader of committed records</th></tr>
+",
         &[
             Value(log.name.as_bytes()),
             Number(log.stable),
@@ -287,8 +289,17 @@ fn image_head<'a>(html: &mut Html<'a>, run: &'a Run) -> Result<(), AllocError>
 {
     add(
         html,
-        "<title>{}</title>\n<style>{}</style>\n<rect class=\"back\" x=\"0\" y=\"-28\" width=\"100%\" height=\"100%\"/>{}<g transform=\"translate(0 -28)\">\n",
-        &[Value(run.title.as_bytes()), Markup(DIAGRAM), Markup(TIPS)],
+        "<title>{}</title>
+<style>{}</style>
+<rect class=\"back\" x=\"0\" y=\"{}\" width=\"100%\" height=\"100%\"/>{}<g transform=\"translate(0 {})\">
+",
+        &[
+            Value(run.title.as_bytes()),
+            Markup(DIAGRAM),
+            Number(-NAMES),
+            Markup(TIPS),
+            Number(-NAMES),
+        ],
     )?;
     lane_names(html, run.lanes.as_slice())?;
     add(html, "</g>\n", &[])

@@ -32,11 +32,11 @@ text.lso{font-size:9px;fill:var(--dim);text-anchor:end}
 
 /// What arrows end in.
 pub(crate) const TIPS: &str =
-    "<defs><marker id=\"tip-n\" class=\"n\" viewBox=\"0 0 8 8\" refX=\"8\" refY=\"4\" markerWidth=\"7\" markerHeight=\"7\" orient=\"auto\"><path d=\"M0 0L8 4L0 8z\" fill=\"var(--k)\"/></marker>
-<marker id=\"tip-o\" class=\"o\" viewBox=\"0 0 8 8\" refX=\"8\" refY=\"4\" markerWidth=\"7\" markerHeight=\"7\" orient=\"auto\"><path d=\"M0 0L8 4L0 8z\" fill=\"var(--k)\"/></marker>
-<marker id=\"tip-c\" class=\"c\" viewBox=\"0 0 8 8\" refX=\"8\" refY=\"4\" markerWidth=\"7\" markerHeight=\"7\" orient=\"auto\"><path d=\"M0 0L8 4L0 8z\" fill=\"var(--k)\"/></marker>
-<marker id=\"tip-a\" class=\"a\" viewBox=\"0 0 8 8\" refX=\"8\" refY=\"4\" markerWidth=\"7\" markerHeight=\"7\" orient=\"auto\"><path d=\"M0 0L8 4L0 8z\" fill=\"var(--k)\"/></marker>
-<marker id=\"cross\" class=\"a\" viewBox=\"0 0 8 8\" refX=\"4\" refY=\"4\" markerWidth=\"8\" markerHeight=\"8\"><path d=\"M1 1L7 7M7 1L1 7\" fill=\"none\" stroke=\"var(--k)\" stroke-width=\"1.6\"/></marker></defs>
+    "<defs><marker id=\"tip-n\" class=\"n\" viewBox=\"0 0 8 8\" refX=\"8\" refY=\"4\" markerWidth=\"7\" markerHeight=\"7\" orient=\"auto\"><path d=\"m 0 0 8 4 -8 4 z\" fill=\"var(--k)\"/></marker>
+<marker id=\"tip-o\" class=\"o\" viewBox=\"0 0 8 8\" refX=\"8\" refY=\"4\" markerWidth=\"7\" markerHeight=\"7\" orient=\"auto\"><path d=\"m 0 0 8 4 -8 4 z\" fill=\"var(--k)\"/></marker>
+<marker id=\"tip-c\" class=\"c\" viewBox=\"0 0 8 8\" refX=\"8\" refY=\"4\" markerWidth=\"7\" markerHeight=\"7\" orient=\"auto\"><path d=\"m 0 0 8 4 -8 4 z\" fill=\"var(--k)\"/></marker>
+<marker id=\"tip-a\" class=\"a\" viewBox=\"0 0 8 8\" refX=\"8\" refY=\"4\" markerWidth=\"7\" markerHeight=\"7\" orient=\"auto\"><path d=\"m 0 0 8 4 -8 4 z\" fill=\"var(--k)\"/></marker>
+<marker id=\"cross\" class=\"a\" viewBox=\"0 0 8 8\" refX=\"4\" refY=\"4\" markerWidth=\"8\" markerHeight=\"8\"><path d=\"m 1 1 6 6 m 0 -6 -6 6\" fill=\"none\" stroke=\"var(--k)\" stroke-width=\"1.6\"/></marker></defs>
 ";
 
 /// The page around the diagram.
