@@ -152,10 +152,17 @@ fn rows<'a>(html: &mut Html<'a>, run: &'a Run) -> Result<(), AllocError>
     Ok(())
 }
 
-// Adds a batch of a log.
-fn batch<'a>(html: &mut Html<'a>, batch: &'a LoggedBatch) -> Result<(), AllocError>
+// Adds a batch of a log; before it a part of the table ends, if it is as long as a part may be.
+fn next_batch<'a>(
+    html: &mut Html<'a>,
+    number: usize,
+    batch: &'a LoggedBatch,
+) -> Result<(), AllocError>
     ensures { OnOk result (KeepsRows html.old.items html.new.items) }
 {
+    if number != 0 && number % PART == 0 {
+        add(html, "</table></div>\n<div class=\"log\"><table>\n", &[])?;
+    }
     add(
         html,
         "<tr class=\"{}\"><td class=\"k\">{}</td><td>{}</td><td>{}</td><td>{}</td></tr>\n",
@@ -167,20 +174,6 @@ fn batch<'a>(html: &mut Html<'a>, batch: &'a LoggedBatch) -> Result<(), AllocErr
             Value(batch.reading.as_bytes()),
         ],
     )
-}
-
-// Adds a batch of a log; before it a part of the table ends, if it is as long as a part may be.
-fn next_batch<'a>(
-    html: &mut Html<'a>,
-    number: usize,
-    given: &'a LoggedBatch,
-) -> Result<(), AllocError>
-    ensures { OnOk result (KeepsRows html.old.items html.new.items) }
-{
-    if number != 0 && number % PART == 0 {
-        add(html, "</table></div>\n<div class=\"log\"><table>\n", &[])?;
-    }
-    batch(html, given)
 }
 
 // Adds the batches of a log.

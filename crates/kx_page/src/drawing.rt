@@ -161,7 +161,7 @@ fn mark_class(mark: Mark) -> &'static str {
     }
 }
 
-// Adds what a step did, in the middle of its box or beside its dot.
+// Adds what a step did, in the middle of its box or beside its dot, and ends the link.
 fn title<'a>(html: &mut Html<'a>, number: usize, step: &'a Step) -> Result<(), AllocError>
     ensures { OnOk result (KeepsRows html.old.items html.new.items) }
 {
@@ -216,21 +216,14 @@ fn link_head(html: &mut Html<'_>, number: usize, step: &Step) -> Result<(), Allo
     add(html, ">", &[])
 }
 
-// Adds the shape of a step and what it did, as a link to its row.
-fn link<'a>(html: &mut Html<'a>, number: usize, step: &'a Step) -> Result<(), AllocError>
-    ensures { OnOk result (KeepsRows html.old.items html.new.items) }
-{
-    link_head(html, number, step)?;
-    shape(html, number, step)?;
-    title(html, number, step)
-}
-
-// Adds a step.
+// Adds a step: its shape and what it did are a link to its row.
 fn step_of<'a>(html: &mut Html<'a>, number: usize, step: &'a Step) -> Result<(), AllocError>
     ensures { OnOk result (KeepsRows html.old.items html.new.items) }
 {
     waiting(html, number, step)?;
-    link(html, number, step)?;
+    link_head(html, number, step)?;
+    shape(html, number, step)?;
+    title(html, number, step)?;
     stable(html, number, step)
 }
 

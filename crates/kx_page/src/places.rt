@@ -9,14 +9,9 @@ const LANE: i64 = 152;
 /// How far a box reaches to each side of the middle of its lane.
 pub(crate) const HALF: i64 = 58;
 
-// As a signed number.
-fn signed(number: usize) -> i64 {
-    i64::try_from(number).unwrap_or(i64::MAX)
-}
-
 /// The middle of a lane.
 pub(crate) fn x_of(lane: usize) -> i64 {
-    signed(lane).saturating_mul(LANE).saturating_add(LANE / 2)
+    written(lane).saturating_mul(LANE).saturating_add(LANE / 2)
 }
 
 /// The left edge of a box in a lane.
@@ -36,7 +31,7 @@ pub(crate) fn y_of(step: usize) -> i64 {
 
 /// Where a step's row begins.
 pub(crate) fn top_of(step: usize) -> i64 {
-    signed(step).saturating_mul(ROW)
+    written(step).saturating_mul(ROW)
 }
 
 /// The place halfway between two.
@@ -46,10 +41,10 @@ pub(crate) fn middle(one: i64, other: i64) -> i64 {
 
 /// How wide this many lanes are, with room for what the last one says.
 pub(crate) fn width_of(lanes: usize) -> i64 {
-    signed(lanes).saturating_mul(LANE).saturating_add(LANE / 3)
+    written(lanes).saturating_mul(LANE).saturating_add(LANE / 3)
 }
 
 /// A number as it is written.
 pub(crate) fn written(number: usize) -> i64 {
-    signed(number)
+    i64::try_from(number).unwrap_or(i64::MAX)
 }
