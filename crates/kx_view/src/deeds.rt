@@ -80,33 +80,6 @@ fn with_id(words: &'static str, held: Held, rule: Option<Rule>) -> Deed {
     }
 }
 
-// A client sends records.
-fn sends(partition: PartitionId, count: usize) -> Deed {
-    Deed {
-        title: Title::Sends(count, partition),
-        rule: None,
-        mark: Mark::Dot,
-    }
-}
-
-// A client outside sends a request of this kind.
-fn asks(name: &'static str) -> Deed {
-    Deed {
-        title: Title::Asks(name),
-        rule: None,
-        mark: Mark::Dot,
-    }
-}
-
-// A client refuses a command.
-fn refuses(fault: ClientFault) -> Deed {
-    Deed {
-        title: Title::Refuses(fault),
-        rule: None,
-        mark: Mark::Dot,
-    }
-}
-
 // A step that appended a batch.
 fn appended(seen: &Seen<'_>) -> Deed {
     Deed {
@@ -434,7 +407,11 @@ fn told(command: &Command) -> Deed {
     match command {
         Command::Init => said("asks for an id", None),
         Command::Begin => said("begins", None),
-        Command::Send(partition, values) => sends(*partition, values.count()),
+        Command::Send(partition, values) => Deed {
+            title: Title::Sends(values.count(), *partition),
+            rule: None,
+            mark: Mark::Dot,
+        },
         Command::Join(_) => said("asks to join", None),
         Command::Leave => said("asks to leave", None),
         Command::Offsets(_) => said("commits offsets", None),
@@ -485,13 +462,21 @@ fn input_taken(seen: &Seen<'_>, input: &Input) -> Deed {
 // What a step did, whatever its store did.
 fn done(seen: &Seen<'_>) -> Deed {
     if let Note::Refused(fault) = seen.note {
-        return refuses(fault);
+        return Deed {
+            title: Title::Refuses(fault),
+            rule: None,
+            mark: Mark::Dot,
+        };
     }
     match seen.took {
         Took::Message(_, message) => message_arrived(seen, message),
         Took::Input(input) => input_taken(seen, input),
         Took::Nothing => said("begins to run", None),
-        Took::Outside(request) => asks(name_of(request)),
+        Took::Outside(request) => Deed {
+            title: Title::Asks(name_of(request)),
+            rule: None,
+            mark: Mark::Dot,
+        },
     }
 }
 

@@ -11,30 +11,27 @@ fn producer_in(produce: &Produce) -> Option<i64> {
     if id < 0 { None } else { Some(id) }
 }
 
-// The producer id of what a producer holds.
-fn id_of(held: Held) -> Option<i64> {
-    Some(held.id.get())
-}
-
-// The producer id of what a producer may hold.
-fn id_in(held: Option<Held>) -> Option<i64> {
-    id_of(held?)
+// The producer id and epoch that a message names, if it names both.
+fn held_in(message: &Message) -> Option<Held> {
+    match message {
+        Message::InitReply(reply) => reply.held,
+        Message::EndTxn(request) => Some(request.held),
+        Message::EndReply(reply) => reply.held,
+        Message::AddPartition(request) => Some(request.held),
+        Message::AddReply(reply) => Some(reply.held),
+        Message::WriteMarker(marker) => Some(marker.held.get()),
+        Message::MarkerReply(reply) => Some(reply.held.get()),
+        Message::TxnOffsetCommit(request) => Some(request.held),
+        _ => None,
+    }
 }
 
 /// The producer id that a message names, if any.
 pub(crate) fn producer_of(message: &Message) -> Option<i64> {
-    match message {
-        Message::Produce(produce) => producer_in(produce),
-        Message::InitReply(reply) => id_in(reply.held),
-        Message::EndTxn(request) => id_of(request.held),
-        Message::EndReply(reply) => id_in(reply.held),
-        Message::AddPartition(request) => id_of(request.held),
-        Message::AddReply(reply) => id_of(reply.held),
-        Message::WriteMarker(marker) => id_of(marker.held.get()),
-        Message::MarkerReply(reply) => id_of(reply.held.get()),
-        Message::TxnOffsetCommit(request) => id_of(request.held),
-        _ => None,
+    if let Message::Produce(produce) = message {
+        return producer_in(produce);
     }
+    Some(held_in(message)?.id.get())
 }
 
 /// The client that a message is from or for, if any.

@@ -127,20 +127,6 @@ fn logged(alloc: Global, batch: &BatchView<'_>, kind: Kind) -> Result<LoggedBatc
 }
 
 impl ReadLog {
-    // A log of which no batch was read.
-    fn new(alloc: Global, name: String, at: LogAt) -> ReadLog {
-        ReadLog {
-            alloc,
-            log: Log {
-                name,
-                stable: at.stable,
-                end: at.end,
-                batches: Vec::new(alloc),
-            },
-            kinds: Vec::new(alloc),
-        }
-    }
-
     // Adds a batch, of whose transaction nothing is known yet.
     fn add(&mut self, batch: &BatchView<'_>) -> Result<(), AllocError> {
         let kind = Kind {
@@ -245,7 +231,16 @@ pub(crate) fn read_log(
     lane: usize,
     endings: &mut Endings,
 ) -> Result<Log, AllocError> {
-    let mut log = ReadLog::new(alloc, name, at);
+    let mut log = ReadLog {
+        alloc,
+        log: Log {
+            name,
+            stable: at.stable,
+            end: at.end,
+            batches: Vec::new(alloc),
+        },
+        kinds: Vec::new(alloc),
+    };
     match log.read_all(texts, lane, endings) {
         Ok(()) => {
             let ReadLog { log, .. } = log;

@@ -50,20 +50,13 @@ impl Model for Recorder {
     ghost view = { λ r. r.steps.items };
 }
 
-// The place of a node from the left.
-fn rank_of(node: &NodeId) -> u64 {
-    match node {
-        NodeId::Client(client) => u64::from(client.get()),
-        NodeId::Coordinator => 1 << 34,
-        NodeId::Partition(partition) => (1 << 35) + u64::from(partition.get()),
-    }
-}
-
 // The place of an owner from the left: clients by their numbers, the coordinator, partitions.
 fn rank(owner: &Owner) -> u64 {
     match owner {
-        Owner::Node(node) => rank_of(node),
+        Owner::Node(NodeId::Client(client)) => u64::from(client.get()),
         Owner::Others => 1 << 33,
+        Owner::Node(NodeId::Coordinator) => 1 << 34,
+        Owner::Node(NodeId::Partition(partition)) => (1 << 35) + u64::from(partition.get()),
     }
 }
 
@@ -81,14 +74,6 @@ fn clients_in(owners: &[Owner]) -> usize {
         .iter()
         .filter(|owner| matches!(owner, Owner::Node(NodeId::Client(_))))
         .count()
-}
-
-// The name of a lane.
-fn name_in(alloc: Global, owner: Owner) -> Result<String, AllocError> {
-    match owner {
-        Owner::Node(node) => format!(in alloc; "{node}"),
-        Owner::Others => String::from_str(alloc, "other clients"),
-    }
 }
 
 // Adds the messages that a step sent.
@@ -461,8 +446,12 @@ fn settle_arrows(arrows: &mut Vec<Arrow>, ended: Ended<'_>) {
 
 // The lane of an owner.
 fn lane_for(alloc: Global, owner: &Owner) -> Result<Lane, AllocError> {
+    let name = match owner {
+        Owner::Node(node) => format!(in alloc; "{node}")?,
+        Owner::Others => String::from_str(alloc, "other clients")?,
+    };
     Ok(Lane {
-        name: name_in(alloc, *owner)?,
+        name,
         is_partition: matches!(owner, Owner::Node(NodeId::Partition(_))),
     })
 }
