@@ -56,21 +56,22 @@ fn draw_run<R: Files<File = File> + AllocGlobal, E: Write>(
     }
 }
 
-// Draws what a script did, and says whether the pictures stand.
+// Draws a run into the files that are asked for, if there was memory for it, and says whether all of
+// them stand.
 fn draw<R: Files<File = File> + AllocGlobal, E: Write>(
     rt: &R,
     asked: Pictures<'_>,
-    script: &[u8],
+    run: Result<Run, AllocError>,
     errors: &mut E,
 ) -> bool {
-    match run_of_script(rt.alloc(), "A script", script) {
+    match run {
         Ok(run) => {
             let stand = draw_run(rt, asked, &run, errors);
             run.end();
             stand
         }
-        Err(fault) => {
-            let _ = failed(errors, fault);
+        Err(_) => {
+            let _ = failed(errors, ScriptFault::Memory);
             false
         }
     }
@@ -91,7 +92,8 @@ fn sim_and_draw<R: Files<File = File> + AllocGlobal, O: Write + Drop, E: Write>(
 {
     let mut rest = script;
     let ran = sim(rt.alloc(), &mut rest, out, errors);
-    if draw(rt, asked, script, errors) {
+    let run = run_of_script(rt.alloc(), "A script", script);
+    if draw(rt, asked, run, errors) {
         ran
     } else {
         Ending::Failed
@@ -144,26 +146,6 @@ fn server_run(alloc: Global, steps: &[ServerStep]) -> Result<Run, AllocError>
     }
 }
 
-// Draws steps of a server into the file at this path, and says whether the page stands there.
-fn draw_steps<R: Files<File = File> + AllocGlobal, E: Write>(
-    rt: &R,
-    path: &str,
-    steps: &[ServerStep],
-    errors: &mut E,
-) -> bool {
-    match server_run(rt.alloc(), steps) {
-        Ok(run) => {
-            let stands = drawn(rt, path, page(rt.alloc(), &run), errors);
-            run.end();
-            stands
-        }
-        Err(_) => {
-            let _ = failed(errors, ScriptFault::Memory);
-            false
-        }
-    }
-}
-
 /// Draws the steps of a server into the file at this path, by the traces that it left, and says
 /// whether the page stands there. If not, a line on standard error says why.
 pub(crate) fn draw_server<R: Files<File = File> + AllocGlobal, E: Write>(
@@ -174,9 +156,13 @@ pub(crate) fn draw_server<R: Files<File = File> + AllocGlobal, E: Write>(
 ) -> bool {
     match server_steps(rt, options) {
         Ok(steps) => {
-            let stands = draw_steps(rt, path, steps.as_slice(), errors);
+            let run = server_run(rt.alloc(), steps.as_slice());
             end_steps(steps);
-            stands
+            let asked = Pictures {
+                page: Some(path),
+                diagram: None,
+            };
+            draw(rt, asked, run, errors)
         }
         Err(fault) => {
             let _ = failed(errors, fault);

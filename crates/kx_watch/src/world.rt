@@ -35,18 +35,13 @@ fn reach(partition: &Partition<LocalStore>) -> LogAt {
     }
 }
 
-// How far a log of this many entries reaches.
-fn entries(count: usize) -> LogAt {
-    LogAt {
-        end: i64::try_from(count).unwrap_or(i64::MAX),
-        stable: 0,
-    }
-}
-
 // How far a node's log reaches, if it has one.
 fn log_at(running: &Running, node: Option<NodeId>) -> LogAt {
     match &node {
-        Some(NodeId::Coordinator) => entries(running.entry_count()),
+        Some(NodeId::Coordinator) => LogAt {
+            end: i64::try_from(running.entry_count()).unwrap_or(i64::MAX),
+            stable: 0,
+        },
         Some(NodeId::Partition(partition)) => match running.partition(*partition) {
             Some(partition) => reach(partition),
             None => NO_LOG,

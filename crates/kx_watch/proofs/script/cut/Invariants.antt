@@ -1,5 +1,5 @@
 use Rattle.std.proofs.Common.{length}
-use Rattle.kx_watch.proofs.script.without_empty_lines.Given as goal
+use Rattle.kx_watch.proofs.script.cut.Given as goal
 
 abbrev pub decreases-loop-after : goal.decreases-loop-after
 decreases-loop-after l = length l.rest
