@@ -4,7 +4,6 @@ use crate::fault::AuditFault;
 use crate::file::AuditFile;
 use crate::server::{AuditOptions, find};
 use crate::server_node::ServerNode;
-use crate::sources::Source;
 use crate::traces::{Traces, read_fault};
 use kx_machine::{Input, StoreMode};
 use kx_message::NodeId;
@@ -14,7 +13,7 @@ use kx_trace_audit::{Progress, Server, ToldStep, TraceAudit, TraceOf, TraceRefus
 use std::alloc::{AllocError, Global};
 use std::fs::{File, Files};
 use std::io;
-use std::io::{ErrorKind, Read};
+use std::io::Read;
 
 /// A step of a server's node: what it took, and what its store did meanwhile.
 #[derive(Drop)]
@@ -88,7 +87,7 @@ fn go_all<B: Server>(
     Ok(())
 }
 
-// Feeds all bytes that a reader gives.
+// Feeds all bytes that are left of a trace.
 fn feed_all<B: Server, I: Read>(
     alloc: Global,
     audit: &mut TraceAudit<B>,
@@ -102,39 +101,21 @@ fn feed_all<B: Server, I: Read>(
     Ok(())
 }
 
-// Feeds all bytes of the traces, and notes up to which trace it came.
-fn feed_traces<B: Server>(
-    alloc: Global,
-    audit: &mut TraceAudit<B>,
-    sources: &mut Vec<Source<File>>,
-    last: &mut usize,
-) -> io::Result<()> {
-    for trace in 0..sources.len() {
-        *last = trace;
-        feed_all(alloc, audit, trace, &mut sources[trace].reader)?;
-    }
-    Ok(())
-}
-
-// Why the trace of this number can't be read.
-fn fault_at(of: &[TraceOf], trace: usize, kind: ErrorKind) -> AuditFault {
-    match of.get(trace) {
-        Some(one) => read_fault(AuditFile::Trace(one.node), kind),
-        None => AuditFault::NoTraces,
-    }
-}
-
 // Feeds all bytes of traces that were found.
-fn feed_found<B: Server>(
+fn feed_traces<B: Server>(
     alloc: Global,
     audit: &mut TraceAudit<B>,
     traces: &mut Traces<File>,
 ) -> Result<(), AuditFault> {
-    let mut last = 0;
-    match feed_traces(alloc, audit, &mut traces.sources, &mut last) {
-        Ok(()) => Ok(()),
-        Err(error) => Err(fault_at(traces.of.as_slice(), last, error.kind())),
+    for (trace, one) in traces.of.iter().enumerate() {
+        let Some(source) = traces.sources.get_mut(trace) else {
+            return Ok(());
+        };
+        if let Err(error) = feed_all(alloc, audit, trace, &mut source.reader) {
+            return Err(read_fault(AuditFile::Trace(one.node), error.kind()));
+        }
     }
+    Ok(())
 }
 
 // The steps of traces that were found.
@@ -143,7 +124,7 @@ fn steps_in(alloc: Global, mut traces: Traces<File>) -> Result<Vec<ServerStep>, 
     let Ok(mut audit) = TraceAudit::<ServerNode>::new(alloc, traces.of.as_slice()) else {
         return Err(AuditFault::Memory);
     };
-    let fed = feed_found(alloc, &mut audit, &mut traces);
+    let fed = feed_traces(alloc, &mut audit, &mut traces);
     if fed.is_ok() {
         let _ = go_all(&mut audit, traces.of.as_slice(), &mut steps);
     }
