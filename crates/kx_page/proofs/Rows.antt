@@ -1,8 +1,7 @@
 -- One more row.
 use Rattle.std.proofs.Common.{◌≡◌, ◌∙◌, ◌+◌, ◌<◌, ◌++◌, ◌∷◌, [], ℕ, List, suc, ap, sym, arith}
-use Rattle.std.proofs.Common.{append-nil, append_assoc, get_or, length, refl, subst, take, zero}
+use Rattle.std.proofs.Common.{append_assoc, get_or, length, refl, subst, take, zero}
 use Rattle.std.proofs.Common.{zero-add}
-use Rattle.std.proofs.lemmas.Grind.{flat_map-append}
 use Rattle.std.proofs.lemmas.List.{length-take-le, take_more}
 use Rattle.kx_page.specs.Rows.{Told, rows_from, rows_of, told, told_in}
 use Rattle.kx_page.specs.declared.piece.Piece.{Piece}
@@ -44,11 +43,3 @@ no_row [] i p within none = absurd (omega (arith, within))
 no_row (first ∷ pieces) zero p within none = none_before (told_in first) (rows_of pieces) none
 no_row (first ∷ pieces) (suc i) p within none = no_row pieces i p (omega (arith, within))
     (none_after (told_in first) (rows_of pieces) none)
-
--- one more piece, which has no row
-pub none_more : (old new : List Piece) (p : Piece) → new ≡ old ++ p ∷ [] → told_in p ≡ []
-    → rows_of new ≡ rows_of old
-none_more old new p pushed none =
-    ap rows_of pushed ∙ flat_map-append told_in old (p ∷ [])
-    ∙ ap (λ (told : List Told). rows_of old ++ (told ++ [])) none
-    ∙ append-nil (rows_of old)

@@ -1,6 +1,7 @@
 -- The rows of a page: one for each step, in order.
 use Rattle.std.specs.Prelude.{◌≡◌, ℕ, List, [], ◌∷◌, suc, flat_map, map, string_bytes}
 use Rattle.kx_page.specs.Pieces.{blanked, markup_of, text_of}
+use Rattle.kx_page.specs.declared.html.Html.{Html}
 use Rattle.kx_page.specs.declared.piece.Piece.{Piece}
 use Rattle.kx_page.specs.declared.piece.Piece.TheVariants.{Markup, Number, Value}
 use Rattle.kx_page.specs.declared.piece.Piece.TheVariants as piece
@@ -24,8 +25,11 @@ told_in (Value value) = []
 abbrev pub rows_of : List Piece → List Told
 rows_of pieces = flat_map told_in pieces
 
-abbrev pub KeepsRows : List Piece → List Piece → Type 0
-KeepsRows old new = rows_of new ≡ rows_of old
+abbrev pub rows_in : Html → List Told
+rows_in html = rows_of html.pieces.items
+
+abbrev pub KeepsRows : Html → Html → Type 0
+KeepsRows old new = rows_in new ≡ rows_in old
 
 abbrev pub told : ℕ → Step → Told
 told number step = record {

@@ -1,11 +1,11 @@
 //! The whole page of a run, in HTML.
 ghost use Rattle.std.specs.Prelude.{◌≡◌, ◌++◌, ◌∷◌, [], IfOk, OnOk};
-ghost use Rattle.kx_page.specs.Rows.{IsDrawn, IsPageOf, KeepsRows, rows_from, rows_of, told};
+ghost use Rattle.kx_page.specs.Rows.{IsDrawn, IsPageOf, KeepsRows, rows_from, rows_in, told};
 
 use crate::drawing::{Part, about, class_of, lane_names, shown, svg_head};
-use crate::html::{Html, add, row};
+use crate::html::Html;
 use crate::piece::Piece::{Markup, Number, Value};
-use crate::piece::{Row, text};
+use crate::piece::Row;
 use crate::places::{ROW, top_of, written};
 use crate::rules::RULES;
 use crate::run::{Log, LoggedBatch, Run, Step};
@@ -28,12 +28,11 @@ const FORM: &str =
 ";
 
 // Adds the head of a page.
-fn head<'a>(html: &mut Html<'a>, run: &'a Run) -> Result<(), AllocError>
-    ensures { OnOk result (KeepsRows html.old.items html.new.items) }
+fn head<'a>(html: &mut Html<'a>, run: &'a Run)
+    ensures { KeepsRows html.old html.new }
 {
     let title = run.title.as_bytes();
-    add(
-        html,
+    html.add(
         "<!DOCTYPE html>
 <html lang=\"en\"><head><meta charset=\"utf-8\">
 <meta name=\"viewport\" content=\"width=device-width,initial-scale=1\">
@@ -51,77 +50,76 @@ fn head<'a>(html: &mut Html<'a>, run: &'a Run) -> Result<(), AllocError>
             Number(written(run.arrows.len())),
             Markup(FORM),
         ],
-    )
+    );
 }
 
 // Adds the names of the lanes, which stay in sight.
-fn names<'a>(html: &mut Html<'a>, run: &'a Run) -> Result<(), AllocError>
-    ensures { OnOk result (KeepsRows html.old.items html.new.items) }
+fn names<'a>(html: &mut Html<'a>, run: &'a Run)
+    ensures { KeepsRows html.old html.new }
 {
-    add(html, "<div class=\"names\">", &[])?;
-    svg_head(html, run.lanes.len(), 0, NAMES)?;
-    add(html, "{}", &[Markup(TIPS)])?;
-    lane_names(html, run.lanes.as_slice())?;
-    add(html, "</svg></div>\n", &[])
+    html.add("<div class=\"names\">", &[]);
+    svg_head(html, run.lanes.len(), 0, NAMES);
+    html.add("{}", &[Markup(TIPS)]);
+    lane_names(html, run.lanes.as_slice());
+    html.add("</svg></div>\n", &[]);
 }
 
 // Adds the diagram of a part, and the head of the list of its rows.
-fn part_head<'a>(html: &mut Html<'a>, run: &'a Run, first: usize) -> Result<(), AllocError>
-    ensures { OnOk result (KeepsRows html.old.items html.new.items) }
+fn part_head<'a>(html: &mut Html<'a>, run: &'a Run, first: usize)
+    ensures { KeepsRows html.old html.new }
 {
     let end = first.saturating_add(PART).min(run.steps.len());
     let top = top_of(first);
     let height = top_of(end).saturating_sub(top);
     let number = written(first);
-    add(
-        html,
+    html.add(
         "<section class=\"part\" style=\"--h:{}px\">\n",
         &[Number(height)],
-    )?;
-    svg_head(html, run.lanes.len(), top, height)?;
-    shown(html, run, Part { first, end })?;
-    add(html, "</svg>\n<ol start=\"{}\">\n", &[Number(number)])
+    );
+    svg_head(html, run.lanes.len(), top, height);
+    shown(html, run, Part { first, end });
+    html.add("</svg>\n<ol start=\"{}\">\n", &[Number(number)]);
 }
 
 // Adds what stands between the parts of a page.
-fn part_begins<'a>(html: &mut Html<'a>, run: &'a Run, first: usize) -> Result<(), AllocError>
-    ensures { OnOk result (KeepsRows html.old.items html.new.items) }
+fn part_begins<'a>(html: &mut Html<'a>, run: &'a Run, first: usize)
+    ensures { KeepsRows html.old html.new }
 {
     if first != 0 {
-        add(html, "</ol></section>\n", &[])?;
+        html.add("</ol></section>\n", &[]);
     }
-    part_head(html, run, first)
+    part_head(html, run, first);
 }
 
 // Adds the link to the rule by which a step answered, and ends its row.
-fn rule_of(html: &mut Html<'_>, step: &Step) -> Result<(), AllocError>
-    ensures { OnOk result (KeepsRows html.old.items html.new.items) }
+fn rule_of(html: &mut Html<'_>, step: &Step)
+    ensures { KeepsRows html.old html.new }
 {
     let Some(rule) = step.rule else {
-        return add(html, "</li>\n", &[]);
+        html.add("</li>\n", &[]);
+        return;
     };
     let anchor = rule.anchor();
-    add(
-        html,
+    html.add(
         " <a class=\"rule\" href=\"#{}\">{}</a></li>\n",
         &[Markup(anchor), Markup(anchor)],
-    )
+    );
 }
 
 // Adds the row of a step.
 fn row_of<'a>(html: &mut Html<'a>, number: usize, step: &'a Step) -> Result<(), AllocError>
-    ensures { OnOk result (rows_of html.new.items
-        ≡ rows_of html.old.items ++ told number step.now ∷ []) }
+    ensures { OnOk result (rows_in html.new ≡ rows_in html.old ++ told number step.now ∷ []) }
 {
-    add(html, "<li", &[])?;
-    about(html, step.lane, step.client, step.producer)?;
+    html.add("<li", &[]);
+    about(html, step.lane, step.client, step.producer);
     let told = Row {
         number: number as u64,
         title: step.title.as_bytes(),
         detail: step.detail.as_bytes(),
     };
-    row(html, told)?;
-    rule_of(html, step)
+    html.row(told)?;
+    rule_of(html, step);
+    Ok(())
 }
 
 // Adds the row of a step, and before it the head of the part that begins with it, if one does.
@@ -131,19 +129,18 @@ fn next_row<'a>(
     number: usize,
     step: &'a Step,
 ) -> Result<(), AllocError>
-    ensures { OnOk result (rows_of html.new.items
-        ≡ rows_of html.old.items ++ told number step.now ∷ []) }
+    ensures { OnOk result (rows_in html.new ≡ rows_in html.old ++ told number step.now ∷ []) }
 {
     if number % PART == 0 {
-        part_begins(html, run, number)?;
+        part_begins(html, run, number);
     }
     row_of(html, number, step)
 }
 
 // Adds all rows, part by part.
 fn rows<'a>(html: &mut Html<'a>, run: &'a Run) -> Result<(), AllocError>
-    ensures { OnOk result (rows_of html.new.items
-        ≡ rows_of html.old.items ++ rows_from 0 run.now.steps.items) }
+    ensures { OnOk result (rows_in html.new
+        ≡ rows_in html.old ++ rows_from 0 run.now.steps.items) }
 {
     let steps = run.steps.as_slice();
     for number in 0..steps.len() {
@@ -153,18 +150,13 @@ fn rows<'a>(html: &mut Html<'a>, run: &'a Run) -> Result<(), AllocError>
 }
 
 // Adds a batch of a log; before it a part of the table ends, if it is as long as a part may be.
-fn next_batch<'a>(
-    html: &mut Html<'a>,
-    number: usize,
-    batch: &'a LoggedBatch,
-) -> Result<(), AllocError>
-    ensures { OnOk result (KeepsRows html.old.items html.new.items) }
+fn next_batch<'a>(html: &mut Html<'a>, number: usize, batch: &'a LoggedBatch)
+    ensures { KeepsRows html.old html.new }
 {
     if number != 0 && number % PART == 0 {
-        add(html, "</table></div>\n<div class=\"log\"><table>\n", &[])?;
+        html.add("</table></div>\n<div class=\"log\"><table>\n", &[]);
     }
-    add(
-        html,
+    html.add(
         "<tr class=\"{}\"><td class=\"k\">{}</td><td>{}</td><td>{}</td><td>{}</td></tr>\n",
         &[
             Markup(class_of(batch.fate)),
@@ -173,25 +165,23 @@ fn next_batch<'a>(
             Value(batch.records.as_slice()),
             Value(batch.reading.as_bytes()),
         ],
-    )
+    );
 }
 
 // Adds the batches of a log.
-fn batches<'a>(html: &mut Html<'a>, all: &'a [LoggedBatch]) -> Result<(), AllocError>
-    ensures { OnOk result (KeepsRows html.old.items html.new.items) }
+fn batches<'a>(html: &mut Html<'a>, all: &'a [LoggedBatch])
+    ensures { KeepsRows html.old html.new }
 {
     for number in 0..all.len() {
-        next_batch(html, number, &all[number])?;
+        next_batch(html, number, &all[number]);
     }
-    Ok(())
 }
 
 // Adds a log.
-fn log<'a>(html: &mut Html<'a>, log: &'a Log) -> Result<(), AllocError>
-    ensures { OnOk result (KeepsRows html.old.items html.new.items) }
+fn log<'a>(html: &mut Html<'a>, log: &'a Log)
+    ensures { KeepsRows html.old html.new }
 {
-    add(
-        html,
+    html.add(
         "<h3>{}</h3><p>last stable offset {}, end {}</p>
 <div class=\"log\"><table><tr><th>offset</th><th>batch</th><th>records</th><th>a reader of committed records</th></tr>
 ",
@@ -200,47 +190,44 @@ fn log<'a>(html: &mut Html<'a>, log: &'a Log) -> Result<(), AllocError>
             Number(log.stable),
             Number(log.end),
         ],
-    )?;
-    batches(html, log.batches.as_slice())?;
-    add(html, "</table></div>\n", &[])
+    );
+    batches(html, log.batches.as_slice());
+    html.add("</table></div>\n", &[]);
 }
 
 // Adds the logs.
-fn logs<'a>(html: &mut Html<'a>, all: &'a [Log]) -> Result<(), AllocError>
-    ensures { OnOk result (KeepsRows html.old.items html.new.items) }
+fn logs<'a>(html: &mut Html<'a>, all: &'a [Log])
+    ensures { KeepsRows html.old html.new }
 {
     for given in all {
-        log(html, given)?;
+        log(html, given);
     }
-    Ok(())
 }
 
 // Adds the end of the last part, if there is one.
-fn parts_end(html: &mut Html<'_>, run: &Run) -> Result<(), AllocError>
-    ensures { OnOk result (KeepsRows html.old.items html.new.items) }
+fn parts_end(html: &mut Html<'_>, run: &Run)
+    ensures { KeepsRows html.old html.new }
 {
     if run.steps.is_empty() {
-        return Ok(());
+        return;
     }
-    add(html, "</ol></section>\n", &[])
+    html.add("</ol></section>\n", &[]);
 }
 
 // Adds what stands beside and below the steps: the logs, the rules, and the page's script.
-fn tail<'a>(html: &mut Html<'a>, run: &'a Run) -> Result<(), AllocError>
-    ensures { OnOk result (KeepsRows html.old.items html.new.items) }
+fn tail<'a>(html: &mut Html<'a>, run: &'a Run)
+    ensures { KeepsRows html.old html.new }
 {
-    parts_end(html, run)?;
-    add(
-        html,
+    parts_end(html, run);
+    html.add(
         "</div>
 <aside><div id=\"chosen\">Point at a step, or choose it by a key.</div>
 <h2>Logs as they end</h2>
 ",
         &[],
-    )?;
-    logs(html, run.logs.as_slice())?;
-    add(
-        html,
+    );
+    logs(html, run.logs.as_slice());
+    html.add(
         "</aside></main>
 <section id=\"rules\"><h2>Rules</h2>
 {}</section>
@@ -248,18 +235,19 @@ fn tail<'a>(html: &mut Html<'a>, run: &'a Run) -> Result<(), AllocError>
 {}</script></body></html>
 ",
         &[Markup(RULES), Markup(SCRIPT)],
-    )
+    );
 }
 
 // Adds a whole page.
 fn whole<'a>(html: &mut Html<'a>, run: &'a Run) -> Result<(), AllocError>
-    ensures { OnOk result (rows_of html.new.items
-        ≡ rows_of html.old.items ++ rows_from 0 run.now.steps.items) }
+    ensures { OnOk result (rows_in html.new
+        ≡ rows_in html.old ++ rows_from 0 run.now.steps.items) }
 {
-    head(html, run)?;
-    names(html, run)?;
+    head(html, run);
+    names(html, run);
     rows(html, run)?;
-    tail(html, run)
+    tail(html, run);
+    Ok(())
 }
 
 /// The page of a run, in HTML: the diagram with a row for each step, in order; the logs as they end;
@@ -271,17 +259,16 @@ fn whole<'a>(html: &mut Html<'a>, run: &'a Run) -> Result<(), AllocError>
 pub fn page<'a>(alloc: Global, run: &'a Run) -> Result<Vec<u8>, AllocError>
     ensures { IfOk result (λ page. IsPageOf run.now page.items) }
 {
-    let mut html: Html<'a> = Vec::new(alloc);
+    let mut html: Html<'a> = Html::new(alloc);
     whole(&mut html, run)?;
-    text(alloc, html.as_slice())
+    html.text(alloc)
 }
 
 // Adds the title and the style of an image, and the names of the lanes above its steps.
-fn image_head<'a>(html: &mut Html<'a>, run: &'a Run) -> Result<(), AllocError>
-    ensures { OnOk result (KeepsRows html.old.items html.new.items) }
+fn image_head<'a>(html: &mut Html<'a>, run: &'a Run)
+    ensures { KeepsRows html.old html.new }
 {
-    add(
-        html,
+    html.add(
         "<title>{}</title>
 <style>{}</style>
 <rect class=\"back\" x=\"0\" y=\"{}\" width=\"100%\" height=\"100%\"/>{}<g transform=\"translate(0 {})\">
@@ -293,21 +280,21 @@ fn image_head<'a>(html: &mut Html<'a>, run: &'a Run) -> Result<(), AllocError>
             Markup(TIPS),
             Number(-NAMES),
         ],
-    )?;
-    lane_names(html, run.lanes.as_slice())?;
-    add(html, "</g>\n", &[])
+    );
+    lane_names(html, run.lanes.as_slice());
+    html.add("</g>\n", &[]);
 }
 
 // Adds the diagram of a whole run as an image of its own.
-fn drawn<'a>(html: &mut Html<'a>, run: &'a Run) -> Result<(), AllocError>
-    ensures { OnOk result (KeepsRows html.old.items html.new.items) }
+fn drawn<'a>(html: &mut Html<'a>, run: &'a Run)
+    ensures { KeepsRows html.old html.new }
 {
     let end = run.steps.len();
     let height = top_of(end).saturating_add(NAMES).saturating_add(ROW);
-    svg_head(html, run.lanes.len(), -NAMES, height)?;
-    image_head(html, run)?;
-    shown(html, run, Part { first: 0, end })?;
-    add(html, "</svg>\n", &[])
+    svg_head(html, run.lanes.len(), -NAMES, height);
+    image_head(html, run);
+    shown(html, run, Part { first: 0, end });
+    html.add("</svg>\n", &[]);
 }
 
 /// The diagram of a run alone, in SVG. No value of the run can become markup.
@@ -318,7 +305,7 @@ fn drawn<'a>(html: &mut Html<'a>, run: &'a Run) -> Result<(), AllocError>
 pub fn diagram<'a>(alloc: Global, run: &'a Run) -> Result<Vec<u8>, AllocError>
     ensures { IfOk result (λ image. IsDrawn image.items) }
 {
-    let mut html: Html<'a> = Vec::new(alloc);
-    drawn(&mut html, run)?;
-    text(alloc, html.as_slice())
+    let mut html: Html<'a> = Html::new(alloc);
+    drawn(&mut html, run);
+    html.text(alloc)
 }

@@ -2,14 +2,12 @@
 //!
 //! A part of it has the rows of some steps, one after the other, and of every arrow what crosses
 //! these rows; so a page can show the parts that are looked at, and leave the others out.
-ghost use Rattle.std.specs.Prelude.{OnOk};
 ghost use Rattle.kx_page.specs.Rows.{KeepsRows};
 
-use crate::html::{Html, add};
+use crate::html::Html;
 use crate::piece::Piece::{Markup, Number, Value};
 use crate::places::{HALF, ROW, left_of, middle, right_of, top_of, width_of, written, x_of, y_of};
 use crate::run::{Arrow, Fate, Lane, Mark, Run, Step, Way};
-use std::alloc::AllocError;
 
 /// The rows of some steps: from `first` on, up to `end`.
 #[derive(Clone, Copy)]
@@ -29,58 +27,51 @@ pub(crate) fn class_of(fate: Fate) -> &'static str {
 }
 
 // Adds an attribute of this name, if there is a number for it.
-fn attribute(html: &mut Html<'_>, name: &'static str, number: Option<i64>) -> Result<(), AllocError>
-    ensures { OnOk result (KeepsRows html.old.items html.new.items) }
+fn attribute(html: &mut Html<'_>, name: &'static str, number: Option<i64>)
+    ensures { KeepsRows html.old html.new }
 {
     match number {
-        Some(number) => add(html, "{}{}\"", &[Markup(name), Number(number)]),
-        None => Ok(()),
+        Some(number) => html.add("{}{}\"", &[Markup(name), Number(number)]),
+        None => {}
     }
 }
 
 /// Adds the attributes by which a page leaves out what isn't asked for: the lane, the client and
 /// the producer id.
-pub(crate) fn about(
-    html: &mut Html<'_>,
-    lane: usize,
-    client: Option<u32>,
-    producer: Option<i64>,
-) -> Result<(), AllocError>
-    ensures { OnOk result (KeepsRows html.old.items html.new.items) }
+pub(crate) fn about(html: &mut Html<'_>, lane: usize, client: Option<u32>, producer: Option<i64>)
+    ensures { KeepsRows html.old html.new }
 {
     let client = match client {
         Some(client) => Some(i64::from(client)),
         None => None,
     };
-    attribute(html, " data-n=\"", Some(written(lane)))?;
-    attribute(html, " data-c=\"", client)?;
-    attribute(html, " data-t=\"", producer)
+    attribute(html, " data-n=\"", Some(written(lane)));
+    attribute(html, " data-c=\"", client);
+    attribute(html, " data-t=\"", producer);
 }
 
 // Adds the line of a lane.
-fn lane_line(html: &mut Html<'_>, lane: usize, part: Part) -> Result<(), AllocError>
-    ensures { OnOk result (KeepsRows html.old.items html.new.items) }
+fn lane_line(html: &mut Html<'_>, lane: usize, part: Part)
+    ensures { KeepsRows html.old html.new }
 {
-    add(
-        html,
+    html.add(
         "<path class=\"lane\" d=\"M{} {}V{}\"/>\n",
         &[
             Number(x_of(lane)),
             Number(top_of(part.first)),
             Number(top_of(part.end)),
         ],
-    )
+    );
 }
 
 // Adds the line from a batch's box to the marker that ended its transaction.
-fn waiting(html: &mut Html<'_>, number: usize, step: &Step) -> Result<(), AllocError>
-    ensures { OnOk result (KeepsRows html.old.items html.new.items) }
+fn waiting(html: &mut Html<'_>, number: usize, step: &Step)
+    ensures { KeepsRows html.old html.new }
 {
     let Some(ended) = step.ended else {
-        return Ok(());
+        return;
     };
-    add(
-        html,
+    html.add(
         "<path class=\"wait {}\" d=\"M{} {}V{}\"/>\n",
         &[
             Markup(class_of(step.fate)),
@@ -88,20 +79,14 @@ fn waiting(html: &mut Html<'_>, number: usize, step: &Step) -> Result<(), AllocE
             Number(y_of(number)),
             Number(y_of(ended)),
         ],
-    )
+    );
 }
 
 // Adds a box around a step, whose corners are as round as this says.
-fn boxed(
-    html: &mut Html<'_>,
-    number: usize,
-    step: &Step,
-    corners: &'static str,
-) -> Result<(), AllocError>
-    ensures { OnOk result (KeepsRows html.old.items html.new.items) }
+fn boxed(html: &mut Html<'_>, number: usize, step: &Step, corners: &'static str)
+    ensures { KeepsRows html.old html.new }
 {
-    add(
-        html,
+    html.add(
         "<rect x=\"{}\" y=\"{}\" width=\"{}\" height=\"18\" rx=\"{}\"/>",
         &[
             Number(left_of(step.lane)),
@@ -109,38 +94,36 @@ fn boxed(
             Number(2 * HALF),
             Markup(corners),
         ],
-    )
+    );
 }
 
 // Adds the line across a lane at which its node was opened again, or its store failed.
-fn across(html: &mut Html<'_>, number: usize, step: &Step) -> Result<(), AllocError>
-    ensures { OnOk result (KeepsRows html.old.items html.new.items) }
+fn across(html: &mut Html<'_>, number: usize, step: &Step)
+    ensures { KeepsRows html.old html.new }
 {
-    add(
-        html,
+    html.add(
         "<path class=\"across\" d=\"M{} {}h{}\"/>",
         &[
             Number(left_of(step.lane)),
             Number(y_of(number).saturating_add(10)),
             Number(2 * HALF),
         ],
-    )
+    );
 }
 
 // Adds a dot.
-fn dot(html: &mut Html<'_>, number: usize, step: &Step) -> Result<(), AllocError>
-    ensures { OnOk result (KeepsRows html.old.items html.new.items) }
+fn dot(html: &mut Html<'_>, number: usize, step: &Step)
+    ensures { KeepsRows html.old html.new }
 {
-    add(
-        html,
+    html.add(
         "<circle r=\"4\" cx=\"{}\" cy=\"{}\"/>",
         &[Number(x_of(step.lane)), Number(y_of(number))],
-    )
+    );
 }
 
 // Adds the shape of a step.
-fn shape(html: &mut Html<'_>, number: usize, step: &Step) -> Result<(), AllocError>
-    ensures { OnOk result (KeepsRows html.old.items html.new.items) }
+fn shape(html: &mut Html<'_>, number: usize, step: &Step)
+    ensures { KeepsRows html.old html.new }
 {
     match step.mark {
         Mark::Dot => dot(html, number, step),
@@ -162,31 +145,29 @@ fn mark_class(mark: Mark) -> &'static str {
 }
 
 // Adds what a step did, in the middle of its box or beside its dot, and ends the link.
-fn title<'a>(html: &mut Html<'a>, number: usize, step: &'a Step) -> Result<(), AllocError>
-    ensures { OnOk result (KeepsRows html.old.items html.new.items) }
+fn title<'a>(html: &mut Html<'a>, number: usize, step: &'a Step)
+    ensures { KeepsRows html.old html.new }
 {
     let beside = if matches!(step.mark, Mark::Dot) { 8 } else { 0 };
-    add(
-        html,
+    html.add(
         "<text x=\"{}\" y=\"{}\">{}</text></a>\n",
         &[
             Number(x_of(step.lane).saturating_add(beside)),
             Number(y_of(number).saturating_add(4)),
             Value(step.title.as_bytes()),
         ],
-    )
+    );
 }
 
 // Adds the line at which the last stable offset of a partition changed.
-fn stable(html: &mut Html<'_>, number: usize, step: &Step) -> Result<(), AllocError>
-    ensures { OnOk result (KeepsRows html.old.items html.new.items) }
+fn stable(html: &mut Html<'_>, number: usize, step: &Step)
+    ensures { KeepsRows html.old html.new }
 {
     let Some(offset) = step.stable else {
-        return Ok(());
+        return;
     };
     let y = y_of(number).saturating_add(ROW / 2);
-    add(
-        html,
+    html.add(
         "<path class=\"lso\" d=\"M{} {}h{}\"/><text class=\"lso\" x=\"{}\" y=\"{}\">LSO {}</text>\n",
         &[
             Number(left_of(step.lane)),
@@ -196,35 +177,34 @@ fn stable(html: &mut Html<'_>, number: usize, step: &Step) -> Result<(), AllocEr
             Number(y.saturating_add(3)),
             Number(offset),
         ],
-    )
+    );
 }
 
 // Adds the head of the link from a step to its row.
-fn link_head(html: &mut Html<'_>, number: usize, step: &Step) -> Result<(), AllocError>
-    ensures { OnOk result (KeepsRows html.old.items html.new.items) }
+fn link_head(html: &mut Html<'_>, number: usize, step: &Step)
+    ensures { KeepsRows html.old html.new }
 {
-    add(
-        html,
+    html.add(
         "<a class=\"{}{}\" href=\"#s{}\"",
         &[
             Markup(mark_class(step.mark)),
             Markup(class_of(step.fate)),
             Number(written(number)),
         ],
-    )?;
-    about(html, step.lane, step.client, step.producer)?;
-    add(html, ">", &[])
+    );
+    about(html, step.lane, step.client, step.producer);
+    html.add(">", &[]);
 }
 
 // Adds a step: its shape and what it did are a link to its row.
-fn step_of<'a>(html: &mut Html<'a>, number: usize, step: &'a Step) -> Result<(), AllocError>
-    ensures { OnOk result (KeepsRows html.old.items html.new.items) }
+fn step_of<'a>(html: &mut Html<'a>, number: usize, step: &'a Step)
+    ensures { KeepsRows html.old html.new }
 {
-    waiting(html, number, step)?;
-    link_head(html, number, step)?;
-    shape(html, number, step)?;
-    title(html, number, step)?;
-    stable(html, number, step)
+    waiting(html, number, step);
+    link_head(html, number, step);
+    shape(html, number, step);
+    title(html, number, step);
+    stable(html, number, step);
 }
 
 // Whether an arrow crosses the rows of a part.
@@ -254,13 +234,12 @@ fn end_of(arrow: &Arrow) -> (i64, i64) {
 }
 
 // Adds the line of an arrow, and the name of its message in the middle of it.
-fn arrow_line<'a>(html: &mut Html<'a>, arrow: &'a Arrow) -> Result<(), AllocError>
-    ensures { OnOk result (KeepsRows html.old.items html.new.items) }
+fn arrow_line<'a>(html: &mut Html<'a>, arrow: &'a Arrow)
+    ensures { KeepsRows html.old html.new }
 {
     let (from, sent) = (x_of(arrow.from), y_of(arrow.sent));
     let (to, taken) = end_of(arrow);
-    add(
-        html,
+    html.add(
         "><path d=\"M{} {}L{} {}\"/><title>{}</title><text class=\"name\" x=\"{}\" y=\"{}\">{}</text></g>\n",
         &[
             Number(from),
@@ -272,15 +251,14 @@ fn arrow_line<'a>(html: &mut Html<'a>, arrow: &'a Arrow) -> Result<(), AllocErro
             Number(middle(sent, taken).saturating_add(3)),
             Value(arrow.name.as_bytes()),
         ],
-    )
+    );
 }
 
 // Adds an arrow.
-fn arrow_of<'a>(html: &mut Html<'a>, arrow: &'a Arrow) -> Result<(), AllocError>
-    ensures { OnOk result (KeepsRows html.old.items html.new.items) }
+fn arrow_of<'a>(html: &mut Html<'a>, arrow: &'a Arrow)
+    ensures { KeepsRows html.old html.new }
 {
-    add(
-        html,
+    html.add(
         "<g class=\"{}{}\" data-f=\"{}\" data-s=\"{}\"",
         &[
             Markup(way_class(arrow.way)),
@@ -288,87 +266,76 @@ fn arrow_of<'a>(html: &mut Html<'a>, arrow: &'a Arrow) -> Result<(), AllocError>
             Number(written(arrow.sent)),
             Number(written(arrow.taken)),
         ],
-    )?;
-    about(html, arrow.to, arrow.client, arrow.producer)?;
-    arrow_line(html, arrow)
+    );
+    about(html, arrow.to, arrow.client, arrow.producer);
+    arrow_line(html, arrow);
 }
 
 // Adds the arrows that cross the rows of a part.
-fn arrows<'a>(html: &mut Html<'a>, all: &'a [Arrow], part: Part) -> Result<(), AllocError>
-    ensures { OnOk result (KeepsRows html.old.items html.new.items) }
+fn arrows<'a>(html: &mut Html<'a>, all: &'a [Arrow], part: Part)
+    ensures { KeepsRows html.old html.new }
 {
     for arrow in all {
         if crosses(arrow, part) {
-            arrow_of(html, arrow)?;
+            arrow_of(html, arrow);
         }
     }
-    Ok(())
 }
 
 // Adds the lines of all lanes.
-fn lane_lines(html: &mut Html<'_>, lanes: usize, part: Part) -> Result<(), AllocError>
-    ensures { OnOk result (KeepsRows html.old.items html.new.items) }
+fn lane_lines(html: &mut Html<'_>, lanes: usize, part: Part)
+    ensures { KeepsRows html.old html.new }
 {
     for lane in 0..lanes {
-        lane_line(html, lane, part)?;
+        lane_line(html, lane, part);
     }
-    Ok(())
 }
 
 // Adds the steps of a part.
-fn steps<'a>(html: &mut Html<'a>, all: &'a [Step], part: Part) -> Result<(), AllocError>
-    ensures { OnOk result (KeepsRows html.old.items html.new.items) }
+fn steps<'a>(html: &mut Html<'a>, all: &'a [Step], part: Part)
+    ensures { KeepsRows html.old html.new }
 {
     for number in part.first..part.end {
         if let Some(step) = all.get(number) {
-            step_of(html, number, step)?;
+            step_of(html, number, step);
         }
     }
-    Ok(())
 }
 
 /// Adds what a part shows, without the element around it.
-pub(crate) fn shown<'a>(html: &mut Html<'a>, run: &'a Run, part: Part) -> Result<(), AllocError>
-    ensures { OnOk result (KeepsRows html.old.items html.new.items) }
+pub(crate) fn shown<'a>(html: &mut Html<'a>, run: &'a Run, part: Part)
+    ensures { KeepsRows html.old html.new }
 {
-    lane_lines(html, run.lanes.len(), part)?;
-    arrows(html, run.arrows.as_slice(), part)?;
-    steps(html, run.steps.as_slice(), part)
+    lane_lines(html, run.lanes.len(), part);
+    arrows(html, run.arrows.as_slice(), part);
+    steps(html, run.steps.as_slice(), part);
 }
 
 // Adds the name of a lane.
-fn lane_name<'a>(html: &mut Html<'a>, number: usize, lane: &'a Lane) -> Result<(), AllocError>
-    ensures { OnOk result (KeepsRows html.old.items html.new.items) }
+fn lane_name<'a>(html: &mut Html<'a>, number: usize, lane: &'a Lane)
+    ensures { KeepsRows html.old html.new }
 {
-    add(
-        html,
+    html.add(
         "<text class=\"lane\" x=\"{}\" y=\"18\">{}</text>\n",
         &[Number(x_of(number)), Value(lane.name.as_bytes())],
-    )
+    );
 }
 
 /// Adds the names of the lanes.
-pub(crate) fn lane_names<'a>(html: &mut Html<'a>, lanes: &'a [Lane]) -> Result<(), AllocError>
-    ensures { OnOk result (KeepsRows html.old.items html.new.items) }
+pub(crate) fn lane_names<'a>(html: &mut Html<'a>, lanes: &'a [Lane])
+    ensures { KeepsRows html.old html.new }
 {
     for (number, lane) in lanes.iter().enumerate() {
-        lane_name(html, number, lane)?;
+        lane_name(html, number, lane);
     }
-    Ok(())
 }
 
 /// Adds an SVG element's head, of this width, from one place down to another.
-pub(crate) fn svg_head(
-    html: &mut Html<'_>,
-    lanes: usize,
-    top: i64,
-    height: i64,
-) -> Result<(), AllocError>
-    ensures { OnOk result (KeepsRows html.old.items html.new.items) }
+pub(crate) fn svg_head(html: &mut Html<'_>, lanes: usize, top: i64, height: i64)
+    ensures { KeepsRows html.old html.new }
 {
     let width = width_of(lanes);
-    add(
-        html,
+    html.add(
         "<svg xmlns=\"http://www.w3.org/2000/svg\" width=\"{}\" height=\"{}\" viewBox=\"0 {} {} {}\">\n",
         &[
             Number(width),
@@ -377,5 +344,5 @@ pub(crate) fn svg_head(
             Number(width),
             Number(height),
         ],
-    )
+    );
 }

@@ -1,41 +1,83 @@
 //! The pieces of a page, one after the other.
-ghost use Rattle.std.specs.Prelude.{◌≡◌, ◌++◌, [], OnOk};
-ghost use Rattle.kx_page.specs.Rows.{KeepsRows, rows_of, told_in};
+ghost use Rattle.std.specs.Prelude.{◌≡◌, ◌++◌, [], IfOk, OnOk, map, true};
+ghost use Rattle.kx_page.specs.Pieces.{blanked, markup_of, text_of};
+ghost use Rattle.kx_page.specs.Rows.{KeepsRows, rows_in, rows_of, told_in};
 ghost use Rattle.kx_page.specs.declared.piece.Piece.TheVariants as piece;
 
-use crate::piece::{Piece, Row};
-use std::alloc::AllocError;
+use crate::piece::{Piece, Row, text};
+use std::alloc::{AllocError, Global};
 
-/// The pieces of a page.
-pub type Html<'a> = Vec<Piece<'a>>;
-
-/// Adds markup with these pieces in the place of its holes `{}`, one after the other; none of them is
-/// the head of a row. A piece without a hole is left out.
-pub(crate) fn add<'a>(
-    html: &mut Html<'a>,
-    template: &'static str,
-    pieces: &[Piece<'a>],
-) -> Result<(), AllocError>
-    ensures { rows_of pieces.now ≡ [] → OnOk result (KeepsRows html.old.items html.new.items) }
-{
-    let mut rest = template;
-    for piece in pieces {
-        let Some((before, after)) = rest.split_once("{}") else {
-            break;
-        };
-        html.push(Piece::Markup(before))?;
-        html.push(*piece)?;
-        rest = after;
-    }
-    html.push(Piece::Markup(rest))?;
-    Ok(())
+/// The pieces of a page. Like a builder of `std::fmt`, it notes that memory ran out for one of them,
+/// and [`text`](Html::text) says so.
+#[derive(Drop)]
+pub(crate) struct Html<'a> {
+    pieces: Vec<Piece<'a>>,
+    is_whole: bool,
 }
 
-/// Adds the head of a step's row.
-pub(crate) fn row<'a>(html: &mut Html<'a>, row: Row<'a>) -> Result<(), AllocError>
-    ensures { OnOk result (rows_of html.new.items
-        ≡ rows_of html.old.items ++ told_in (piece.Row row.entry)) }
-{
-    html.push(Piece::Row(row))?;
-    Ok(())
+impl<'a> Html<'a> {
+    /// A page of no pieces.
+    pub(crate) fn new(alloc: Global) -> Html<'a>
+        ensures { result.pieces.items ≡ [] }
+    {
+        Html {
+            pieces: Vec::new(alloc),
+            is_whole: true,
+        }
+    }
+
+    // Adds a piece, or notes that there is no memory for it.
+    fn push(&mut self, piece: Piece<'a>)
+        ensures { told_in piece.entry ≡ [] → KeepsRows self.old self.new }
+    {
+        if self.pieces.push(piece).is_err() {
+            self.is_whole = false;
+        }
+    }
+
+    /// Adds markup with these pieces in the place of its holes `{}`, one after the other; none of them
+    /// is the head of a row. A piece without a hole is left out.
+    pub(crate) fn add(&mut self, template: &'static str, pieces: &[Piece<'a>])
+        ensures { rows_of pieces.now ≡ [] → KeepsRows self.old self.new }
+    {
+        let mut rest = template;
+        for piece in pieces {
+            let Some((before, after)) = rest.split_once("{}") else {
+                break;
+            };
+            self.push(Piece::Markup(before));
+            self.push(*piece);
+            rest = after;
+        }
+        self.push(Piece::Markup(rest));
+    }
+
+    /// Adds the head of a step's row.
+    ///
+    /// # Errors
+    ///
+    /// Only where memory runs out.
+    pub(crate) fn row(&mut self, row: Row<'a>) -> Result<(), AllocError>
+        ensures { OnOk result (rows_in self.new ≡ rows_in self.old ++ told_in (piece.Row row.entry)) }
+    {
+        self.pieces.push(Piece::Row(row))?;
+        Ok(())
+    }
+
+    /// The text of these pieces.
+    ///
+    /// # Errors
+    ///
+    /// Only where memory runs out, or ran out for a piece.
+    pub(crate) fn text(&self, alloc: Global) -> Result<Vec<u8>, AllocError>
+        ensures text { IfOk result (λ text. text.items ≡ text_of self.now.pieces.items) }
+        ensures markup { IfOk result (λ text.
+            markup_of text.items ≡ markup_of (text_of (map blanked self.now.pieces.items))) }
+        ensures whole { OnOk result (self.now.is_whole ≡ true) }
+    {
+        if !self.is_whole {
+            return Err(AllocError);
+        }
+        text(alloc, self.pieces.as_slice())
+    }
 }

@@ -18,7 +18,6 @@ mod script;
 mod style;
 
 pub use document::{diagram, page};
-pub use html::Html;
-pub use piece::{Piece, Row, text};
+pub use piece::{Piece, Row};
 pub use rule::Rule;
 pub use run::{Arrow, Fate, Lane, Log, LoggedBatch, Mark, Run, Step, Way};

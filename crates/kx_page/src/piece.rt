@@ -129,7 +129,7 @@ fn put_piece(out: &mut Vec<u8>, piece: Piece<'_>) -> Result<(), AllocError>
 /// # Errors
 ///
 /// Only where memory runs out.
-pub fn text(alloc: Global, pieces: &[Piece<'_>]) -> Result<Vec<u8>, AllocError>
+pub(crate) fn text(alloc: Global, pieces: &[Piece<'_>]) -> Result<Vec<u8>, AllocError>
     ensures text { IfOk result (λ text. text.items ≡ text_of pieces.now) }
     ensures markup { IfOk result (λ text.
         markup_of text.items ≡ markup_of (text_of (map blanked pieces.now))) }

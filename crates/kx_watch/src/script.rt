@@ -1,4 +1,6 @@
 //! A script whose events happen in a world of its own, and are watched.
+ghost use Rattle.std.specs.Prelude.{◌≡◌, IfOk};
+
 use crate::world::Watched;
 use kx_core::Happened;
 use kx_page::Run;
@@ -57,7 +59,9 @@ fn cut(script: &[u8]) -> (&[u8], &[u8]) {
 /// # Errors
 ///
 /// Only where memory runs out.
-pub fn run_of_script(alloc: Global, title: &'static str, script: &[u8]) -> Result<Run, AllocError> {
+pub fn run_of_script(alloc: Global, title: &'static str, script: &[u8]) -> Result<Run, AllocError>
+    ensures { IfOk result (λ run. run.title.now ≡ title.now) }
+{
     let (line, rest) = cut(script);
     let Some(partitions) = world_in(line) else {
         return Recorder::new(alloc).into_run(title);

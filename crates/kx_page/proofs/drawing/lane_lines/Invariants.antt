@@ -2,4 +2,4 @@ use Rattle.kx_page.specs.Rows.{KeepsRows}
 use Rattle.kx_page.proofs.drawing.lane_lines.Given as goal
 
 abbrev pub invariant-loop-lane : goal.invariant-loop-lane
-invariant-loop-lane l = KeepsRows l.fn.html.items l.html.items
+invariant-loop-lane l = KeepsRows l.fn.html l.html

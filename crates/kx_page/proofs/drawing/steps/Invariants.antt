@@ -2,4 +2,4 @@ use Rattle.kx_page.specs.Rows.{KeepsRows}
 use Rattle.kx_page.proofs.drawing.steps.Given as goal
 
 abbrev pub invariant-loop-number : goal.invariant-loop-number
-invariant-loop-number l = KeepsRows l.fn.html.items l.html.items
+invariant-loop-number l = KeepsRows l.fn.html l.html

@@ -2,8 +2,8 @@ use Rattle.std.proofs.Common.{◌≡◌, []}
 use denote.Text.{Utf8}
 use denote.Shadow.{shadow}
 use Rattle.kx_page.specs.Rows.{KeepsRows, rows_of}
-use Rattle.kx_page.proofs.html.add.Given as goal
+use Rattle.kx_page.proofs.html.Html.add.Given as goal
 
 abbrev pub invariant-loop-piece : goal.invariant-loop-piece
 invariant-loop-piece l =
-    shadow (Utf8 l.rest) × (rows_of l.pieces ≡ [] → KeepsRows l.fn.html.items l.html.items)
+    shadow (Utf8 l.rest) × (rows_of l.pieces ≡ [] → KeepsRows l.fn.self l.self)
