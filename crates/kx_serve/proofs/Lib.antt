@@ -2,4 +2,3 @@ mod Books
 mod Coordinators
 mod Named
 mod Opened
-mod Printed

@@ -16,32 +16,34 @@ use Rattle.kx_nodes.specs.Taking.{Alone}
 use Rattle.kx_recording.specs.Recorded.{Recorded}
 use Rattle.kx_serve.specs.declared.placing.OpenedNode.{OpenedNode}
 
--- the machine is the server of the partition whose log was opened, and has parked nothing
-pub record IsOpened {S : Type 0} (number : ℕ) (machine : BrokerMachine S) : Type 0 where
-  pub stands : broker_stands
-      (AtPartition number (opened_partition (broker_log machine))) machine
-  pub placed : IsLog (broker_log machine)
-  pub grown : IsGrown (broker_log machine)
+-- the machine is the server of this partition as its log was opened, and has parked nothing
+pub record Serves {M : Type 0} (stands : NodeState → M → Type 0) (log : M → List Stored)
+    (number : ℕ) (machine : M) : Type 0 where
+  pub as_opened : stands (AtPartition number (opened_partition (log machine))) machine
+  pub placed : IsLog (log machine)
+  pub grown : IsGrown (log machine)
+
+abbrev pub IsOpened : {S : Type 0} → ℕ → BrokerMachine S → Type 0
+IsOpened = Serves broker_stands broker_log
 
 -- the machine stands for a coordinator
 pub record StandsForCoordinator {S : Type 0} (r : Recorded (BrokerMachine S)) : Type 0 where
   pub coordinator : Coordinator
   pub stands : broker_stands (AtCoordinator coordinator) r.machine
 
--- the book of a data partition's publishes is the one that its name stands for
+-- the book of a partition's publishes is the one that its name stands for
+abbrev pub IsItsBook : (ℕ → Book) → Opened → Type 0
+IsItsBook named opened = opened.seen.book ≡ named opened.partition
+
 pub record HasBook (named : ℕ → Book) (opened : Opened) : Type 0 where
   pub is_data : opened.partition < data_partitions
-  pub book : opened.seen.book ≡ named opened.partition
+  pub book : IsItsBook named opened
 
--- a partition's node serves it as its log was opened, and has parked nothing; the book of its publishes
--- is the one that its name stands for
+-- a partition's node serves it as its log was opened, and has its book
 pub record IsReady {L : Type 0} (stands : NodeState → L → Type 0) (log : L → List Stored)
     (named : ℕ → Book) (node : OpenedNode L) : Type 0 where
-  pub serves : stands
-      (AtPartition node.opened.partition (opened_partition (log node.locked))) node.locked
-  pub placed : IsLog (log node.locked)
-  pub grown : IsGrown (log node.locked)
-  pub book : node.opened.seen.book ≡ named node.opened.partition
+  pub serves : Serves stands log node.opened.partition node.locked
+  pub book : IsItsBook named node.opened
 
 -- so of a node whose machine's steps may be written to a trace
 abbrev pub IsServing : {S : Type 0} → (ℕ → Book) → OpenedNode (Alone (Recorded (BrokerMachine S)))

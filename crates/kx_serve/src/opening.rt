@@ -1,10 +1,12 @@
 //! The nodes of a server, whose logs are in memory or in the files of a folder, and what a folder
 //! lacks.
-ghost use Rattle.std.specs.Prelude.{◌≡◌, ◌<◌, ◌++◌, ◌∷◌, [], All, IfOk, OnOk};
+ghost use Rattle.std.specs.Prelude.{◌≡◌, ◌<◌, ◌++◌, ◌∷◌, [], ℕ, All, IfOk, OnOk};
 ghost use Rattle.kx_coord_node.specs.Stands.{Stands, opened_coordinator};
 ghost use Rattle.kx_machine.specs.Meaning.{AtCoordinator};
 ghost use Rattle.kx_message.specs.Ranges.{data_partitions, offsets_partition};
-ghost use Rattle.kx_serve.specs.Opening.{HasBook, IsOpened, IsServing, StandsForCoordinator};
+ghost use Rattle.kx_serve.specs.Opening.{HasBook, IsItsBook, IsOpened, IsServing};
+ghost use Rattle.kx_serve.specs.Opening.{StandsForCoordinator};
+ghost use Rattle.logbook.specs.Pages.{Book};
 
 use crate::fault::ServeFault;
 use crate::files::LogFile;
@@ -40,8 +42,7 @@ fn locked<S: Store, R: Eprint + Drop>(
     opened: Opened,
 ) -> OpenedNode<Untraced<ServerMachine<S, R>>>
     requires { IsOpened opened.partition machine.machine }
-    ensures opened { result.opened ≡ opened }
-    ensures machine { result.locked.machine ≡ machine }
+    ensures { (named : ℕ → Book) → IsItsBook named opened → IsServing named result }
 {
     OpenedNode {
         locked: Untraced::new(NodeId::Partition(opened.partition), machine),
@@ -218,8 +219,48 @@ impl<'a, F: Folder, R: Files<File = File> + AllocGlobal + Eprint + Drop + Copy> 
         }
     }
 
-    // The coordinator with a trace. One of a single entry was made, and its process ended before the
-    // first step.
+    // The coordinator's trace goes on, which tells of its log or not.
+    fn further_trace(
+        &self,
+        traces: &Traces<'a, R>,
+        trace: OpenedTrace<R>,
+        is_told: bool,
+    ) -> Result<TraceFile<R>, ServeFault> {
+        match self.folder.len(self.alloc, LogFile::Coordinator) {
+            Ok(len) => traces.go_on(LogFile::Coordinator, trace, is_told, len),
+            Err(fault) => {
+                drop(trace);
+                Err(fault)
+            }
+        }
+    }
+
+    // The coordinator of a log with this many entries, and with this trace. One of a single entry was
+    // made, and its process ended before the first step.
+    fn coordinator_after(
+        &self,
+        kept: &[PartitionId],
+        found: (F::Kept, usize),
+        traces: &Traces<'a, R>,
+        trace: OpenedTrace<R>,
+    ) -> Result<ServerMachine<F::Kept, R>, ServeFault>
+        ensures { IfOk result StandsForCoordinator }
+    {
+        let (store, entries) = found;
+        if !trace.has_records && entries == 0 {
+            return self.first_coordinator(store, trace.file);
+        }
+        let is_told = trace.has_records || entries == 1;
+        match self.further_trace(traces, trace, is_told) {
+            Ok(trace) => self.later_coordinator(kept, store, Some(trace)),
+            Err(fault) => {
+                drop(store);
+                Err(fault)
+            }
+        }
+    }
+
+    // The coordinator with a trace.
     fn traced_coordinator(
         &self,
         kept: &[PartitionId],
@@ -228,15 +269,14 @@ impl<'a, F: Folder, R: Files<File = File> + AllocGlobal + Eprint + Drop + Copy> 
     ) -> Result<ServerMachine<F::Kept, R>, ServeFault>
         ensures { IfOk result StandsForCoordinator }
     {
-        let (store, entries) = self.found(store)?;
-        let trace = traces.open(&TracedNode::Coordinator)?;
-        if !trace.has_records && entries == 0 {
-            return self.first_coordinator(store, trace.file);
+        let found = self.found(store)?;
+        match traces.open(&TracedNode::Coordinator) {
+            Ok(trace) => self.coordinator_after(kept, found, traces, trace),
+            Err(fault) => {
+                drop(found);
+                Err(fault)
+            }
         }
-        let is_told = trace.has_records || entries == 1;
-        let len = self.folder.len(self.alloc, LogFile::Coordinator)?;
-        let trace = traces.go_on(LogFile::Coordinator, trace, is_told, len)?;
-        self.later_coordinator(kept, store, Some(trace))
     }
 
     // The coordinator's machine, in a folder of whose logs these were made before.
@@ -333,8 +373,8 @@ impl<'a, F: Folder, R: Files<File = File> + AllocGlobal + Eprint + Drop + Copy> 
         &self,
         opened: Opened,
     ) -> Result<(OpenedNode<Kept<F, R>>, Vec<Member>), ServeFault>
-        requires opened { opened.partition ≡ offsets_partition }
-        requires book { opened.seen.book ≡ J.book offsets_partition }
+        requires offsets { (opened.partition ≡ offsets_partition)
+            × (opened.seen.book ≡ J.book offsets_partition) }
         ensures { IfOk result (λ made. IsServing J.book made.0) }
     {
         let machine = self.offsets(LogFile::Offsets)?;
@@ -357,11 +397,11 @@ impl<'a, F: Folder, R: Files<File = File> + AllocGlobal + Eprint + Drop + Copy> 
         books: Vec<Opened>,
         offsets: Opened,
     ) -> Result<Vec<Member>, ServeFault>
-        requires nodes { nodes.old.items ≡ [] }
         requires books { All (HasBook J.book) books.items }
         requires offsets { (offsets.partition ≡ offsets_partition)
             × (offsets.seen.book ≡ J.book offsets_partition) }
-        ensures { OnOk result (All (IsServing J.book) nodes.new.items) }
+        ensures { All (IsServing J.book) nodes.old.items
+            → OnOk result (All (IsServing J.book) nodes.new.items) }
     {
         for opened in books {
             add(nodes, self.data_node::<J>(opened)?)?;

@@ -2,13 +2,10 @@
 //!
 //! A log in which another program wrote (a leader epoch, a longer marker) can't be copied byte by
 //! byte by produce and marker, so its pages are steps of the node.
-ghost use Rattle.std.specs.Prelude.{◌≡◌, All};
+ghost use Rattle.std.specs.Prelude.{All};
 ghost use Rattle.kx_bounded.specs.Bounds.{IsWithin};
-ghost use Rattle.kx_broker.specs.Serving.{opened_partition};
-ghost use Rattle.kx_laws.specs.Grown.{IsGrown};
-ghost use Rattle.kx_log.specs.Log.{IsLog};
-ghost use Rattle.kx_machine.specs.Meaning.{AtPartition, NodeState};
-ghost use Rattle.kx_serve.specs.Opening.{IsReady};
+ghost use Rattle.kx_machine.specs.Meaning.{NodeState};
+ghost use Rattle.kx_serve.specs.Opening.{IsItsBook, IsReady, Serves};
 
 use crate::files::LogFile;
 use crate::folder::Folder;
@@ -57,12 +54,9 @@ fn placed<L: Readable, J: Naming, R: Wait + Drop + Copy>(
     opened: Opened,
     readers: usize,
 ) -> Result<Place<L, J, R>, AllocError>
-    requires stands { L.stands
-        (AtPartition opened.partition (opened_partition (L.log locked))) locked }
-    requires log { IsLog (L.log locked) }
-    requires grown { IsGrown (L.log locked) }
+    requires serves { Serves L.stands L.log opened.partition locked }
     requires readers { IsWithin 1 1024 readers }
-    requires book { opened.seen.book ≡ J.book opened.partition }
+    requires book { IsItsBook J.book opened }
 {
     if !wrote_itself(opened.partition, &locked) {
         return unpublished(alloc, locked);

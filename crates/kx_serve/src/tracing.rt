@@ -44,7 +44,10 @@ pub(crate) fn restarted<S: Store, R: Eprint + Drop>(
 ) -> Result<ServerMachine<S, R>, ServeFault>
     ensures { StandsForCoordinator machine → IfOk result StandsForCoordinator }
 {
-    match machine.record(&Input::Restart(time)) {
+    let restart = Input::Restart(time);
+    let taken = machine.record(&restart);
+    drop(restart);
+    match taken {
         Ok(taken) => {
             drop(taken);
             Ok(machine)

@@ -82,10 +82,16 @@ pub(crate) fn find<R: Files<File = File> + AllocGlobal>(
 {
     let nodes = server_nodes(rt.alloc())?;
     let mut traces = traces_in(rt, rt.alloc(), nodes.as_slice(), options.traces)?;
-    if let Some(folder) = options.logs {
-        note_logs(rt, nodes.as_slice(), folder, &mut traces.of)?;
+    let Some(folder) = options.logs else {
+        return Ok(traces);
+    };
+    match note_logs(rt, nodes.as_slice(), folder, &mut traces.of) {
+        Ok(()) => Ok(traces),
+        Err(stop) => {
+            drop(traces);
+            Err(stop)
+        }
     }
-    Ok(traces)
 }
 
 // What is found by an audit that was stopped so.
@@ -101,13 +107,13 @@ fn stopped(found: Findings, stop: Stop) -> Result<Findings, AuditFault>
     }
 }
 
-// Audits what was found.
-fn audit_found<R: Files<File = File> + AllocGlobal + Eprint>(
+// Audits traces that were found.
+fn audit_in<R: Files<File = File> + AllocGlobal + Eprint>(
     rt: &R,
     options: &AuditOptions<'_>,
-    mut traces: Traces<File>,
+    traces: &mut Traces<File>,
 ) -> Result<Findings, AuditFault>
-    requires { AreBegun traces.of.items traces.sources.items }
+    requires { AreBegun traces.old.of.items traces.old.sources.items }
     ensures { IfOk result (AreFindings (is_some options.now.logs)) }
 {
     let of = traces.of.as_slice();
@@ -129,6 +135,21 @@ fn audit_found<R: Files<File = File> + AllocGlobal + Eprint>(
         Ok(()) => Ok(found),
         Err(stop) => stopped(found, stop),
     }
+}
+
+// Audits what was found. Traces are dropped by a call, since each place where they are dropped is
+// proved anew.
+fn audit_found<R: Files<File = File> + AllocGlobal + Eprint>(
+    rt: &R,
+    options: &AuditOptions<'_>,
+    mut traces: Traces<File>,
+) -> Result<Findings, AuditFault>
+    requires { AreBegun traces.of.items traces.sources.items }
+    ensures { IfOk result (AreFindings (is_some options.now.logs)) }
+{
+    let found = audit_in(rt, options, &mut traces);
+    drop(traces);
+    found
 }
 
 // What an audit of what is found in the folders finds.

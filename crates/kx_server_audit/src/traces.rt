@@ -136,6 +136,29 @@ fn add_trace<I: Read + Drop>(
     Ok(())
 }
 
+// Adds the traces that a folder has, of these nodes; it has one at least.
+fn add_traces<R: Files<File = File>>(
+    rt: &R,
+    alloc: Global,
+    nodes: &[TracedNode],
+    folder: &str,
+    traces: &mut Traces<File>,
+) -> Result<(), Stop>
+    requires { AreBegun traces.old.of.items traces.old.sources.items }
+    ensures begun { OnOk result (AreBegun traces.new.of.items traces.new.sources.items) }
+    ensures no { IfErr result (λ stop. IfNo stop (IsNoAtOnce false)) }
+{
+    for node in nodes {
+        if let Some(opened) = open_trace(rt, alloc, folder, *node)? {
+            add_trace(traces, *node, opened)?;
+        }
+    }
+    if traces.of.is_empty() {
+        return Err(Stop::Fault(AuditFault::NoTraces));
+    }
+    Ok(())
+}
+
 /// The traces that a folder has, of these nodes.
 pub(crate) fn traces_in<R: Files<File = File>>(
     rt: &R,
@@ -150,13 +173,11 @@ pub(crate) fn traces_in<R: Files<File = File>>(
         of: Vec::new(alloc),
         sources: Vec::new(alloc),
     };
-    for node in nodes {
-        if let Some(opened) = open_trace(rt, alloc, folder, *node)? {
-            add_trace(&mut traces, *node, opened)?;
+    match add_traces(rt, alloc, nodes, folder, &mut traces) {
+        Ok(()) => Ok(traces),
+        Err(stop) => {
+            drop(traces);
+            Err(stop)
         }
     }
-    if traces.of.is_empty() {
-        return Err(Stop::Fault(AuditFault::NoTraces));
-    }
-    Ok(traces)
 }

@@ -1,6 +1,6 @@
 use Rattle.std.proofs.Common.{rules}
 use Rattle.std.specs.Prelude.{codes}
-use Rattle.kx_serve.proofs.Printed.{appends_both}
+use Rattle.std.proofs.KnownBytes.{Appends-trans}
 use Rattle.kx_server.specs.Lines.{line_of}
 use Rattle.kx_serve.proofs.server.serve_own.Goals as goal
 
@@ -10,7 +10,7 @@ returns g c =
     let served = c.args.options.now.connections in
     let listens = c.in_ok-serve_speaking.ensures in (
       listens.0,
-      appends_both (contents c.args.out.now) (contents c.serve_speaking.new.out)
+      Appends-trans (contents c.args.out.now) (contents c.serve_speaking.new.out)
           (contents c.tell.new.out) (line_of (codes "listening") listens.0)
           (line_of (codes "served") served) listens.1 (search rules),
     )

@@ -4,7 +4,7 @@ use Rattle.kx_server_audit.specs.Telling.{AreFindings, SaysNoOf, machines_in}
 use Rattle.kx_server_audit.specs.declared.findings.Findings.{Findings}
 use Rattle.kx_server_audit.proofs.Comparing.{if_no, if_ok, item_no, log_no, match_err, match_ok}
 use Rattle.kx_server_audit.proofs.Comparing.{stopped_finds}
-use Rattle.kx_server_audit.proofs.server.audit_found.Goals as goal
+use Rattle.kx_server_audit.proofs.server.audit_in.Goals as goal
 
 pub returns-in-Err : goal.returns-in-Err
 returns-in-Err g c =
@@ -20,7 +20,7 @@ returns-in-Err g c =
     let count = ap length c.as_slice-of.ensures.value ∙ c.requires.count in
     let ends = match_err c.in-Ok.ended _ _ _ c.in-Err.is c.in-Ok.ensures in
     let denied = if_no c.stop_at.result (IsItemOf of c.in-Err.ending)
-    (SaysNoOf compares counts transactions) (λ d is. item_no _ of c.args.traces.sources.items
+    (SaysNoOf compares counts transactions) (λ d is. item_no _ of c.args.traces.now.sources.items
     count compares c.in-Ok.audit counts transactions c.counts.ensures c.transactions.ensures
     c.in-Err.ending d ends is) c.stop_at.ensures in
     if_ok c.stopped.result (IsStopped c.stop_at.result found) (AreFindings compares)
@@ -42,7 +42,7 @@ returns g c =
     let says = match_ok c.in-Ok.ended _ _ _ c.in_default-ended.is c.in-Ok.ensures in
     let denied = if_no c.in-Err-compare.stop
     (λ d. IsTrue compares × IsLogDenied (machines_in audit) of d)
-    (SaysNoOf compares counts transactions) (λ d h. log_no _ of c.args.traces.sources.items count
+    (SaysNoOf compares counts transactions) (λ d h. log_no _ of c.args.traces.now.sources.items count
     compares audit counts transactions c.counts.ensures c.transactions.ensures d says h)
     c.in-Err-compare.ensures.no in
     if_ok c.stopped-in-Err-compare.result (IsStopped c.in-Err-compare.stop found)
