@@ -1,5 +1,6 @@
 pub mod Ahead
 pub mod Mapped
+pub mod Peeked
 pub mod Records
 pub mod Telling
 pub mod Texts
