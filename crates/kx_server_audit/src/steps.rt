@@ -61,12 +61,15 @@ fn go_on<B: Server>(
 ) -> Result<bool, TraceRefusal> {
     let told = audit.next(trace)?;
     let went = audit.go(trace);
-    if matches!(went, Ok(Progress::Made { .. })) {
+    if let Ok(Progress::Made { .. }) = went {
         keep(steps, node, told)?;
-    } else {
-        drop(told);
+        return Ok(true);
     }
-    Ok(matches!(went?, Progress::Made { .. } | Progress::NotTaken))
+    drop(told);
+    match went {
+        Ok(progress) => Ok(matches!(progress, Progress::NotTaken)),
+        Err(refusal) => Err(refusal),
+    }
 }
 
 // Goes on by an item in each of these traces, one after the other, until none goes on.
@@ -118,12 +121,16 @@ fn feed_traces<B: Server>(
     Ok(())
 }
 
-// The steps of traces that were found.
-fn steps_in(alloc: Global, mut traces: Traces<File>) -> Result<Vec<ServerStep>, AuditFault> {
-    let mut steps = Vec::new(alloc);
-    let Ok(mut audit) = TraceAudit::<ServerNode>::new(alloc, traces.of.as_slice()) else {
+// The steps of traces that were found, of nodes that are made as B says.
+fn steps_in<B: Server>(
+    alloc: Global,
+    mut traces: Traces<File>,
+) -> Result<Vec<ServerStep>, AuditFault> {
+    let Ok(mut audit) = TraceAudit::<B>::new(alloc, traces.of.as_slice()) else {
+        drop(traces);
         return Err(AuditFault::Memory);
     };
+    let mut steps = Vec::new(alloc);
     let fed = feed_traces(alloc, &mut audit, &mut traces);
     if fed.is_ok() {
         let _ = go_all(&mut audit, traces.of.as_slice(), &mut steps);
@@ -151,7 +158,7 @@ pub fn server_steps<R: Files<File = File> + AllocGlobal>(
     options: &AuditOptions<'_>,
 ) -> Result<Vec<ServerStep>, AuditFault> {
     match find(rt, options) {
-        Ok(traces) => steps_in(rt.alloc(), traces),
+        Ok(traces) => steps_in::<ServerNode>(rt.alloc(), traces),
         Err(Stop::No(_)) => Ok(Vec::new(rt.alloc())),
         Err(Stop::Fault(fault)) => Err(fault),
     }

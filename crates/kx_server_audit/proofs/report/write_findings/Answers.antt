@@ -1,4 +1,4 @@
-use Rattle.std.proofs.Common.{◌++◌, [], Option, None, Some, subst, sym}
+use Rattle.std.proofs.Common.{◌++◌, [], Option, subst, sym}
 use Rattle.std.specs.Prelude.{codes}
 use Rattle.std.specs.Io.KnownBytes.{Appends}
 use Rattle.std.proofs.KnownBytes.{Appends-trans}

@@ -26,8 +26,8 @@ returns-in-Err g c =
     if_ok c.stopped.result (IsStopped c.stop_at.result found) (AreFindings compares)
     (λ f so. stopped_finds compares c.stop_at.result found f denied so) c.stopped.ensures
 
-pub returns : goal.returns
-returns g c =
+pub returns-in-Err-compare : goal.returns-in-Err-compare
+returns-in-Err-compare g c =
     let compares = is_some c.args.options.now.logs in
     let of = c.as_slice-of.result.now in
     let audit = c.in-Ok.audit in
