@@ -64,31 +64,24 @@ fn names<'a>(html: &mut Html<'a>, run: &'a Run)
     html.add("</svg></div>\n", &[]);
 }
 
-// Adds the diagram of a part, and the head of the list of its rows.
-fn part_head<'a>(html: &mut Html<'a>, run: &'a Run, first: usize)
+// Ends the part before, if there is one, and adds the diagram of the next part and the head of the
+// list of its rows.
+fn next_part<'a>(html: &mut Html<'a>, run: &'a Run, first: usize)
     ensures { KeepsRows html.old html.new }
 {
+    if first != 0 {
+        html.add("</ol></section>\n", &[]);
+    }
     let end = first.saturating_add(PART).min(run.steps.len());
     let top = top_of(first);
     let height = top_of(end).saturating_sub(top);
-    let number = written(first);
     html.add(
         "<section class=\"part\" style=\"--h:{}px\">\n",
         &[Number(height)],
     );
     svg_head(html, run.lanes.len(), top, height);
     shown(html, run, Part { first, end });
-    html.add("</svg>\n<ol start=\"{}\">\n", &[Number(number)]);
-}
-
-// Adds what stands between the parts of a page.
-fn part_begins<'a>(html: &mut Html<'a>, run: &'a Run, first: usize)
-    ensures { KeepsRows html.old html.new }
-{
-    if first != 0 {
-        html.add("</ol></section>\n", &[]);
-    }
-    part_head(html, run, first);
+    html.add("</svg>\n<ol start=\"{}\">\n", &[Number(written(first))]);
 }
 
 // Adds the link to the rule by which a step answered, and ends its row.
@@ -132,7 +125,7 @@ fn next_row<'a>(
     ensures { OnOk result (rows_in html.new ≡ rows_in html.old ++ told number step.now ∷ []) }
 {
     if number % PART == 0 {
-        part_begins(html, run, number);
+        next_part(html, run, number);
     }
     row_of(html, number, step)
 }
@@ -149,31 +142,24 @@ fn rows<'a>(html: &mut Html<'a>, run: &'a Run) -> Result<(), AllocError>
     Ok(())
 }
 
-// Adds a batch of a log; before it a part of the table ends, if it is as long as a part may be.
-fn next_batch<'a>(html: &mut Html<'a>, number: usize, batch: &'a LoggedBatch)
-    ensures { KeepsRows html.old html.new }
-{
-    if number != 0 && number % PART == 0 {
-        html.add("</table></div>\n<div class=\"log\"><table>\n", &[]);
-    }
-    html.add(
-        "<tr class=\"{}\"><td class=\"k\">{}</td><td>{}</td><td>{}</td><td>{}</td></tr>\n",
-        &[
-            Markup(class_of(batch.fate)),
-            Number(batch.offset),
-            Value(batch.kind.as_bytes()),
-            Value(batch.records.as_slice()),
-            Value(batch.reading.as_bytes()),
-        ],
-    );
-}
-
-// Adds the batches of a log.
+// Adds the batches of a log. The table is cut into parts, as long as a part may be.
 fn batches<'a>(html: &mut Html<'a>, all: &'a [LoggedBatch])
     ensures { KeepsRows html.old html.new }
 {
-    for number in 0..all.len() {
-        next_batch(html, number, &all[number]);
+    for (number, batch) in all.iter().enumerate() {
+        if number != 0 && number % PART == 0 {
+            html.add("</table></div>\n<div class=\"log\"><table>\n", &[]);
+        }
+        html.add(
+            "<tr class=\"{}\"><td class=\"k\">{}</td><td>{}</td><td>{}</td><td>{}</td></tr>\n",
+            &[
+                Markup(class_of(batch.fate)),
+                Number(batch.offset),
+                Value(batch.kind.as_bytes()),
+                Value(batch.records.as_slice()),
+                Value(batch.reading.as_bytes()),
+            ],
+        );
     }
 }
 
@@ -204,21 +190,14 @@ fn logs<'a>(html: &mut Html<'a>, all: &'a [Log])
     }
 }
 
-// Adds the end of the last part, if there is one.
-fn parts_end(html: &mut Html<'_>, run: &Run)
-    ensures { KeepsRows html.old html.new }
-{
-    if run.steps.is_empty() {
-        return;
-    }
-    html.add("</ol></section>\n", &[]);
-}
-
-// Adds what stands beside and below the steps: the logs, the rules, and the page's script.
+// Ends the last part, if there is one, and adds what stands beside and below the steps: the logs,
+// the rules, and the page's script.
 fn tail<'a>(html: &mut Html<'a>, run: &'a Run)
     ensures { KeepsRows html.old html.new }
 {
-    parts_end(html, run);
+    if !run.steps.is_empty() {
+        html.add("</ol></section>\n", &[]);
+    }
     html.add(
         "</div>
 <aside><div id=\"chosen\">Point at a step, or choose it by a key.</div>
@@ -264,10 +243,13 @@ pub fn page<'a>(alloc: Global, run: &'a Run) -> Result<Vec<u8>, AllocError>
     html.text(alloc)
 }
 
-// Adds the title and the style of an image, and the names of the lanes above its steps.
-fn image_head<'a>(html: &mut Html<'a>, run: &'a Run)
+// Adds the diagram of a whole run as an image of its own.
+fn drawn<'a>(html: &mut Html<'a>, run: &'a Run)
     ensures { KeepsRows html.old html.new }
 {
+    let end = run.steps.len();
+    let height = top_of(end).saturating_add(NAMES).saturating_add(ROW);
+    svg_head(html, run.lanes.len(), -NAMES, height);
     html.add(
         "<title>{}</title>
 <style>{}</style>
@@ -283,16 +265,6 @@ fn image_head<'a>(html: &mut Html<'a>, run: &'a Run)
     );
     lane_names(html, run.lanes.as_slice());
     html.add("</g>\n", &[]);
-}
-
-// Adds the diagram of a whole run as an image of its own.
-fn drawn<'a>(html: &mut Html<'a>, run: &'a Run)
-    ensures { KeepsRows html.old html.new }
-{
-    let end = run.steps.len();
-    let height = top_of(end).saturating_add(NAMES).saturating_add(ROW);
-    svg_head(html, run.lanes.len(), -NAMES, height);
-    image_head(html, run);
     shown(html, run, Part { first: 0, end });
     html.add("</svg>\n", &[]);
 }

@@ -50,20 +50,6 @@ pub(crate) fn about(html: &mut Html<'_>, lane: usize, client: Option<u32>, produ
     attribute(html, " data-t=\"", producer);
 }
 
-// Adds the line of a lane.
-fn lane_line(html: &mut Html<'_>, lane: usize, part: Part)
-    ensures { KeepsRows html.old html.new }
-{
-    html.add(
-        "<path class=\"lane\" d=\"M{} {}V{}\"/>\n",
-        &[
-            Number(x_of(lane)),
-            Number(top_of(part.first)),
-            Number(top_of(part.end)),
-        ],
-    );
-}
-
 // Adds the line from a batch's box to the marker that ended its transaction.
 fn waiting(html: &mut Html<'_>, number: usize, step: &Step)
     ensures { KeepsRows html.old html.new }
@@ -207,11 +193,6 @@ fn step_of<'a>(html: &mut Html<'a>, number: usize, step: &'a Step)
     stable(html, number, step);
 }
 
-// Whether an arrow crosses the rows of a part.
-fn crosses(arrow: &Arrow, part: Part) -> bool {
-    arrow.sent < part.end && arrow.taken >= part.first
-}
-
 // The class of a message's way.
 fn way_class(way: Way) -> &'static str {
     match way {
@@ -233,12 +214,22 @@ fn end_of(arrow: &Arrow) -> (i64, i64) {
     }
 }
 
-// Adds the line of an arrow, and the name of its message in the middle of it.
-fn arrow_line<'a>(html: &mut Html<'a>, arrow: &'a Arrow)
+// Adds an arrow, with the name of its message in the middle of it.
+fn arrow_of<'a>(html: &mut Html<'a>, arrow: &'a Arrow)
     ensures { KeepsRows html.old html.new }
 {
     let (from, sent) = (x_of(arrow.from), y_of(arrow.sent));
     let (to, taken) = end_of(arrow);
+    html.add(
+        "<g class=\"{}{}\" data-f=\"{}\" data-s=\"{}\"",
+        &[
+            Markup(way_class(arrow.way)),
+            Markup(class_of(arrow.fate)),
+            Number(written(arrow.sent)),
+            Number(written(arrow.taken)),
+        ],
+    );
+    about(html, arrow.to, arrow.client, arrow.producer);
     html.add(
         "><path d=\"M{} {}L{} {}\"/><title>{}</title><text class=\"name\" x=\"{}\" y=\"{}\">{}</text></g>\n",
         &[
@@ -254,40 +245,30 @@ fn arrow_line<'a>(html: &mut Html<'a>, arrow: &'a Arrow)
     );
 }
 
-// Adds an arrow.
-fn arrow_of<'a>(html: &mut Html<'a>, arrow: &'a Arrow)
-    ensures { KeepsRows html.old html.new }
-{
-    html.add(
-        "<g class=\"{}{}\" data-f=\"{}\" data-s=\"{}\"",
-        &[
-            Markup(way_class(arrow.way)),
-            Markup(class_of(arrow.fate)),
-            Number(written(arrow.sent)),
-            Number(written(arrow.taken)),
-        ],
-    );
-    about(html, arrow.to, arrow.client, arrow.producer);
-    arrow_line(html, arrow);
-}
-
 // Adds the arrows that cross the rows of a part.
 fn arrows<'a>(html: &mut Html<'a>, all: &'a [Arrow], part: Part)
     ensures { KeepsRows html.old html.new }
 {
     for arrow in all {
-        if crosses(arrow, part) {
+        if arrow.sent < part.end && arrow.taken >= part.first {
             arrow_of(html, arrow);
         }
     }
 }
 
-// Adds the lines of all lanes.
+// Adds the line of each lane.
 fn lane_lines(html: &mut Html<'_>, lanes: usize, part: Part)
     ensures { KeepsRows html.old html.new }
 {
     for lane in 0..lanes {
-        lane_line(html, lane, part);
+        html.add(
+            "<path class=\"lane\" d=\"M{} {}V{}\"/>\n",
+            &[
+                Number(x_of(lane)),
+                Number(top_of(part.first)),
+                Number(top_of(part.end)),
+            ],
+        );
     }
 }
 
@@ -311,22 +292,15 @@ pub(crate) fn shown<'a>(html: &mut Html<'a>, run: &'a Run, part: Part)
     steps(html, run.steps.as_slice(), part);
 }
 
-// Adds the name of a lane.
-fn lane_name<'a>(html: &mut Html<'a>, number: usize, lane: &'a Lane)
-    ensures { KeepsRows html.old html.new }
-{
-    html.add(
-        "<text class=\"lane\" x=\"{}\" y=\"18\">{}</text>\n",
-        &[Number(x_of(number)), Value(lane.name.as_bytes())],
-    );
-}
-
-/// Adds the names of the lanes.
+/// Adds the name of each lane.
 pub(crate) fn lane_names<'a>(html: &mut Html<'a>, lanes: &'a [Lane])
     ensures { KeepsRows html.old html.new }
 {
     for (number, lane) in lanes.iter().enumerate() {
-        lane_name(html, number, lane);
+        html.add(
+            "<text class=\"lane\" x=\"{}\" y=\"18\">{}</text>\n",
+            &[Number(x_of(number)), Value(lane.name.as_bytes())],
+        );
     }
 }
 

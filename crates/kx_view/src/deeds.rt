@@ -1,7 +1,7 @@
 //! What a step did, in a few words, and by which rule.
 use crate::fields::{answer_in, code_of, has_marker};
 use crate::seen::{Seen, Took};
-use crate::words::{ends, marker_of, name_of, prepares, word_of};
+use crate::words::{by_outcome, name_of, word_of};
 use kx_client::ClientFault;
 use kx_machine::{Command, Input, Note};
 use kx_message::{EndTxn, ErrorCode, Held, InitReply, Message, Outcome, PartitionId, ProduceReply};
@@ -254,7 +254,7 @@ fn verified(seen: &Seen<'_>) -> Deed {
 fn marker_arrived(seen: &Seen<'_>, outcome: Outcome) -> Deed {
     if seen.has_appended() {
         return Deed {
-            title: Title::Words(marker_of(outcome)),
+            title: Title::Words(by_outcome(outcome, "commit marker", "abort marker")),
             rule: Some(Rule::MarkerAppended),
             mark: Mark::Marker,
         };
@@ -311,7 +311,8 @@ fn end_arrived(seen: &Seen<'_>, asked: &EndTxn) -> Deed {
     match answer_in(seen.sent) {
         None => said("not for it", None),
         Some(ErrorCode::NoError) if has_marker(seen.sent) => {
-            said(prepares(asked.outcome), Some(Rule::Ends))
+            let words = by_outcome(asked.outcome, "prepares commit", "prepares abort");
+            said(words, Some(Rule::Ends))
         }
         Some(code) => answered(code, &END, None),
     }
@@ -415,7 +416,7 @@ fn told(command: &Command) -> Deed {
         Command::Join(_) => said("asks to join", None),
         Command::Leave => said("asks to leave", None),
         Command::Offsets(_) => said("commits offsets", None),
-        Command::End(outcome) => said(ends(*outcome), None),
+        Command::End(outcome) => said(by_outcome(*outcome, "commits", "aborts"), None),
         Command::Resend => said("sends again", None),
         Command::Poll => said("goes on", None),
     }

@@ -25,27 +25,15 @@ pub(crate) fn word_of(code: ErrorCode) -> &'static str {
     }
 }
 
-/// The decision of a coordinator.
-pub(crate) fn prepares(outcome: Outcome) -> &'static str {
+/// The words for a commit, or those for an abort.
+pub(crate) fn by_outcome(
+    outcome: Outcome,
+    commit: &'static str,
+    abort: &'static str,
+) -> &'static str {
     match outcome {
-        Outcome::Commit => "prepares commit",
-        Outcome::Abort => "prepares abort",
-    }
-}
-
-/// The marker of an outcome.
-pub(crate) fn marker_of(outcome: Outcome) -> &'static str {
-    match outcome {
-        Outcome::Commit => "commit marker",
-        Outcome::Abort => "abort marker",
-    }
-}
-
-/// What a client asks for as it ends its transaction.
-pub(crate) fn ends(outcome: Outcome) -> &'static str {
-    match outcome {
-        Outcome::Commit => "commits",
-        Outcome::Abort => "aborts",
+        Outcome::Commit => commit,
+        Outcome::Abort => abort,
     }
 }
 
