@@ -3,4 +3,4 @@ use Rattle.kx_serve.proofs.tracing.restarted.Goals as goal
 
 pub returns-in-Ok : goal.returns-in-Ok
 returns-in-Ok g c = λ it.
-    stepped c.args.machine c.record.new.self _ c.in-Ok.taken c.in-Ok.ensures.step it
+    stepped c.args.machine c.record-taken.new.self _ c.in-Ok.taken c.in-Ok.ensures.step it
