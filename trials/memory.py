@@ -3,6 +3,7 @@
 
     memory.py PROGRAM [SCRIPT..]
     memory.py --audit CASES_PROGRAM
+    memory.py --page PROGRAM SCRIPT
 
 A step for which there is no memory changes nothing: its line prints `lost`, and what follows is as
 if the line weren't in the script. So with the Nth request refused, PROGRAM sim has to print what it
@@ -14,6 +15,9 @@ memory, or those that are named.
 With --audit it is the program of cases, which serves clients on threads and audits the traces of
 the servers. Threads take memory in any order, so of each run it is asked only that it ends by
 itself, with status 0 or 1; but in some run the audit has to refuse with its number for memory, 5.
+
+With --page it is the script's page and diagram: each is the whole one, as with nothing refused, or
+isn't there, and then the status is 1 and one line on standard error says why.
 
 Needs a C compiler and the GNU C library, and skips in words where it has none.
 """
@@ -150,13 +154,47 @@ def audited(program, library):
     return at - 1, faults
 
 
+def pictures_in(folder):
+    """The page and the diagram that stand in a folder, which are taken out of it."""
+    found = []
+    for name in ("page", "diagram"):
+        path = os.path.join(folder, name)
+        found.append(open(path, "rb").read() if os.path.exists(path) else None)
+        if found[-1] is not None:
+            os.remove(path)
+    return found
+
+
+def drawn(program, library, script):
+    """How many refusals were tried, and the faults that were found."""
+    with tempfile.TemporaryDirectory() as folder:
+        runner = Runner(library, [program, "sim", "--page", "page", "--svg", "diagram"], folder)
+        status, _, errors, _ = runner.run(script, 0)
+        whole = pictures_in(folder)
+        if status != 0 or None in whole:
+            return 0, [f"status {status} with nothing refused: {errors}"]
+        faults, stood = [], 0
+        for at in itertools.count(1):
+            status, _, errors, has_refused = runner.run(script, at)
+            if not has_refused:
+                break
+            found = pictures_in(folder)
+            stood += found == whole
+            if any(one not in (None, other) for one, other in zip(found, whole)):
+                faults.append(f"request {at} refused: another picture")
+            elif None in found and (status != 1 or errors.count("\n") != 1):
+                faults.append(f"request {at} refused: status {status}, {errors!r}, no picture")
+    print(f"{at - 1} requests refused in turn, {stood} times both pictures stood")
+    return at - 1, faults
+
+
 def main():
-    if len(sys.argv) < 2 or sys.argv[1:] == ["--audit"]:
+    audits, draws = sys.argv[1:2] == ["--audit"], sys.argv[1:2] == ["--page"]
+    if len(sys.argv) < (4 if draws else 3 if audits else 2):
         sys.exit(__doc__)
-    audits = sys.argv[1] == "--audit"
-    program = os.path.abspath(sys.argv[2] if audits else sys.argv[1])
+    program = os.path.abspath(sys.argv[2] if audits or draws else sys.argv[1])
     scripts = dict(SCRIPTS)
-    if sys.argv[2:] and not audits:
+    if sys.argv[2:] and not audits and not draws:
         scripts = {path: open(path).read() for path in sys.argv[2:]}
     with tempfile.TemporaryDirectory() as folder:
         library = built(folder)
@@ -165,6 +203,9 @@ def main():
             return
         if audits:
             total, faults = audited(program, library)
+        elif draws:
+            with open(sys.argv[3]) as script:
+                total, faults = drawn(program, library, script.read())
         else:
             runner, total, faults = Runner(library, [program, "sim"]), 0, []
             for name, script in scripts.items():
