@@ -1,5 +1,5 @@
 //! The pieces of a page, one after the other.
-ghost use Rattle.std.specs.Prelude.{◌≡◌, ◌++◌, [], IfOk, OnOk, map, true};
+ghost use Rattle.std.specs.Prelude.{◌≡◌, ◌++◌, ◌∷◌, [], IfOk, OnOk, map, true};
 ghost use Rattle.kx_page.specs.Pieces.{blanked, markup_of, text_of};
 ghost use Rattle.kx_page.specs.Rows.{KeepsRows, rows_in, rows_of, told_in};
 ghost use Rattle.kx_page.specs.declared.piece.Piece.TheVariants as piece;
@@ -18,7 +18,8 @@ pub(crate) struct Html<'a> {
 impl<'a> Html<'a> {
     /// A page of no pieces.
     pub(crate) fn new(alloc: Global) -> Html<'a>
-        ensures { result.pieces.items ≡ [] }
+        ensures empty { result.pieces.items ≡ [] }
+        ensures whole { result.is_whole ≡ true }
     {
         Html {
             pieces: Vec::new(alloc),
@@ -28,7 +29,9 @@ impl<'a> Html<'a> {
 
     // Adds a piece, or notes that there is no memory for it.
     fn push(&mut self, piece: Piece<'a>)
-        ensures { told_in piece.entry ≡ [] → KeepsRows self.old self.new }
+        ensures rows { told_in piece.entry ≡ [] → KeepsRows self.old self.new }
+        ensures whole { self.new.is_whole ≡ true → (self.old.is_whole ≡ true)
+            × (self.new.pieces.items ≡ self.old.pieces.items ++ piece.entry ∷ []) }
     {
         if self.pieces.push(piece).is_err() {
             self.is_whole = false;
@@ -38,7 +41,8 @@ impl<'a> Html<'a> {
     /// Adds markup with these pieces in the place of its holes `{}`, one after the other; none of them
     /// is the head of a row. A piece without a hole is left out.
     pub(crate) fn add(&mut self, template: &'static str, pieces: &[Piece<'a>])
-        ensures { rows_of pieces.now ≡ [] → KeepsRows self.old self.new }
+        ensures rows { rows_of pieces.now ≡ [] → KeepsRows self.old self.new }
+        ensures whole { self.new.is_whole ≡ true → self.old.is_whole ≡ true }
     {
         let mut rest = template;
         for piece in pieces {
@@ -58,7 +62,9 @@ impl<'a> Html<'a> {
     ///
     /// Only where memory runs out.
     pub(crate) fn row(&mut self, row: Row<'a>) -> Result<(), AllocError>
-        ensures { OnOk result (rows_in self.new ≡ rows_in self.old ++ told_in (piece.Row row.entry)) }
+        ensures rows { OnOk result
+            (rows_in self.new ≡ rows_in self.old ++ told_in (piece.Row row.entry)) }
+        ensures whole { self.new.is_whole ≡ self.old.is_whole }
     {
         self.pieces.push(Piece::Row(row))?;
         Ok(())

@@ -2,7 +2,7 @@
 
 /// A line of the rules (docs/RULES.md) by which a node answered. Where two lines answer alike, the
 /// first of them.
-#[derive(Clone, Copy)]
+#[derive(Clone, Copy, Debug, PartialEq, Eq)]
 pub enum Rule {
     BatchTooLarge,
     BatchUnreadable,

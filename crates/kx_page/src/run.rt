@@ -2,7 +2,7 @@
 use crate::rule::Rule;
 
 /// What became of the transaction of a batch.
-#[derive(Clone, Copy)]
+#[derive(Clone, Copy, Debug, PartialEq, Eq)]
 pub enum Fate {
     /// There is no transaction.
     Plain,
@@ -15,7 +15,7 @@ pub enum Fate {
 }
 
 /// How a step is marked in its lane.
-#[derive(Clone, Copy)]
+#[derive(Clone, Copy, Debug, PartialEq, Eq)]
 pub enum Mark {
     /// It appended nothing.
     Dot,
@@ -64,7 +64,7 @@ pub struct Step {
 }
 
 /// How a message went.
-#[derive(Clone, Copy)]
+#[derive(Clone, Copy, Debug, PartialEq, Eq)]
 pub enum Way {
     /// It arrived for the first time.
     First,

@@ -16,7 +16,7 @@ pub enum Took<'a> {
 }
 
 /// How far a node's log reaches.
-#[derive(Clone, Copy)]
+#[derive(Clone, Copy, Debug, PartialEq, Eq)]
 pub struct LogAt {
     /// The offset after its last record.
     pub end: i64,
