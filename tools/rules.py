@@ -2,10 +2,10 @@
 """Writes the tables that a page of a run shows, crates/kx_page/src/rules.rt, from docs/RULES.md.
 
     tools/rules.py           writes the file
-    tools/rules.py --check   says whether the file has what docs/RULES.md has; status 1 if not
+    tools/rules.py --check   says whether the file has what docs/RULES.md has, and a line for each id
+                             that kx_page's `Rule` names; status 1 if not
 
-The id of a line is its table's word, a dash and its case, in lower case with dashes: kx_page's
-`Rule::anchor` names the lines so.
+The id of a line is its table's word, a dash and its case, in lower case with dashes.
 """
 import html
 import os
@@ -15,6 +15,7 @@ import sys
 TOP = os.path.dirname(os.path.dirname(os.path.realpath(__file__)))
 SOURCE = f"{TOP}/docs/RULES.md"
 MADE = f"{TOP}/crates/kx_page/src/rules.rt"
+NAMED = f"{TOP}/crates/kx_page/src/rule.rt"
 
 # The sections whose tables a page has, with the word that begins the ids of its lines.
 SECTIONS = {
@@ -91,12 +92,27 @@ def made():
     )
 
 
+def lacking(text):
+    """The ids that `Rule` names and this text doesn't have."""
+    with open(NAMED, encoding="utf-8") as it:
+        named = re.findall(r'Rule\(\s*"([^"]*)"', it.read())
+    return [it for it in named if f'id=\\"{it}\\"' not in text]
+
+
+def check():
+    with open(MADE, encoding="utf-8") as it:
+        text = it.read()
+    if text != made():
+        return "not as in docs/RULES.md: run tools/rules.py"
+    lost = lacking(text)
+    return f"no line has the id {lost[0]}" if lost else ""
+
+
 def main():
     if "--check" in sys.argv[1:]:
-        with open(MADE, encoding="utf-8") as it:
-            same = it.read() == made()
-        print("rules: as in docs/RULES.md" if same else "rules: not as in docs/RULES.md: run tools/rules.py")
-        return 0 if same else 1
+        wrong = check()
+        print(f"rules: {wrong or 'as in docs/RULES.md'}")
+        return 1 if wrong else 0
     with open(MADE, "w", encoding="utf-8") as it:
         it.write(made())
     return 0

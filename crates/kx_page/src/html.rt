@@ -66,7 +66,9 @@ impl<'a> Html<'a> {
             (rows_in self.new ≡ rows_in self.old ++ told_in (piece.Row row.entry)) }
         ensures whole { self.new.is_whole ≡ self.old.is_whole }
     {
-        self.pieces.push(Piece::Row(row))?;
+        if self.pieces.push(Piece::Row(row)).is_err() {
+            return Err(AllocError);
+        }
         Ok(())
     }
 

@@ -84,7 +84,7 @@ fn with_id(words: &'static str, held: Held, rule: Option<Rule>) -> Deed {
 fn appended(seen: &Seen<'_>) -> Deed {
     Deed {
         title: Title::At("append at", seen.before.end),
-        rule: Some(Rule::BatchAppended),
+        rule: Some(Rule::BATCH_APPENDED),
         mark: Mark::Batch,
     }
 }
@@ -100,17 +100,17 @@ const MARKER: [Line; 3] = [
     Line {
         code: ErrorCode::NoError,
         words: "marker is there",
-        rule: Rule::MarkerThere,
+        rule: Rule::MARKER_THERE,
     },
     Line {
         code: ErrorCode::TransactionCoordinatorFenced,
         words: "coordinator fenced",
-        rule: Rule::MarkerFenced,
+        rule: Rule::MARKER_FENCED,
     },
     Line {
         code: ErrorCode::InvalidTxnState,
         words: "another is open",
-        rule: Rule::MarkerAnotherOpen,
+        rule: Rule::MARKER_ANOTHER_OPEN,
     },
 ];
 
@@ -118,17 +118,17 @@ const INIT: [Line; 3] = [
     Line {
         code: ErrorCode::ConcurrentTransactions,
         words: "still preparing",
-        rule: Rule::InitPreparing,
+        rule: Rule::INIT_PREPARING,
     },
     Line {
         code: ErrorCode::ProducerFenced,
         words: "below the owner",
-        rule: Rule::InitBelowOwner,
+        rule: Rule::INIT_BELOW_OWNER,
     },
     Line {
         code: ErrorCode::InvalidTxnState,
         words: "not twice",
-        rule: Rule::InitNotTwice,
+        rule: Rule::INIT_NOT_TWICE,
     },
 ];
 
@@ -136,27 +136,27 @@ const ADD: [Line; 5] = [
     Line {
         code: ErrorCode::NoError,
         words: "lists it",
-        rule: Rule::AddListed,
+        rule: Rule::ADD_LISTED,
     },
     Line {
         code: ErrorCode::InvalidProducerIdMapping,
         words: "unknown producer id",
-        rule: Rule::AddUnknown,
+        rule: Rule::ADD_UNKNOWN,
     },
     Line {
         code: ErrorCode::InvalidProducerEpoch,
         words: "epoch never given",
-        rule: Rule::AddEpoch,
+        rule: Rule::ADD_EPOCH,
     },
     Line {
         code: ErrorCode::ProducerFenced,
         words: "producer fenced",
-        rule: Rule::AddOld,
+        rule: Rule::ADD_OLD,
     },
     Line {
         code: ErrorCode::ConcurrentTransactions,
         words: "still preparing",
-        rule: Rule::AddPreparing,
+        rule: Rule::ADD_PREPARING,
     },
 ];
 
@@ -164,27 +164,31 @@ const END: [Line; 4] = [
     Line {
         code: ErrorCode::NoError,
         words: "ended already",
-        rule: Rule::EndEnded,
+        rule: Rule::END_ENDED,
     },
     Line {
         code: ErrorCode::ProducerFenced,
         words: "producer fenced",
-        rule: Rule::EndOld,
+        rule: Rule::END_OLD,
     },
     Line {
         code: ErrorCode::ConcurrentTransactions,
         words: "still preparing",
-        rule: Rule::EndPreparing,
+        rule: Rule::END_PREPARING,
     },
     Line {
         code: ErrorCode::InvalidTxnState,
         words: "ended otherwise",
-        rule: Rule::EndOther,
+        rule: Rule::END_OTHER,
     },
 ];
 
-// A step that answered so, by the line for it, or by another rule if none is.
-fn answered(code: ErrorCode, lines: &[Line], other: Option<Rule>) -> Deed {
+// A step that answered with this code, by the line for it, or by another rule if no line has it. One
+// that answered nothing took what isn't for its node.
+fn answered(answer: Option<ErrorCode>, lines: &[Line], other: Option<Rule>) -> Deed {
+    let Some(code) = answer else {
+        return said("not for it", None);
+    };
     for line in lines {
         if line.code == code {
             return said(line.words, Some(line.rule));
@@ -196,15 +200,15 @@ fn answered(code: ErrorCode, lines: &[Line], other: Option<Rule>) -> Deed {
 // The line of the rules on batches by which a code is answered.
 fn batch_rule(code: ErrorCode) -> Option<Rule> {
     match code {
-        ErrorCode::MessageTooLarge => Some(Rule::BatchTooLarge),
-        ErrorCode::CorruptMessage => Some(Rule::BatchUnreadable),
-        ErrorCode::UnsupportedCompressionType => Some(Rule::BatchCompressed),
-        ErrorCode::InvalidRecord => Some(Rule::BatchNotData),
-        ErrorCode::InvalidProducerEpoch => Some(Rule::BatchOldEpoch),
-        ErrorCode::OutOfOrderSequenceNumber => Some(Rule::BatchOutOfOrder),
-        ErrorCode::ConcurrentTransactions => Some(Rule::BatchEarlierOpen),
-        ErrorCode::InvalidTxnState => Some(Rule::BatchOutside),
-        ErrorCode::KafkaStorageError => Some(Rule::BatchClosed),
+        ErrorCode::MessageTooLarge => Some(Rule::BATCH_TOO_LARGE),
+        ErrorCode::CorruptMessage => Some(Rule::BATCH_UNREADABLE),
+        ErrorCode::UnsupportedCompressionType => Some(Rule::BATCH_COMPRESSED),
+        ErrorCode::InvalidRecord => Some(Rule::BATCH_NOT_DATA),
+        ErrorCode::InvalidProducerEpoch => Some(Rule::BATCH_OLD_EPOCH),
+        ErrorCode::OutOfOrderSequenceNumber => Some(Rule::BATCH_OUT_OF_ORDER),
+        ErrorCode::ConcurrentTransactions => Some(Rule::BATCH_EARLIER_OPEN),
+        ErrorCode::InvalidTxnState => Some(Rule::BATCH_OUTSIDE),
+        ErrorCode::KafkaStorageError => Some(Rule::BATCH_CLOSED),
         _ => None,
     }
 }
@@ -213,40 +217,30 @@ fn batch_rule(code: ErrorCode) -> Option<Rule> {
 fn duplicate(sent: &[Message]) -> Deed {
     for message in sent {
         if let Message::ProduceReply(ProduceReply { offset, .. }) = message {
-            return at("duplicate of", *offset, Some(Rule::BatchDuplicate));
+            return at("duplicate of", *offset, Some(Rule::BATCH_DUPLICATE));
         }
     }
-    said("duplicate", Some(Rule::BatchDuplicate))
+    said("duplicate", Some(Rule::BATCH_DUPLICATE))
 }
 
-// What a partition answered on a batch that it didn't append.
-fn batch_answered(seen: &Seen<'_>, code: ErrorCode) -> Deed {
-    match code {
-        ErrorCode::NoError => duplicate(seen.sent),
-        code => said(word_of(code), batch_rule(code)),
+// A partition that answered nothing asks the coordinator first, or the request isn't for it.
+fn unanswered(seen: &Seen<'_>) -> Deed {
+    if seen.sent.is_empty() {
+        said("not for it", None)
+    } else {
+        said("parked, asks", Some(Rule::BATCH_UNVERIFIED))
     }
 }
 
-// What a partition did with a batch.
+// What a partition did with a batch, or with the coordinator's answer on one that is parked.
 fn batch_arrived(seen: &Seen<'_>) -> Deed {
     if seen.has_appended() {
         return appended(seen);
     }
     match answer_in(seen.sent) {
-        Some(code) => batch_answered(seen, code),
-        None if seen.sent.is_empty() => said("not for it", None),
-        None => said("parked, asks", Some(Rule::BatchUnverified)),
-    }
-}
-
-// What a partition did with the coordinator's answer on requests that are parked.
-fn verified(seen: &Seen<'_>) -> Deed {
-    if seen.has_appended() {
-        return appended(seen);
-    }
-    match answer_in(seen.sent) {
-        Some(code) => batch_answered(seen, code),
-        None => said("nothing is parked", None),
+        None => unanswered(seen),
+        Some(ErrorCode::NoError) => duplicate(seen.sent),
+        Some(code) => said(word_of(code), batch_rule(code)),
     }
 }
 
@@ -255,14 +249,11 @@ fn marker_arrived(seen: &Seen<'_>, outcome: Outcome) -> Deed {
     if seen.has_appended() {
         return Deed {
             title: Title::Words(by_outcome(outcome, "commit marker", "abort marker")),
-            rule: Some(Rule::MarkerAppended),
+            rule: Some(Rule::MARKER_APPENDED),
             mark: Mark::Marker,
         };
     }
-    match answer_in(seen.sent) {
-        None => said("not for it", None),
-        Some(code) => answered(code, &MARKER, Some(Rule::MarkerClosed)),
-    }
+    answered(answer_in(seen.sent), &MARKER, Some(Rule::MARKER_CLOSED))
 }
 
 // The id and the epoch that a reply gives.
@@ -276,9 +267,9 @@ fn given(sent: &[Message]) -> Deed {
         ) = message
         {
             let rule = if held.epoch.get() == 0 {
-                Rule::InitFirst
+                Rule::INIT_FIRST
             } else {
-                Rule::InitTakesOver
+                Rule::INIT_TAKES_OVER
             };
             return with_id("gives", *held, Some(rule));
         }
@@ -289,40 +280,29 @@ fn given(sent: &[Message]) -> Deed {
 // What the coordinator did with a request for an id.
 fn init_arrived(seen: &Seen<'_>) -> Deed {
     match answer_in(seen.sent) {
-        None => said("not for it", None),
         Some(ErrorCode::NoError) => given(seen.sent),
         Some(ErrorCode::ConcurrentTransactions) if has_marker(seen.sent) => {
-            said("fences: aborts", Some(Rule::InitFences))
+            said("fences: aborts", Some(Rule::INIT_FENCES))
         }
-        Some(code) => answered(code, &INIT, None),
-    }
-}
-
-// What the coordinator did with a partition's request to be listed.
-fn add_arrived(seen: &Seen<'_>) -> Deed {
-    match answer_in(seen.sent) {
-        None => said("not for it", None),
-        Some(code) => answered(code, &ADD, None),
+        answer => answered(answer, &INIT, None),
     }
 }
 
 // What the coordinator did with the end of a transaction.
 fn end_arrived(seen: &Seen<'_>, asked: &EndTxn) -> Deed {
     match answer_in(seen.sent) {
-        None => said("not for it", None),
         Some(ErrorCode::NoError) if has_marker(seen.sent) => {
             let words = by_outcome(asked.outcome, "prepares commit", "prepares abort");
-            said(words, Some(Rule::Ends))
+            said(words, Some(Rule::ENDS))
         }
-        Some(code) => answered(code, &END, None),
+        answer => answered(answer, &END, None),
     }
 }
 
 // What a node did with a group's request, by the rule for what it takes and for what it refuses.
 fn group_arrived(seen: &Seen<'_>, words: &'static str, taken: Rule, refused: Rule) -> Deed {
     match answer_in(seen.sent) {
-        None if seen.sent.is_empty() => said("not for it", None),
-        None => said("parked, asks", Some(Rule::BatchUnverified)),
+        None => unanswered(seen),
         Some(ErrorCode::NoError) if seen.has_appended() => Deed {
             title: Title::Words(words),
             rule: Some(taken),
@@ -330,7 +310,7 @@ fn group_arrived(seen: &Seen<'_>, words: &'static str, taken: Rule, refused: Rul
         },
         Some(ErrorCode::NoError) => said(words, Some(taken)),
         Some(ErrorCode::IllegalGeneration) => {
-            said("illegal generation", Some(Rule::OffsetsGeneration))
+            said("illegal generation", Some(Rule::OFFSETS_GENERATION))
         }
         Some(code) => said(word_of(code), Some(refused)),
     }
@@ -367,7 +347,7 @@ fn settled(seen: &Seen<'_>) -> Deed {
     } else {
         "notes the marker"
     };
-    said(words, Some(Rule::Settles))
+    said(words, Some(Rule::SETTLES))
 }
 
 // What a node did with a message.
@@ -375,28 +355,28 @@ fn message_arrived(seen: &Seen<'_>, message: &Message) -> Deed {
     match message {
         Message::InitProducerId(_) => init_arrived(seen),
         Message::EndTxn(asked) => end_arrived(seen, asked),
-        Message::Produce(_) => batch_arrived(seen),
-        Message::AddPartition(_) => add_arrived(seen),
-        Message::AddReply(_) => verified(seen),
+        Message::AddPartition(_) => answered(answer_in(seen.sent), &ADD, None),
+        Message::AddReply(_) if seen.sent.is_empty() => said("nothing is parked", None),
+        Message::Produce(_) | Message::AddReply(_) => batch_arrived(seen),
         Message::WriteMarker(marker) => marker_arrived(seen, marker.outcome),
         Message::MarkerReply(_) => settled(seen),
         Message::Fetch(_) => said("sends a page", None),
-        Message::Join(_) => group_arrived(seen, "joined", Rule::Joins, Rule::JoinRefused),
-        Message::Leave(_) => group_arrived(seen, "left", Rule::Leaves, Rule::LeaveRefused),
+        Message::Join(_) => group_arrived(seen, "joined", Rule::JOINS, Rule::JOIN_REFUSED),
+        Message::Leave(_) => group_arrived(seen, "left", Rule::LEAVES, Rule::LEAVE_REFUSED),
         Message::TxnOffsetCommit(_) => {
             group_arrived(
                 seen,
                 "offsets taken",
-                Rule::OffsetsTaken,
-                Rule::OffsetsNotMember,
+                Rule::OFFSETS_TAKEN,
+                Rule::OFFSETS_NOT_MEMBER,
             )
         }
         Message::OffsetFetch(_) => {
             group_arrived(
                 seen,
                 "tells the offset",
-                Rule::OffsetFetched,
-                Rule::OffsetPending,
+                Rule::OFFSET_FETCHED,
+                Rule::OFFSET_PENDING,
             )
         }
         reply => heard(reply),
@@ -440,7 +420,7 @@ fn reopened(note: Note) -> Deed {
     };
     Deed {
         title: Title::Words(words),
-        rule: Some(Rule::Restarts),
+        rule: Some(Rule::RESTARTS),
         mark: Mark::Restart,
     }
 }
@@ -450,11 +430,11 @@ fn input_taken(seen: &Seen<'_>, input: &Input) -> Deed {
     match input {
         Input::Deliver(message) => message_arrived(seen, message),
         Input::Command(command) => told(command),
-        Input::Expire(_) if has_marker(seen.sent) => said("expires: aborts", Some(Rule::Settles)),
-        Input::Expire(_) => said("nothing expires", Some(Rule::Settles)),
-        Input::Remind => said("reminds", Some(Rule::Settles)),
-        Input::Drop(_, _) if seen.has_appended() => said("drops a member", Some(Rule::Leaves)),
-        Input::Drop(_, _) => said("no such member", Some(Rule::LeaveRefused)),
+        Input::Expire(_) if has_marker(seen.sent) => said("expires: aborts", Some(Rule::SETTLES)),
+        Input::Expire(_) => said("nothing expires", Some(Rule::SETTLES)),
+        Input::Remind => said("reminds", Some(Rule::SETTLES)),
+        Input::Drop(_, _) if seen.has_appended() => said("drops a member", Some(Rule::LEAVES)),
+        Input::Drop(_, _) => said("no such member", Some(Rule::LEAVE_REFUSED)),
         Input::Put(_) => was_put(seen),
         Input::Restart(_) => reopened(seen.note),
     }

@@ -1,5 +1,5 @@
 //! A run as it is watched, step by step.
-ghost use Rattle.std.specs.Prelude.{◌≡◌, ◌++◌, ◌∷◌, [], IfOk, OnErr, OnOk};
+ghost use Rattle.std.specs.Prelude.{◌≡◌, [], IfOk, OnErr, OnOk};
 ghost use Rattle.kx_view.specs.Recording.{AddsStep, TellSame, words_of};
 
 use crate::deeds::{Deed, deed_of, text_of};
@@ -256,11 +256,14 @@ impl Recorder {
         Ok(())
     }
 
-    // Notes that a message arrived at the next step.
-    fn arrive(&mut self, number: usize) -> Result<(), AllocError>
+    // Notes that the message that the next step takes arrives, if it takes one.
+    fn arrive(&mut self, took: Took<'_>) -> Result<(), AllocError>
         ensures { self.new ≡ self.old }
     {
         let step = self.steps.len();
+        let Took::Message(number, _) = took else {
+            return Ok(());
+        };
         let Some(arrow) = self.first.get_mut(number) else {
             return Ok(());
         };
@@ -272,16 +275,6 @@ impl Recorder {
         let copy = again_to(arrow, step)?;
         self.again.push(copy)?;
         Ok(())
-    }
-
-    // Notes that the message that a step took arrived, if it took one.
-    fn note_arrival(&mut self, seen: &Seen<'_>) -> Result<(), AllocError>
-        ensures { self.new ≡ self.old }
-    {
-        match seen.took {
-            Took::Message(number, _) => self.arrive(number),
-            Took::Input(_) | Took::Nothing | Took::Outside(_) => Ok(()),
-        }
     }
 
     // Notes that a node is a client outside.
@@ -326,15 +319,6 @@ impl Recorder {
         })
     }
 
-    // Keeps one more step.
-    fn keep(&mut self, step: Step) -> Result<(), AllocError>
-        ensures ok { OnOk result (self.new ≡ self.old ++ step ∷ []) }
-        ensures err { OnErr result (self.new ≡ self.old) }
-    {
-        self.steps.push(step)?;
-        Ok(())
-    }
-
     /// Adds a step.
     ///
     /// # Errors
@@ -345,11 +329,12 @@ impl Recorder {
         ensures err { OnErr result (self.new ≡ self.old) }
     {
         let lane = self.lane_of(seen.node)?;
-        self.note_arrival(seen)?;
+        self.arrive(seen.took)?;
         self.append(lane, seen)?;
         self.send_all(lane, seen.sent)?;
         let step = self.step_of(lane, seen)?;
-        self.keep(step)
+        self.steps.push(step)?;
+        Ok(())
     }
 
     /// Adds the step of a client outside that sends a request, the first of these.
