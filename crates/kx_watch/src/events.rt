@@ -1,7 +1,7 @@
 //! A list of events that happen in a world of their own, and are watched.
 ghost use Rattle.std.specs.Prelude.{◌≡◌, ◌+◌, IfOk, OnOk, length};
 
-use crate::world::Watched;
+use crate::world::{Watched, all_partitions};
 use kx_core::Event;
 use kx_page::Run;
 use kx_processor::Prefixed;
@@ -31,7 +31,7 @@ pub fn run_of_events(
     ensures steps { IfOk result (λ run. length run.steps.items ≡ length events.now) }
     ensures title { IfOk result (λ run. run.title.now ≡ title.now) }
 {
-    let mut watched = Watched::whole(alloc)?;
+    let mut watched = Watched::new(alloc, all_partitions())?;
     match watch_all(&mut watched, events) {
         Ok(()) => watched.into_run(alloc, title),
         Err(error) => {

@@ -4,7 +4,7 @@ ghost use Rattle.kx_view.specs.Recording.{TellSame};
 ghost use Rattle.kx_watch.specs.Steps.{AddsSteps, is_outside, steps_of};
 
 use crate::transit::Transit;
-use crate::world::Watched;
+use crate::world::{Watched, all_partitions};
 use kx_core::Event;
 use kx_machine::{Input, StoreMode};
 use kx_message::NodeId;
@@ -73,7 +73,7 @@ impl ServerWatch {
     pub fn new(alloc: Global) -> Result<ServerWatch, AllocError>
         ensures { IfOk result (λ watch. watch ≡ []) }
     {
-        let watched = Watched::whole(alloc)?;
+        let watched = Watched::new(alloc, all_partitions())?;
         Ok(ServerWatch {
             alloc,
             watched,

@@ -94,20 +94,20 @@ fn record<'a>(
 fn add_log(
     alloc: Global,
     recorder: &mut Recorder,
-    running: &Running,
-    partition: PartitionId,
+    number: PartitionId,
+    partition: Option<&Partition<LocalStore>>,
 ) -> Result<(), AllocError>
     ensures { recorder.new ≡ recorder.old }
 {
-    let Some(log) = running.partition(partition) else {
+    let Some(partition) = partition else {
         return Ok(());
     };
-    let at = reach(log);
+    let at = reach(partition);
     if at.end == 0 {
         return Ok(());
     }
-    let texts: Vec<&[u8]> = log.slice(0, i64::MAX, u32::MAX).collect(alloc)?;
-    recorder.add_log(NodeId::Partition(partition), at, texts.as_slice())
+    let texts: Vec<&[u8]> = partition.slice(0, i64::MAX, u32::MAX).collect(alloc)?;
+    recorder.add_log(NodeId::Partition(number), at, texts.as_slice())
 }
 
 // Records the logs of a world's partitions that have a batch, as they end.
@@ -115,11 +115,17 @@ fn add_logs(alloc: Global, recorder: &mut Recorder, running: &Running) -> Result
     ensures { recorder.new ≡ recorder.old }
 {
     for number in 0..PartitionId::DATA_COUNT {
-        if let Ok(partition) = PartitionId::try_from(number) {
-            add_log(alloc, recorder, running, partition)?;
+        if let Ok(number) = PartitionId::try_from(number) {
+            add_log(alloc, recorder, number, running.partition(number))?;
         }
     }
-    add_log(alloc, recorder, running, PartitionId::OFFSETS)
+    let number = PartitionId::OFFSETS;
+    add_log(alloc, recorder, number, running.partition(number))
+}
+
+/// As many data partitions as a world can have.
+pub(crate) fn all_partitions() -> PartitionCount {
+    PartitionCount::new(PartitionId::DATA_COUNT).unwrap()
 }
 
 /// A world that is watched: each event that happens in it is recorded. It ends by
@@ -152,20 +158,6 @@ impl Watched {
             recorder: Recorder::new(alloc),
             running,
         })
-    }
-
-    /// A world of all data partitions, in which nothing has happened.
-    ///
-    /// # Errors
-    ///
-    /// Only where memory runs out.
-    pub(crate) fn whole(alloc: Global) -> Result<Watched, AllocError>
-        ensures { IfOk result (λ watched. watched ≡ []) }
-    {
-        match PartitionCount::new(PartitionId::DATA_COUNT) {
-            Some(partitions) => Watched::new(alloc, partitions),
-            None => Err(AllocError),
-        }
     }
 
     /// An event happens in the world, and its step is recorded.

@@ -1,4 +1,5 @@
-use Rattle.std.proofs.Common.{◌∙◌, ◌++◌, ◌∷◌, [], List, ap, arith, map, take}
+use Rattle.std.proofs.Common.{◌≡◌, ◌∙◌, ◌++◌, ◌∷◌, [], ℕ, List, ap, arith, length, map, take}
+use Rattle.std.proofs.Math.Seq.{take-length}
 use Rattle.std.proofs.lemmas.List.{map_push}
 use Rattle.kx_audit.specs.Making.{NodeMaking}
 use Rattle.kx_trace_audit.specs.Servers.{making_of}
@@ -20,3 +21,12 @@ loop-one-preserved g c =
           (c.of.ensures ∙ ap told c.one-item.is)
           ∙ one_more told of i c.one-item.result (omega arith);
     }
+
+pub returns : goal.returns
+returns g c =
+    let of = c.args.of.now in
+    let told : TraceOf → NodeMaking = λ t. making_of t.node in
+    let all : c.loop-one.one-index ≡ length of =
+    omega (arith, c.loop-one-test.false, c.loop-one.auto.one-index-end) in
+    c.loop-one.invariant.made ∙ ap (λ (i : ℕ). map told (take i of)) all
+    ∙ ap (map told) (take-length of)

@@ -1,4 +1,5 @@
-use Rattle.std.proofs.Common.{◌∙◌, ◌++◌, ◌∷◌, [], List, ap, arith, map, take}
+use Rattle.std.proofs.Common.{◌≡◌, ◌∙◌, ◌++◌, ◌∷◌, [], ℕ, List, ap, arith, length, map, take}
+use Rattle.std.proofs.Math.Seq.{take-length}
 use Rattle.kx_trace_audit.specs.Readings.{Reading, begun}
 use Rattle.kx_trace_audit.proofs.Mapped.{one_more}
 use Rattle.kx_trace_audit.proofs.audit.readings.Goals as goal
@@ -14,3 +15,11 @@ loop-one-preserved c =
           (c.new.ensures ∙ ap begun c.one-item.is)
           ∙ one_more begun of i c.one-item.result (omega arith);
     }
+
+pub returns : goal.returns
+returns c =
+    let of = c.args.of.now in
+    let all : c.loop-one.one-index ≡ length of =
+    omega (arith, c.loop-one-test.false, c.loop-one.auto.one-index-end) in
+    c.loop-one.invariant.traces ∙ ap (λ (i : ℕ). map begun (take i of)) all
+    ∙ ap (map begun) (take-length of)
