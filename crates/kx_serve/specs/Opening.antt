@@ -5,7 +5,7 @@ use Rattle.kx_broker.specs.Serving.{opened_partition}
 use Rattle.kx_laws.specs.Grown.{IsGrown}
 use Rattle.kx_log.specs.Log.{IsLog}
 use Rattle.kx_machine.specs.Meaning.{AtCoordinator, AtPartition, NodeState}
-use Rattle.kx_message.specs.Ranges.{data_partitions}
+use Rattle.kx_message.specs.Ranges.{data_partitions, offsets_partition}
 use Rattle.kx_model.specs.CoordinatorNode.{Coordinator}
 use Rattle.kx_published.specs.declared.book.Opened.{Opened}
 use Rattle.kx_machines.specs.Brokers.{broker_stands}
@@ -35,8 +35,14 @@ pub record StandsForCoordinator {S : Type 0} (r : Recorded (BrokerMachine S)) : 
 abbrev pub IsItsBook : (ℕ → Book) → Opened → Type 0
 IsItsBook named opened = opened.seen.book ≡ named opened.partition
 
+-- so of a data partition
 pub record HasBook (named : ℕ → Book) (opened : Opened) : Type 0 where
   pub is_data : opened.partition < data_partitions
+  pub book : IsItsBook named opened
+
+-- so of the offsets partition
+pub record HasOffsetsBook (named : ℕ → Book) (opened : Opened) : Type 0 where
+  pub is_offsets : opened.partition ≡ offsets_partition
   pub book : IsItsBook named opened
 
 -- a partition's node serves it as its log was opened, and has its book

@@ -4,8 +4,8 @@ ghost use Rattle.std.specs.Prelude.{◌≡◌, ◌<◌, ◌++◌, ◌∷◌, [],
 ghost use Rattle.kx_coord_node.specs.Stands.{Stands, opened_coordinator};
 ghost use Rattle.kx_machine.specs.Meaning.{AtCoordinator};
 ghost use Rattle.kx_message.specs.Ranges.{data_partitions, offsets_partition};
-ghost use Rattle.kx_serve.specs.Opening.{HasBook, IsItsBook, IsOpened, IsServing};
-ghost use Rattle.kx_serve.specs.Opening.{StandsForCoordinator};
+ghost use Rattle.kx_serve.specs.Opening.{HasBook, HasOffsetsBook, IsItsBook, IsOpened};
+ghost use Rattle.kx_serve.specs.Opening.{IsServing, StandsForCoordinator};
 ghost use Rattle.logbook.specs.Pages.{Book};
 
 use crate::fault::ServeFault;
@@ -24,7 +24,7 @@ use kx_nodes::Untraced;
 use kx_published::book::{Naming, Opened};
 use kx_server::{Member, Partitions};
 use kx_trace::TracedNode;
-use kx_trace_files::{OpenedTrace, TraceFile};
+use kx_trace_files::TraceFile;
 use kx_txnlog::TxnLog;
 use std::alloc::{AllocError, Global};
 use std::fs::{File, Files};
@@ -36,16 +36,18 @@ fn add<N: Drop>(nodes: &mut Vec<N>, node: N) -> Result<(), AllocError>
     Ok(nodes.push(node)?)
 }
 
-// The node of a partition whose log was opened, under its lock.
+// The node of the partition of this number, whose log was opened, under its lock.
 fn locked<S: Store, R: Eprint + Drop>(
+    number: PartitionId,
     machine: ServerMachine<S, R>,
     opened: Opened,
 ) -> OpenedNode<Untraced<ServerMachine<S, R>>>
-    requires { IsOpened opened.partition machine.machine }
-    ensures { (named : ℕ → Book) → IsItsBook named opened → IsServing named result }
+    requires { IsOpened number machine.machine }
+    ensures { (named : ℕ → Book) → opened.partition ≡ number → IsItsBook named opened
+        → IsServing named result }
 {
     OpenedNode {
-        locked: Untraced::new(NodeId::Partition(opened.partition), machine),
+        locked: Untraced::new(NodeId::Partition(number), machine),
         opened,
     }
 }
@@ -219,48 +221,8 @@ impl<'a, F: Folder, R: Files<File = File> + AllocGlobal + Eprint + Drop + Copy> 
         }
     }
 
-    // The coordinator's trace goes on, which tells of its log or not.
-    fn further_trace(
-        &self,
-        traces: &Traces<'a, R>,
-        trace: OpenedTrace<R>,
-        is_told: bool,
-    ) -> Result<TraceFile<R>, ServeFault> {
-        match self.folder.len(self.alloc, LogFile::Coordinator) {
-            Ok(len) => traces.go_on(LogFile::Coordinator, trace, is_told, len),
-            Err(fault) => {
-                drop(trace);
-                Err(fault)
-            }
-        }
-    }
-
-    // The coordinator of a log with this many entries, and with this trace. One of a single entry was
-    // made, and its process ended before the first step.
-    fn coordinator_after(
-        &self,
-        kept: &[PartitionId],
-        found: (F::Kept, usize),
-        traces: &Traces<'a, R>,
-        trace: OpenedTrace<R>,
-    ) -> Result<ServerMachine<F::Kept, R>, ServeFault>
-        ensures { IfOk result StandsForCoordinator }
-    {
-        let (store, entries) = found;
-        if !trace.has_records && entries == 0 {
-            return self.first_coordinator(store, trace.file);
-        }
-        let is_told = trace.has_records || entries == 1;
-        match self.further_trace(traces, trace, is_told) {
-            Ok(trace) => self.later_coordinator(kept, store, Some(trace)),
-            Err(fault) => {
-                drop(store);
-                Err(fault)
-            }
-        }
-    }
-
-    // The coordinator with a trace.
+    // The coordinator with a trace. One of a single entry was made, and its process ended before the
+    // first step.
     fn traced_coordinator(
         &self,
         kept: &[PartitionId],
@@ -269,14 +231,15 @@ impl<'a, F: Folder, R: Files<File = File> + AllocGlobal + Eprint + Drop + Copy> 
     ) -> Result<ServerMachine<F::Kept, R>, ServeFault>
         ensures { IfOk result StandsForCoordinator }
     {
-        let found = self.found(store)?;
-        match traces.open(&TracedNode::Coordinator) {
-            Ok(trace) => self.coordinator_after(kept, found, traces, trace),
-            Err(fault) => {
-                drop(found);
-                Err(fault)
-            }
+        let (store, entries) = self.found(store)?;
+        let trace = traces.open(&TracedNode::Coordinator)?;
+        if !trace.has_records && entries == 0 {
+            return self.first_coordinator(store, trace.file);
         }
+        let is_told = trace.has_records || entries == 1;
+        let len = self.folder.len(self.alloc, LogFile::Coordinator)?;
+        let trace = traces.go_on(LogFile::Coordinator, trace, is_told, len)?;
+        self.later_coordinator(kept, store, Some(trace))
     }
 
     // The coordinator's machine, in a folder of whose logs these were made before.
@@ -365,7 +328,7 @@ impl<'a, F: Folder, R: Files<File = File> + AllocGlobal + Eprint + Drop + Copy> 
         let file = LogFile::of(opened.partition);
         let machine = self.partition(file, opened.partition)?;
         let machine = self.traced(file, opened.partition, machine)?;
-        Ok(locked(machine, opened))
+        Ok(locked(opened.partition, machine, opened))
     }
 
     // The node of the offsets partition, and the members of all its groups.
@@ -373,15 +336,14 @@ impl<'a, F: Folder, R: Files<File = File> + AllocGlobal + Eprint + Drop + Copy> 
         &self,
         opened: Opened,
     ) -> Result<(OpenedNode<Kept<F, R>>, Vec<Member>), ServeFault>
-        requires offsets { (opened.partition ≡ offsets_partition)
-            × (opened.seen.book ≡ J.book offsets_partition) }
-        ensures { IfOk result (λ made. IsServing J.book made.0) }
+        ensures { HasOffsetsBook J.book opened
+            → IfOk result (λ made. IsServing J.book made.0) }
     {
         let machine = self.offsets(LogFile::Offsets)?;
         match members_of(self.alloc, &machine) {
             Ok(members) => {
-                let machine = self.traced(LogFile::Offsets, opened.partition, machine)?;
-                Ok((locked(machine, opened), members))
+                let machine = self.traced(LogFile::Offsets, PartitionId::OFFSETS, machine)?;
+                Ok((locked(PartitionId::OFFSETS, machine, opened), members))
             }
             Err(refused) => {
                 drop(machine);
@@ -398,8 +360,7 @@ impl<'a, F: Folder, R: Files<File = File> + AllocGlobal + Eprint + Drop + Copy> 
         offsets: Opened,
     ) -> Result<Vec<Member>, ServeFault>
         requires books { All (HasBook J.book) books.items }
-        requires offsets { (offsets.partition ≡ offsets_partition)
-            × (offsets.seen.book ≡ J.book offsets_partition) }
+        requires offsets { HasOffsetsBook J.book offsets }
         ensures { All (IsServing J.book) nodes.old.items
             → OnOk result (All (IsServing J.book) nodes.new.items) }
     {
@@ -418,8 +379,7 @@ impl<'a, F: Folder, R: Files<File = File> + AllocGlobal + Eprint + Drop + Copy> 
         offsets: Opened,
     ) -> Result<OpenedNodes<Kept<F, R>>, ServeFault>
         requires books { All (HasBook J.book) books.items }
-        requires offsets { (offsets.partition ≡ offsets_partition)
-            × (offsets.seen.book ≡ J.book offsets_partition) }
+        requires offsets { HasOffsetsBook J.book offsets }
         ensures coordinator { IfOk result (λ nodes.
             StandsForCoordinator nodes.coordinator.machine) }
         ensures partitions { IfOk result (λ nodes.

@@ -1,9 +1,9 @@
 //! Serving nodes whose logs are in memory or in a folder.
-ghost use Rattle.std.specs.Prelude.{◌≡◌, ◌≤◌, All, IfOk, OnOk, length, option_map};
+ghost use Rattle.std.specs.Prelude.{◌≤◌, All, IfOk, OnOk, length, option_map};
 ghost use Rattle.kx_machine.specs.Meaning.{NodeState};
-ghost use Rattle.kx_message.specs.Ranges.{data_partitions, offsets_partition};
+ghost use Rattle.kx_message.specs.Ranges.{data_partitions};
 ghost use Rattle.kx_serve.specs.Files.{IsNamed};
-ghost use Rattle.kx_serve.specs.Opening.{HasBook, InOrder, IsReady};
+ghost use Rattle.kx_serve.specs.Opening.{HasBook, HasOffsetsBook, InOrder, IsReady};
 ghost use Rattle.kx_server.specs.Lines.{Listens, Prints};
 
 use crate::fault::ServeFault;
@@ -135,8 +135,7 @@ fn serve_named<
     out: &mut W,
 ) -> Result<(), ServeFault>
     requires books { All (HasBook J.book) books.items }
-    requires offsets { (offsets.partition ≡ offsets_partition)
-        × (offsets.seen.book ≡ J.book offsets_partition) }
+    requires offsets { HasOffsetsBook J.book offsets }
     ensures { OnOk result (Listens (W.contents out.old) (W.contents out.new)) }
 {
     let nodes = opening(rt, folder, options).open::<J>(books, offsets)?;

@@ -34,6 +34,12 @@ differ a b r e t s =
     let g : bytes_eq a b ≡ true = (bytes_eq-Decides a b).1 s in
     cc
 
+-- the bytes of a batch and of those after it
+pub len_with : (x : Stored) (rest all : List Stored) → all ≡ x ∷ rest
+    → length (texts all) ≡ length x.text + length (texts rest)
+len_with x rest all is =
+    ap (λ (l : List Stored). length (texts l)) is ∙ length-append x.text (texts rest)
+
 -- two walks that have come to one more batch each
 module _ (x y : Stored) (a b left right : List Stored) (front : left ≡ x ∷ a) (other : right ≡ y ∷ b)
   where

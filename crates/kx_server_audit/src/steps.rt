@@ -110,10 +110,8 @@ fn feed_traces<B: Server>(
     audit: &mut TraceAudit<B>,
     traces: &mut Traces<File>,
 ) -> Result<(), AuditFault> {
-    for (trace, one) in traces.of.iter().enumerate() {
-        let Some(source) = traces.sources.get_mut(trace) else {
-            return Ok(());
-        };
+    let sources = traces.sources.iter_mut();
+    for (trace, (source, one)) in sources.zip(traces.of.iter()).enumerate() {
         if let Err(error) = feed_all(alloc, audit, trace, &mut source.reader) {
             return Err(read_fault(AuditFile::Trace(one.node), error.kind()));
         }

@@ -1,4 +1,4 @@
-use Rattle.std.proofs.Common.{rules, ◌≤◌, ◌+◌, length, arith, refl, sym}
+use Rattle.std.proofs.Common.{rules, ◌≡◌, ◌≤◌, ◌+◌, ◌∙◌, length, ap, arith, refl, sym}
 use Rattle.kx_message.specs.Ranges.{data_partitions, offsets_partition}
 use Rattle.kx_serve.proofs.Books.{all_have_books, book_in, other_book}
 use Rattle.kx_serve.specs.Opening.{InOrder}
@@ -19,4 +19,8 @@ serve_named-requires-clause-offsets g c κs within =
     let other = c.new-offsets.result.seen.book in
     let opened : InOrder 0 books × (length books ≤ data_partitions) = search rules in
     let behind : 0 + length books ≤ offsets_partition = omega (arith, opened.1) in
-    (search rules, sym (other_book books other 0 offsets_partition opened.0 behind))
+    let is_offsets : c.new-offsets.result.partition ≡ offsets_partition = search rules in record {
+      is_offsets = is_offsets;
+      book = sym (ap (book_in books other) is_offsets
+          ∙ other_book books other 0 offsets_partition opened.0 behind);
+    }

@@ -1,7 +1,8 @@
-use Rattle.std.proofs.Common.{◌∙◌, ◌∷◌, ◌++◌, ℕ, List, [], Result, ap, arith, subst, sym}
+use Rattle.std.proofs.Common.{◌≡◌, ◌∙◌, ◌∷◌, ◌++◌, ℕ, List, [], Result, ap, arith, map, subst, sym}
 use Rattle.std.proofs.lemmas.List.FromFn.{map-range_with_len_more}
+use Rattle.std.specs.List.{range_with_len}
 use Rattle.std.specs.Result.{OkIff}
-use Rattle.kx_message.specs.Ranges.{IsPartition}
+use Rattle.kx_message.specs.Ranges.{IsPartition, data_partitions, offsets_partition}
 use Rattle.kx_message.specs.declared.fault.ValueFault.{ValueFault}
 use Rattle.kx_trace.specs.declared.node.TracedNode.{TracedNode}
 use Rattle.kx_trace.specs.declared.node.TracedNode.TheVariants.{Coordinator, Partition}
@@ -17,3 +18,11 @@ loop-number-preserved c =
     ∙ ap (λ (x : ℕ). c.loop-number.nodes.items ++ Partition x ∷ []) made.1
     ∙ ap (λ (l : List TracedNode). l ++ Partition n ∷ []) c.loop-number.invariant
     ∙ ap (λ (l : List TracedNode). Coordinator ∷ l) (sym more)
+
+pub returns : goal.returns
+returns c =
+    let all : c.loop-number.number ≡ data_partitions =
+    omega (arith, c.loop-number-test.false, c.loop-number.auto.number-end) in
+    c.in_ok-push-3.ensures.items
+    ∙ ap (λ (l : List TracedNode). l ++ Partition offsets_partition ∷ []) (c.loop-number.invariant
+    ∙ ap (λ (n : ℕ). Coordinator ∷ map Partition (range_with_len 0 n)) all)

@@ -10,4 +10,4 @@ loop-opened-preserved g c = λ before.
 pub returns : goal.returns
 returns g c = λ before.
     one_more g.J.Naming.book c.loop-opened.nodes.items c.add-2.new.nodes.items c.in_ok-node.node
-    c.in_ok-add-2.ensures (c.loop-opened.invariant before) c.in_ok-node.ensures
+    c.in_ok-add-2.ensures (c.loop-opened.invariant before) (c.in_ok-node.ensures c.requires.offsets)
