@@ -1,6 +1,6 @@
 -- The step of a turn is the one that is told.
-use Rattle.std.proofs.Common.{◌≡◌, ◌∙◌, List, Result, Ok, Err, Some, refl, sym, ap, subst}
-use Rattle.std.specs.Prelude.{OnOk, slice_get}
+use Rattle.std.proofs.Common.{◌≡◌, ◌∙◌, List, Some, refl, sym, ap, subst}
+use Rattle.std.specs.Prelude.{slice_get}
 use Rattle.std.proofs.lemmas.Option.{same_Some}
 use Rattle.kx_audit.specs.Making.{Trail, named, trail_of}
 use Rattle.kx_audit.specs.Replayed.{trails_of}
@@ -22,10 +22,6 @@ use Rattle.kx_nodes.specs.Replay.{Traced, name_of}
 use Rattle.kx_nodes.specs.declared.trace.Step.{Step}
 use Rattle.kx_rerun.specs.Stepping.{IsStepOf}
 use Rattle.kx_system.specs.Processor.{Images}
-
-pub on_ok : {T E : Type 0} (r : Result T E) {P Q : Type 0} → (P → Q) → OnOk r P → OnOk r Q
-on_ok (Ok done) more p = more p
-on_ok (Err refused) more p = tt
 
 module _ {F : Type 0} (image_of : F → Images) where
   named_is : (m : AnyMaking F) → named (any_making image_of m) ≡ name_of (any_state image_of m)

@@ -4,11 +4,11 @@ use Rattle.std.proofs.Common.{false, length, refl, sym, ap, ◌∙◌, subst, ap
 use Rattle.std.specs.Prelude.{IfSome}
 use Rattle.std.specs.Io.KnownBytes.{Appends}
 use Rattle.std.proofs.lemmas.List.{append-nil, length-append}
+use Rattle.std.proofs.KnownBytes.{Appends-kept, Appends-nil, Appends-trans}
 use Rattle.kx_text.specs.Words.{before, lines_of}
 use Rattle.kx_text.specs.Lines.{ReadsLine, bad_text}
 use Rattle.kx_text.specs.declared.fault.ScriptFault.{ScriptFault}
 use Rattle.kx_text.specs.declared.fault.ScriptFault.TheVariants.{Read, Write, BadLine, Memory}
-use Rattle.kx_text.proofs.Writes.{appends_both, appends_kept, appends_nothing}
 use Rattle.kx_script.specs.Script.{Answered, Answers, Ends, Runs, State, answer, kept_in}
 
 -- a run, and then one more line
@@ -65,7 +65,7 @@ starts Stands s (Some input) written = (
     counted = refl;
     runs = (refl, refl);
     stands = s;
-    written = appends_nothing written;
+    written = Appends-nil written;
   },
 )
 
@@ -168,7 +168,7 @@ goes_on Stands After (Some input) left after number old now new line text u r e 
         counted = omega (arith, n.counted, length-append n.lines (text ∷ []));
         runs = Runs-push None n.lines n.text n.state text d.0 d.1 n.runs d.2;
         stands = d.3;
-        written = appends_both old now new n.text d.0 n.written d.4;
+        written = Appends-trans old now new n.text d.0 n.written d.4;
       },
     )
 
@@ -187,7 +187,7 @@ answer_fails Stands After (Some input) left number old now new text Memory u a =
     u.2.text,
     u.2.state,
     u.2.runs,
-    appends_kept old now new u.2.text u.2.written (a u.2.state u.2.stands),
+    Appends-kept old now new u.2.text u.2.written (a u.2.state u.2.stands),
   ),
 )
 answer_fails Stands After (Some input) left number old now new text Write u a = tt
@@ -218,6 +218,6 @@ is_bad Stands After (Some input) left after number old now kept new line text u 
       state = n.state;
       runs = n.runs;
       bad = d.0;
-      written = appends_both old kept new n.text (bad_text number)
-          (appends_kept old now kept n.text n.written d.1) w;
+      written = Appends-trans old kept new n.text (bad_text number)
+          (Appends-kept old now kept n.text n.written d.1) w;
     }

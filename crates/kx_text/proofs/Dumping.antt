@@ -6,6 +6,7 @@ use Rattle.std.specs.Prelude.{IsOkUnless, ◌⊎◌}
 use Rattle.std.specs.Io.KnownBytes.{Appends}
 use Rattle.std.proofs.lemmas.List.{length-append, drop_at, length-drop, append-nil}
 use Rattle.std.proofs.lemmas.List.Concat.{flat_map-append}
+use Rattle.std.proofs.KnownBytes.{Appends-nil, Appends-trans}
 use Rattle.kx_batch.specs.Batch.{Spelled, batch_at}
 use Rattle.kx_batch.specs.declared.fault.BatchFault.{BatchFault}
 use Rattle.kx_batch.specs.declared.fault.BatchFault.TheVariants as fault
@@ -13,7 +14,6 @@ use Rattle.kx_text.specs.Dump.{AreBatches, Dumps, IsDumped, IsDumpedUpTo, batch_
 use Rattle.kx_text.specs.Dump.{dump_text, fault_line}
 use Rattle.kx_text.specs.declared.dump.DumpFault.{DumpFault}
 use Rattle.kx_text.specs.declared.dump.DumpFault.TheVariants as dump_fault
-use Rattle.kx_text.proofs.Writes.{appends_both, appends_nothing}
 
 ------ batches
 
@@ -59,7 +59,7 @@ starts bytes old = record {
   front = [];
   parts = refl;
   are = refl;
-  written = appends_nothing old;
+  written = Appends-nil old;
 }
 
 pub goes_on : (bytes rest behind : List ℕ) (b : Spelled) (old mid new : Option (List ℕ))
@@ -76,7 +76,7 @@ goes_on bytes rest behind b old mid new h e parts k = record {
       let more = flat_map-append (λ (b : Spelled). batch_text_of b.batch) h.batches (b ∷ []) in
       subst (Appends old new)
       (ap (λ (t : List ℕ). dump_text h.batches ++ t) (sym one) ∙ sym more)
-      (appends_both old mid new (dump_text h.batches) (batch_text_of b.batch) h.written k);
+      (Appends-trans old mid new (dump_text h.batches) (batch_text_of b.batch) h.written k);
 }
 
 pub ends : (bytes rest : List ℕ) (old now : Option (List ℕ)) → Underway bytes rest old now
@@ -100,7 +100,7 @@ stops bytes rest place f old mid new h at some e k =
       within = omega arith;
       are = subst (λ (t : List ℕ). AreBatches h.batches bytes t) (sym left) h.are;
       none = ap batch_at left ∙ e;
-      written = appends_both old mid new (dump_text h.batches) (fault_line place f) h.written k;
+      written = Appends-trans old mid new (dump_text h.batches) (fault_line place f) h.written k;
     }
 
 ------ one way only

@@ -1,11 +1,12 @@
 use Rattle.std.proofs.Common.{◌∙◌, ◌++◌, List, ap}
+use Rattle.std.proofs.lemmas.Result.{on_ok_weaker}
 use Rattle.kx_message.specs.declared.message.Message.{Message}
-use Rattle.kx_rerun.proofs.Turning.{is_step, on_ok}
+use Rattle.kx_rerun.proofs.Turning.{is_step}
 use Rattle.kx_rerun.proofs.events.add_step.Goals as goal
 
 pub returns : goal.returns
 returns g c =
-    on_ok c.add_all.result (λ sent j x at told turn. record {
+    on_ok_weaker c.add_all.result (λ sent j x at told turn. record {
       event = c.in_ok-event_of.field-0;
       is = is_step g.F.Process.image_of c.args.run.now.traces c.args.turn x turn
           c.in-Some-Some.trace.now c.in-Some-Some.ensures.some c.args.sent.now c.node.result

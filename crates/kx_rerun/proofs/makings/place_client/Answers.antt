@@ -1,9 +1,9 @@
 use Rattle.std.proofs.Common.{◌≡◌, ◌∙◌, ◌∷◌, [], subst}
+use Rattle.std.proofs.lemmas.Result.{on_ok_weaker}
 use Rattle.kx_audit.specs.Making.{client_in}
 use Rattle.kx_cluster.specs.Any.{any_making}
 use Rattle.kx_rerun.specs.Making.{client_made}
 use Rattle.kx_rerun.proofs.Placing.{order_more, order_same}
-use Rattle.kx_rerun.proofs.Turning.{on_ok}
 use Rattle.kx_rerun.proofs.makings.place_client.Goals as goal
 
 pub returns-in-Some-making_event-clause-ordered
@@ -15,7 +15,7 @@ returns-in-Some-making_event-clause-ordered g c =
     let one : client_in (making trace.made) ≡ client ∷ [] =
     subst (λ m. client_in (making m) ≡ client ∷ []) c.made.ensures
     c.in-Some-making_event.ensures.1 in
-    on_ok c.place.result (λ placed ordered.
+    on_ok_weaker c.place.result (λ placed ordered.
     placed ∙ order_more making c.args.run.now.traces c.args.number trace client _
     c.in-Some.ensures.some one ordered) c.place.ensures.placed
 

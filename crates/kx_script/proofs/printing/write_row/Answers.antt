@@ -2,8 +2,8 @@ use Rattle.std.proofs.Common.{◌≡◌, ◌++◌, ℕ, List, append_assoc, subs
 use Rattle.std.specs.Prelude.{codes, decimal}
 use Rattle.std.specs.Io.KnownBytes.{Appends}
 use Rattle.std.proofs.lemmas.Result.{on_ok_weaker}
+use Rattle.std.proofs.KnownBytes.{Appends-trans}
 use Rattle.kx_text.specs.Pages.{newline}
-use Rattle.kx_text.proofs.Writes.{appends_both}
 use Rattle.kx_txnlog.specs.State.{state_of}
 use Rattle.kx_script.specs.Printing.{partitions_text, state_number}
 use Rattle.kx_script.proofs.printing.write_row.Goals as goal
@@ -35,6 +35,6 @@ returns g c =
     subst (λ (ps : List ℕ). Appends mid late (partitions_text ps)) c.as_slice.ensures.value
     c.in_ok-write_partitions.ensures in
     on_ok_weaker c.write_all.result
-    (appends_both old late new (front (state_number (state_of row.state)) ++ parts) newline
-    (appends_both old mid late (front (state_number (state_of row.state))) parts first second))
+    (Appends-trans old late new (front (state_number (state_of row.state)) ++ parts) newline
+    (Appends-trans old mid late (front (state_number (state_of row.state))) parts first second))
     c.write_all.ensures.bytes

@@ -1,8 +1,8 @@
 use Rattle.std.proofs.Common.{◌≡◌, ◌==◌, ℕ, List, [], ◌∷◌, true, arith, inl, refl, sym}
 use Rattle.std.specs.Prelude.{length}
 use Rattle.std.proofs.lemmas.Bool.{eqb-true}
+use Rattle.std.proofs.KnownBytes.{Appends-nil}
 use Rattle.kx_script.specs.Script.{Answers, State}
-use Rattle.kx_text.proofs.Writes.{appends_nothing}
 use Rattle.kx_script.proofs.Answering.{has_words}
 use Rattle.kx_script.proofs.script.answer.Goals as goal
 
@@ -18,7 +18,7 @@ returns-then-is_empty g c = λ state st. (
   state,
   answers_nothing state c.args.line.now c.if-is_empty.ensures,
   st,
-  appends_nothing (g.W.Write.contents c.args.writer.now),
+  Appends-nil (g.W.Write.contents c.args.writer.now),
 )
 
 pub returns : goal.returns

@@ -1,6 +1,7 @@
 use Rattle.std.proofs.Common.{◌<◌, ◌≤◌, ◌+◌, ℕ, List, [], length, drop, subst, arith}
 use Rattle.std.specs.Prelude.{slice_get}
-use Rattle.kx_text.proofs.Writes.{IsBegun, begins, ends, goes_on, appends_nothing}
+use Rattle.std.proofs.KnownBytes.{Appends-nil}
+use Rattle.kx_text.proofs.Writes.{IsBegun, begins, ends, goes_on}
 use Rattle.kx_script.specs.Printing.{message_lines, optional_line}
 use Rattle.kx_script.proofs.Lines.{none_more, one_more}
 use Rattle.kx_script.proofs.session.write_lines.Goals as goal
@@ -34,4 +35,4 @@ returns g c = λ s st.
     ends old new new [] whole
     (subst (λ (t : List ℕ). IsBegun old new t whole) (none_more n n from s.world.sent none)
     (c.loop-number.invariant s st))
-    (appends_nothing new)
+    (Appends-nil new)

@@ -4,9 +4,9 @@ use Rattle.std.specs.Fmt.{signed_decimal}
 use Rattle.std.specs.Io.KnownBytes.{Appends}
 use Rattle.std.proofs.lemmas.Result.{on_ok_weaker}
 use Rattle.std.proofs.lemmas.Grind.{common_steps}
+use Rattle.std.proofs.KnownBytes.{Appends-trans}
 use Rattle.kx_text.specs.Dump.{kind_of, producer_text}
 use Rattle.kx_text.specs.Pages.{newline}
-use Rattle.kx_text.proofs.Writes.{appends_both}
 use Rattle.kx_text.proofs.dump.write_head.Goals as goal
 
 joined : (x y z w : List ℕ) → x ++ (y ++ z ++ w) ≡ x ++ y ++ z ++ w
@@ -22,11 +22,11 @@ returns g c =
     let front = codes "batch " ++ signed_decimal batch.base_offset ++ codes " "
     ++ decimal (length batch.records) ++ codes " " in
     let first : Appends old a front = grind (arith, common_steps) in
-    let second = appends_both old a b front (producer_text batch) first
+    let second = Appends-trans old a b front (producer_text batch) first
     c.in_ok-write_producer.ensures in
     let last : OnOk c.writeln.result (Appends b new (codes " " ++ kind_of batch ++ newline)) =
     grind (arith, common_steps) in
     on_ok_weaker c.writeln.result (λ h. subst (Appends old new)
     (joined (front ++ producer_text batch) (codes " ") (kind_of batch) newline)
-    (appends_both old b new (front ++ producer_text batch)
+    (Appends-trans old b new (front ++ producer_text batch)
     (codes " " ++ kind_of batch ++ newline) second h)) last

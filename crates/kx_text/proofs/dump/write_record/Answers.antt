@@ -6,9 +6,9 @@ use Rattle.std.specs.Fmt.{signed_decimal}
 use Rattle.std.specs.Io.KnownBytes.{Appends}
 use Rattle.std.proofs.lemmas.Result.{on_ok_weaker}
 use Rattle.std.proofs.lemmas.Grind.{common_steps}
+use Rattle.std.proofs.KnownBytes.{Appends-trans}
 use Rattle.kx_text.specs.Dump.{field_text}
 use Rattle.kx_text.specs.Pages.{newline}
-use Rattle.kx_text.proofs.Writes.{appends_both}
 use Rattle.kx_text.proofs.dump.write_record.Goals as goal
 
 pub returns : goal.returns
@@ -33,11 +33,11 @@ returns g c =
     subst (λ k. Appends a b (field_text k)) c.key.ensures c.in_ok-write_field.ensures in
     let third : Appends d e value =
     subst (λ k. Appends d e (field_text k)) c.value.ensures c.in_ok-write_field-2.ensures in
-    let to_key = appends_both old a b (codes "record " ++ offset ++ codes " ") key first second in
-    let to_space = appends_both old b d (codes "record " ++ offset ++ codes " " ++ key) (codes " ")
+    let to_key = Appends-trans old a b (codes "record " ++ offset ++ codes " ") key first second in
+    let to_space = Appends-trans old b d (codes "record " ++ offset ++ codes " " ++ key) (codes " ")
     to_key c.in_ok-write_all.ensures.bytes in
-    let to_value = appends_both old d e (codes "record " ++ offset ++ codes " " ++ key ++ codes " ")
+    let to_value = Appends-trans old d e (codes "record " ++ offset ++ codes " " ++ key ++ codes " ")
     value to_space third in
-    on_ok_weaker c.write_all-2.result (appends_both old e new
+    on_ok_weaker c.write_all-2.result (Appends-trans old e new
     (codes "record " ++ offset ++ codes " " ++ key ++ codes " " ++ value) newline to_value)
     c.write_all-2.ensures.bytes

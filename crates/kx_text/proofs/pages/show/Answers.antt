@@ -3,10 +3,10 @@ use Rattle.std.specs.Int.{w64}
 use Rattle.std.specs.Io.KnownBytes.{Appends}
 use Rattle.std.proofs.lemmas.Int.{to_z-of_z}
 use Rattle.std.proofs.lemmas.Result.{on_ok_weaker}
+use Rattle.std.proofs.KnownBytes.{Appends-trans}
 use Rattle.kx_model.specs.Page.{Fetched, Page, fetched_of}
 use Rattle.kx_text.specs.Pages.{end_text, page_lines, page_text}
 use Rattle.kx_text.proofs.Performing.{says}
-use Rattle.kx_text.proofs.Writes.{appends_both}
 use Rattle.kx_text.proofs.pages.show.Goals as goal
 
 pub returns : goal.returns
@@ -27,7 +27,7 @@ returns g c =
     → Appends old new (page_text from mode shown)) c.write_end.result c.written.result old new
     c.written.ensures
     (on_ok_weaker c.write_end.result
-    (λ a shown e. appends_both old mid new (page_lines from mode shown)
+    (λ a shown e. Appends-trans old mid new (page_lines from mode shown)
     (end_text (pos shown.next) (pos shown.stable) (pos shown.end))
     (rw (to_z-of_z w64 from c.ranges.from) at c.in_ok-show_records.ensures shown e)
     (subst (λ (f : Fetched). Appends mid new (end_text f.next f.stable f.end)) e

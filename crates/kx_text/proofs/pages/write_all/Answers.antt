@@ -2,9 +2,10 @@ use Rattle.std.proofs.Common.{ℕ, ℤ, List, [], sym, ◌∙◌, subst, to_z, o
 use Rattle.std.proofs.lemmas.Int.{to_z-of_z}
 use Rattle.std.specs.Prelude.{flat_map}
 use Rattle.std.specs.Io.KnownBytes.{Appends}
+use Rattle.std.proofs.KnownBytes.{Appends-nil}
 use Rattle.kx_model.specs.Log.{Stored}
 use Rattle.kx_text.specs.Pages.{batch_lines}
-use Rattle.kx_text.proofs.Writes.{IsBegun, appends_nothing, begins, ends, goes_on}
+use Rattle.kx_text.proofs.Writes.{IsBegun, begins, ends, goes_on}
 use Rattle.kx_text.proofs.pages.write_all.Goals as goal
 
 abbrev lines_of : ℤ → Stored → List ℕ
@@ -40,4 +41,4 @@ returns g c =
     let h = subst (λ (es : List Stored). IsBegun old mid (flat_map lines es) whole)
     c.in-None.ensures.steps.0 c.loop-batch.invariant in
     subst (λ (z : ℤ). Appends old mid (flat_map (lines_of z) c.args.page.now.batches))
-    (to_z-of_z w64 c.args.from c.ranges.from) (ends old mid mid [] whole h (appends_nothing mid))
+    (to_z-of_z w64 c.args.from c.ranges.from) (ends old mid mid [] whole h (Appends-nil mid))

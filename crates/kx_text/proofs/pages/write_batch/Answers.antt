@@ -2,9 +2,10 @@ use Rattle.std.proofs.Common.{◌≡◌, ℕ, ℤ, List, [], Bool, cond, sym, ap
 use Rattle.std.proofs.lemmas.Int.{to_z-of_z}
 use Rattle.std.specs.Prelude.{flat_map}
 use Rattle.std.specs.Io.KnownBytes.{Appends}
+use Rattle.std.proofs.KnownBytes.{Appends-nil}
 use Rattle.kx_batch.specs.Record.{Record}
 use Rattle.kx_text.specs.Pages.{batch_lines}
-use Rattle.kx_text.proofs.Writes.{IsBegun, begins, goes_on, ends, appends_nothing}
+use Rattle.kx_text.proofs.Writes.{IsBegun, begins, goes_on, ends}
 use Rattle.kx_text.proofs.pages.write_batch.Invariants.{line_of}
 use Rattle.kx_text.proofs.pages.write_batch.Goals as goal
 
@@ -50,4 +51,4 @@ returns g c =
     (ends old new new [] whole
     (subst (λ (rs : List Record). IsBegun old new (flat_map line rs) whole)
     c.in-None.ensures.steps.0 c.loop-record.invariant)
-    (appends_nothing new)))
+    (Appends-nil new)))

@@ -4,12 +4,13 @@ use Rattle.std.specs.Int.{w64, w128}
 use Rattle.std.specs.Int.RustNames.{FitsSigned}
 use Rattle.std.proofs.lemmas.Int.{to_z-of_z}
 use Rattle.std.specs.Io.KnownBytes.{Appends}
+use Rattle.std.proofs.KnownBytes.{Appends-nil}
 use Rattle.kx_batch.specs.Record.{Record}
 use Rattle.kx_model.specs.Reading.{Shown}
 use Rattle.kx_reader.specs.Pairs.{pairs}
 use Rattle.kx_text.specs.Pages.{value_line}
 use Rattle.kx_text.proofs.Pairs.{pair_line, pair_lines, same_lines}
-use Rattle.kx_text.proofs.Writes.{IsBegun, appends_nothing, begins, ends, goes_on}
+use Rattle.kx_text.proofs.Writes.{IsBegun, begins, ends, goes_on}
 use Rattle.kx_text.proofs.pages.write_committed.Goals as goal
 
 pub loop-offset-init : goal.loop-offset-init
@@ -46,4 +47,4 @@ returns g c =
     let h = subst (λ (ps : List (ℤ × Record)). IsBegun old mid (pair_lines ps) whole)
     c.in-None.ensures.steps.0 c.loop-offset.invariant in
     subst (Appends old mid) (same_lines c.args.records)
-    (ends old mid mid [] whole h (appends_nothing mid))
+    (ends old mid mid [] whole h (Appends-nil mid))

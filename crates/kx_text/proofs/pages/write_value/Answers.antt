@@ -6,8 +6,8 @@ use Rattle.std.specs.Fmt.{signed_decimal}
 use Rattle.std.specs.Io.KnownBytes.{Appends}
 use Rattle.std.proofs.lemmas.Int.{to_z-of_z}
 use Rattle.std.proofs.lemmas.Result.{on_ok_weaker}
+use Rattle.std.proofs.KnownBytes.{Appends-trans}
 use Rattle.kx_text.specs.Pages.{newline, value_text}
-use Rattle.kx_text.proofs.Writes.{appends_both}
 use Rattle.kx_text.proofs.pages.write_value.Goals as goal
 
 text_is : {B : Type 0} (value : Option B) (default given : B) (text : B → List ℕ)
@@ -31,5 +31,5 @@ returns g c =
     subst (Appends mid late)
     (text_is c.args.value _ c.unwrap_or.result (λ s. s.now) c.unwrap_or.ensures refl)
     c.in_ok-write_all.ensures.bytes in
-    on_ok_weaker c.write_all-2.result (appends_both old late new (front ++ value) newline
-    (appends_both old mid late front value first second)) c.write_all-2.ensures.bytes
+    on_ok_weaker c.write_all-2.result (Appends-trans old late new (front ++ value) newline
+    (Appends-trans old mid late front value first second)) c.write_all-2.ensures.bytes
