@@ -1,5 +1,5 @@
 -- What became of a step that a trace tells of.
-use Rattle.std.proofs.Common.{◌≡◌, ◌∙◌, ℕ, List, Option, Some, None, ap, length, subst}
+use Rattle.std.proofs.Common.{◌≡◌, ◌∙◌, ◌≤◌, ℕ, List, Option, Some, None, ap, arith, length, subst}
 use Rattle.std.proofs.Common.{refl, sym}
 use Rattle.std.specs.Prelude.{IfNone, MatchOption}
 use Rattle.std.proofs.lemmas.Option.{same_Some}
@@ -39,6 +39,13 @@ when_no_match P Q (Some y) e m = absurd cc
 pub when_none : {A : Type 0} (P : Type 0) (o : Option A) → o ≡ None → IfNone o P → P
 when_none P None e m = m
 when_none P (Some y) e m = absurd cc
+
+-- no more bytes are done with than there are
+pub used_within : (became : Progress) (len used : ℕ) → used ≡ used_by became len → used ≤ len
+used_within (progress.Made sent) len used is = omega (arith, is)
+used_within progress.NotTaken len used is = omega (arith, is)
+used_within progress.Waits len used is = omega (arith, is)
+used_within progress.NeedsMore len used is = omega (arith, is)
 
 module _ {B M : Type 0} (making : B → NodeMaking) (stands : NodeState → M → Type 0)
     (number : ℕ) (history : List Passed) (old new : Following B M) where

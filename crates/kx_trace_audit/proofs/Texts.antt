@@ -1,9 +1,10 @@
 -- The bytes of traces that are fed.
 use Rattle.std.proofs.Common.{◌≡◌, ◌≢◌, ◌⊎◌, ◌≤◌, ◌++◌, ℕ, zero, suc, List, [], ◌∷◌, Some, refl, sym}
-use Rattle.std.proofs.Common.{ap, inl, inr, ⊎_elim, length, arith}
-use Rattle.std.specs.Prelude.{slice_get}
-use Rattle.std.proofs.lemmas.Option.{same_Some}
-use Rattle.kx_trace_audit.specs.Auditing.{fed}
+use Rattle.std.proofs.Common.{Option, ap, inl, inr, ⊎_elim, length, arith, subst}
+use Rattle.std.specs.Prelude.{MatchOption, slice_get, slice_set}
+use Rattle.std.proofs.lemmas.Option.{same_Some, slice_get_past}
+use Rattle.kx_trace_audit.specs.Auditing.{Auditing, fed}
+use Rattle.kx_trace_audit.specs.Readings.{Reading, fed_on}
 
 -- one of these texts: the one that was fed, or another
 pub record IsFed (texts : List (List ℕ)) (j : ℕ) (bytes text : List ℕ) : Type 0 where
@@ -40,3 +41,29 @@ nothing_fed [] k bytes le = refl
 nothing_fed (t ∷ texts) zero bytes le = absurd (omega (arith, le))
 nothing_fed (t ∷ texts) (suc k) bytes le =
     ap (λ (l : List (List ℕ)). t ∷ l) (nothing_fed texts k bytes (omega (arith, le)))
+
+------ of the traces that are audited
+
+-- these bytes of this trace were fed; if there is no such trace, nothing was done
+abbrev pub IsFedAt : {B M : Type 0} → Auditing B M → ℕ → List ℕ → Auditing B M → Type 0
+IsFedAt old k bytes new = MatchOption (slice_get old.traces k) (new ≡ old)
+    (λ r. new ≡ record old { traces = slice_set old.traces k (fed_on bytes r) })
+
+pub fed_past : {B M : Type 0} (a : Auditing B M) (k : ℕ) (bytes : List ℕ) → length a.traces ≤ k
+    → IsFedAt a k bytes a
+fed_past a k bytes past =
+    subst (λ (o : Option Reading). MatchOption o (a ≡ a)
+    (λ r. a ≡ record a { traces = slice_set a.traces k (fed_on bytes r) }))
+    (sym (slice_get_past a.traces k past)) refl
+
+pub fed_at : {B M : Type 0} (a : Auditing B M) (k : ℕ) (r q : Reading) (bytes : List ℕ)
+    → slice_get a.traces k ≡ Some r → q ≡ fed_on bytes r
+    → IsFedAt a k bytes (record { following = a.following; traces = slice_set a.traces k q })
+fed_at {B} {M} a k r q bytes at is =
+    let new : Auditing B M = record {
+      following = a.following;
+      traces = slice_set a.traces k q;
+    } in
+    subst (λ (o : Option Reading). MatchOption o (new ≡ a)
+    (λ r. new ≡ record a { traces = slice_set a.traces k (fed_on bytes r) })) (sym at)
+    (ap (λ (x : Reading). record a { traces = slice_set a.traces k x }) is)

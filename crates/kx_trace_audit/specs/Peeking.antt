@@ -3,11 +3,14 @@ use Rattle.std.specs.Prelude.{◌≡◌, ℕ, Bool, Option, None, Some, drop, sl
 use Rattle.kx_follow.specs.Following.{Followed}
 use Rattle.kx_machine.specs.Meaning.{NodeState}
 use Rattle.kx_machine.specs.declared.input.Input.{Input}
+use Rattle.kx_machine.specs.declared.machine.StoreMode.{StoreMode}
+use Rattle.kx_message.specs.declared.message.NodeId.{NodeId}
 use Rattle.kx_trace_audit.specs.Auditing.{Auditing}
 use Rattle.kx_trace_audit.specs.Items.{BeginsTold}
 use Rattle.kx_trace_audit.specs.Logs.{log_size}
 use Rattle.kx_trace_audit.specs.Lookahead.{IsDecided, mode_for}
 use Rattle.kx_trace_audit.specs.Readings.{Reading, ending_of}
+use Rattle.kx_trace_audit.specs.Servers.{name_of}
 use Rattle.kx_trace_audit.specs.Stepping.{IsUntaken}
 use Rattle.kx_trace_audit.specs.Told.{Told, input_in}
 use Rattle.kx_trace_audit.specs.declared.peek.ToldStep.{ToldStep}
@@ -16,6 +19,13 @@ use Rattle.kx_trace_audit.specs.declared.peek.ToldStep.{ToldStep}
 abbrev pub IsInput : Told → Option Input → Type 0
 IsInput told None = IsUntaken told
 IsInput told (Some input) = input ≡ input_in told
+
+-- the step of this node of which is told so, while its store did this
+pub record IsStepAs (node : NodeId) (told : Told) (store : StoreMode) (step : ToldStep) : Type 0
+  where
+    pub node_is : step.node ≡ node
+    pub input_is : step.input ≡ input_in told
+    pub store_is : step.store ≡ store
 
 -- the trace of this number goes on with what tells of this step; where that leaves open what the
 -- store did, the bytes that follow tell it
@@ -26,9 +36,8 @@ pub record IsNext {B M : Type 0} (stands : NodeState → M → Type 0) (audit : 
   pub told : Told
   pub len : ℕ
   pub begins : BeginsTold reading.unread told len
-  pub input_is : step.input ≡ input_in told
   pub stood : Bool
   pub decided : (node : Followed B M) → slice_get audit.following.nodes trace ≡ Some node
       → (state : NodeState) → stands state node.machine
       → IsDecided told (log_size state) (ending_of reading) (drop len reading.unread) (Some stood)
-  pub store_is : step.store ≡ mode_for told stood
+  pub step_is : IsStepAs (name_of reading.node) told (mode_for told stood) step

@@ -28,4 +28,4 @@ pub use audit::TraceAudit;
 pub use peek::ToldStep;
 pub use progress::Progress;
 pub use refusal::TraceRefusal;
-pub use servers::{Server, TraceOf};
+pub use servers::{Server, TraceOf, node_name};

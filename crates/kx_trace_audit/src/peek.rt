@@ -1,9 +1,8 @@
 //! The step of which a trace tells next.
-ghost use Rattle.std.specs.Prelude.{◌≡◌, IfOk, IfSome, MatchOption};
+ghost use Rattle.std.specs.Prelude.{IfOk, IfSome, MatchOption};
 ghost use Rattle.kx_trace_audit.specs.Items.{told_of};
-ghost use Rattle.kx_trace_audit.specs.Peeking.{IsInput, IsNext};
+ghost use Rattle.kx_trace_audit.specs.Peeking.{IsInput, IsNext, IsStepAs};
 ghost use Rattle.kx_trace_audit.specs.Stepping.{IsUntaken};
-ghost use Rattle.kx_trace_audit.specs.Told.{input_in};
 
 use crate::audit::TraceAudit;
 use crate::item::{Telling, item_at};
@@ -11,10 +10,12 @@ use crate::refusal::TraceRefusal;
 use crate::servers::Server;
 use crate::step::{has_stood, mode_for};
 use kx_machine::{Input, StoreMode};
+use kx_message::NodeId;
 
-/// A step of which a trace tells: what the node takes, and what its store does meanwhile.
+/// A step of which a trace tells: its node, what the node takes, and what its store does meanwhile.
 #[derive(Drop)]
 pub struct ToldStep {
+    pub node: NodeId,
     pub input: Input,
     pub store: StoreMode,
 }
@@ -33,13 +34,13 @@ fn input_of(told: Telling<'_>) -> Option<Input>
     }
 }
 
-// The step that is told, if its input was taken.
-fn told_step(told: Telling<'_>, store: StoreMode) -> Option<ToldStep>
+// The step of this node that is told, if its input was taken.
+fn told_step(node: NodeId, told: Telling<'_>, store: StoreMode) -> Option<ToldStep>
     ensures { MatchOption result (IsUntaken (told_of told.entry))
-        (λ step. (step.input ≡ input_in (told_of told.entry)) × (step.store ≡ store)) }
+        (IsStepAs node (told_of told.entry) store) }
 {
     match input_of(told) {
-        Some(input) => Some(ToldStep { input, store }),
+        Some(input) => Some(ToldStep { node, input, store }),
         None => None,
     }
 }
@@ -66,7 +67,7 @@ impl<B: Server> TraceAudit<B> {
         match has_stood(self.alloc, &self.follower, trace, &item.told, rest, ending) {
             Ok(Some(stood)) => {
                 let store = mode_for(&item.told, stood);
-                Ok(told_step(item.told, store))
+                Ok(told_step(reading.name(), item.told, store))
             }
             Ok(None) => {
                 drop(item);

@@ -2,7 +2,8 @@
 ghost use Rattle.std.specs.Prelude.{◌≡◌, ◌≤◌, OnErr, OnOk, drop, length};
 
 use crate::ending::Ending;
-use crate::servers::TraceOf;
+use crate::servers::{TraceOf, node_name};
+use kx_message::NodeId;
 use kx_trace::TracedNode;
 use std::alloc::{AllocError, Global};
 use std::marker::Model;
@@ -47,6 +48,7 @@ fn drop_front(bytes: &mut Vec<u8>, count: usize)
 
 impl Reading {
     ghost use Rattle.kx_trace_audit.specs.Readings.{advanced, begun, ending_of, fed_on};
+    ghost use Rattle.kx_trace_audit.specs.Servers.{name_of};
 
     /// A trace of which nothing was read after its head.
     pub(crate) fn new(alloc: Global, of: TraceOf) -> Reading
@@ -59,6 +61,13 @@ impl Reading {
             done: 0,
             is_end: false,
         }
+    }
+
+    /// The name in messages of the node that the trace is of.
+    pub(crate) fn name(&self) -> NodeId
+        ensures { result ≡ name_of self.now.node }
+    {
+        node_name(self.node)
     }
 
     /// Where the trace ends, as far as that is known.

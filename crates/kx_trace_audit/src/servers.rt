@@ -1,5 +1,9 @@
 //! Nodes of a server, as their traces name them.
+ghost use Rattle.std.specs.Prelude.{◌≡◌};
+ghost use Rattle.kx_trace_audit.specs.Servers.{name_of};
+
 use kx_audit::Remade;
+use kx_message::NodeId;
 use kx_trace::TracedNode;
 
 /// The node that a trace is of, and what is known of the node's log.
@@ -9,6 +13,16 @@ pub struct TraceOf {
     pub node: TracedNode,
     /// How many bytes of whole entries the node's log had when its trace ended, where that is known.
     pub log_len: Option<u64>,
+}
+
+/// The name in messages of the node that a trace is of.
+pub fn node_name(node: TracedNode) -> NodeId
+    ensures { result ≡ name_of node }
+{
+    match node {
+        TracedNode::Coordinator => NodeId::Coordinator,
+        TracedNode::Partition(number) => NodeId::Partition(number),
+    }
 }
 
 /// How a server's node is made again, with an empty log.

@@ -6,7 +6,7 @@ use Rattle.kx_trace_audit.specs.Lookahead.{IsDecided}
 use Rattle.kx_trace_audit.specs.Stepping.{HasStepped, NotDecided}
 use Rattle.kx_trace_audit.specs.declared.step.Stepped.{Stepped}
 use Rattle.kx_trace_audit.proofs.Records.{refused_after, refused_so}
-use Rattle.kx_trace_audit.proofs.Telling.{no_item_read}
+use Rattle.kx_trace_audit.proofs.Telling.{no_item_read, refuses, steps, used_within}
 use Rattle.kx_trace_audit.proofs.step.take_item.Goals as goal
 
 pub returns-in_err-stood-clause-steps : goal.returns-in_err-stood-clause-steps
@@ -44,3 +44,22 @@ returns-in_default-clause-steps g c = λ bytes item_is rest_is history made n th
       refl,
       refl,
     )
+
+pub returns-in_err-progress-clause-steps : goal.returns-in_err-progress-clause-steps
+returns-in_err-progress-clause-steps g c = λ bytes item_is rest_is history made n there.
+    let why = c.in_err-progress.field-0.0 in
+    refused_so c.from_residual-in_err-progress.result why c.from_residual-in_err-progress.ensures.1 _ _
+    (refuses g.B.Tells.making g.B.Machine.Machine.stands c.args.node history c.args.follower.now
+    c.take_told.new.follower bytes (told_of c.args.item.now.told) c.args.item.now.used item_is why
+    (c.in_err-progress.ensures history made))
+
+pub returns-clause-within : goal.returns-clause-within
+returns-clause-within g c = used_within c.in_ok-progress.progress c.args.item.now.used
+    c.used_by-used.result c.used_by-used.ensures
+
+pub returns-clause-steps : goal.returns-clause-steps
+returns-clause-steps g c = λ bytes item_is rest_is history made n there.
+    steps g.B.Tells.making g.B.Machine.Machine.stands c.args.node history c.args.follower.now
+    c.take_told.new.follower bytes (told_of c.args.item.now.told) c.args.item.now.used item_is
+    c.args.ending c.in_ok-progress.progress c.used_by-used.result c.used_by-used.ensures
+    (c.in_ok-progress.ensures history made)

@@ -41,4 +41,5 @@ returns-in-Ok-Some g c =
     (drop used unread) o) c.in-Ok-Some.field-0-is
     (subst (λ (bytes : List ℕ). IsDecided told (log_size state) c.ending-ending.result bytes
     c.in-Ok-Some.field-0) (take_rest unread used) (c.in-Ok-Some.ensures node mine state st)))))
-    c.mode_for-store.result c.mode_for-store.ensures c.told_step.result c.told_step.ensures)
+    c.name.result c.name.ensures c.mode_for-store.result c.mode_for-store.ensures
+    c.told_step.result c.told_step.ensures)
