@@ -1,7 +1,7 @@
 -- An audit that goes on in one trace, and then in another.
 use borrow.Author.Count.{below_more}
 use Rattle.std.proofs.Common.{◌≡◌, ◌≢◌, ◌+◌, ◌<◌, ◌∙◌, ◌++◌, ◌==◌, ◌||◌, ◌⊎◌, ℕ, zero, suc, List, [], ◌∷◌, Option, ap}
-use Rattle.std.proofs.Common.{All, Err, MatchResult, Ok, OnOk, Result, append-nil, append_assoc, arith, get_or, inl, inr}
+use Rattle.std.proofs.Common.{All, Err, MatchResult, Ok, Result, append-nil, append_assoc, arith, get_or, inl, inr}
 use Rattle.std.proofs.Common.{Bool, None, Some, false, length, length-append, map, refl, slice_get}
 use Rattle.std.proofs.Common.{slice_set, subst, sym, true}
 use Rattle.std.proofs.lemmas.Bool.{cases_eq, false≢true}
@@ -462,10 +462,6 @@ ended remaining origins a shown sources (Ok done) e all says w =
 ended {I} remaining origins a shown sources (Err x) e why says w =
     unread_ends remaining origins a sources why.0 x
     (subst (λ (ss : List (Source I)). why.0 < length ss) e why.1) why.2 w
-
-pub on_ok : {A E P Q : Type 0} (r : Result A E) → OnOk r P → (P → Q) → OnOk r Q
-on_ok (Ok a) p f = f p
-on_ok (Err e) p f = tt
 
 ------ counts of transactions
 

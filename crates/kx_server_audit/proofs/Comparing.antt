@@ -1,8 +1,9 @@
 -- Logs that are compared, and what an audit then finds and tells.
-use Rattle.std.proofs.Common.{◌≡◌, ◌∷◌, ℕ, zero, suc, All, Bool, Err, IfErr, IfOk, IsTrue, List, [], MatchResult}
-use Rattle.std.proofs.Common.{Ok, OnOk, None, Option, Result, Some, drop, false, is_some, length, refl, slice_get, subst, sym}
+use Rattle.std.proofs.Common.{◌≡◌, ◌∷◌, ℕ, zero, suc, All, Bool, IfErr, IsTrue, List, [], None}
+use Rattle.std.proofs.Common.{Option, Result, Some, drop, false, is_some, length, refl, slice_get, subst, sym}
 use Rattle.std.proofs.lemmas.Bool.{false≢true}
 use Rattle.std.proofs.lemmas.List.Elements.{All-cons, All-nil, All-same}
+use Rattle.std.proofs.lemmas.Result.{IfErr-weaker}
 use Rattle.kx_log.specs.Store.{StoreState}
 use Rattle.kx_machines.specs.declared.broker.BrokerMachine.{BrokerMachine}
 use Rattle.kx_server_audit.specs.Counting.{decided_in}
@@ -34,31 +35,7 @@ pub all_more : (m : BrokerMachine StoreState) (ms old : List (BrokerMachine Stor
     → old ≡ m ∷ ms → HasLog m → All HasLog ms → All HasLog old
 all_more m ms old e has all = All-same HasLog old (m ∷ ms) e (All-cons HasLog m ms has all)
 
--- what holds where a call succeeded
-pub on_ok_so : {T E P Q : Type 0} (r : Result T E) → (P → Q) → OnOk r P → OnOk r Q
-on_ok_so (Ok x) so p = so p
-on_ok_so (Err e) so p = tt
-
-pub match_ok : {T E : Type 0} (r : Result T E) (x : T) (P : T → Type 0) (Q : E → Type 0) → r ≡ Ok x
-    → MatchResult r P Q → P x
-match_ok (Ok y) x P Q e h = let same : y ≡ x = cc in subst P same h
-match_ok (Err y) x P Q e h = absurd cc
-
-pub match_err : {T E : Type 0} (r : Result T E) (x : E) (P : T → Type 0) (Q : E → Type 0) → r ≡ Err x
-    → MatchResult r P Q → Q x
-match_err (Ok y) x P Q e h = absurd cc
-match_err (Err y) x P Q e h = let same : y ≡ x = cc in subst Q same h
-
-pub if_err : {T E : Type 0} (r : Result T E) (P Q : E → Type 0) → ((e : E) → P e → Q e) → IfErr r P
-    → IfErr r Q
-if_err (Ok x) P Q so h = tt
-if_err (Err e) P Q so h = so e h
-
-pub if_ok : {T E : Type 0} (r : Result T E) (P Q : T → Type 0) → ((x : T) → P x → Q x) → IfOk r P
-    → IfOk r Q
-if_ok (Ok x) P Q so h = so x h
-if_ok (Err e) P Q so h = tt
-
+-- an option that is there
 pub some_so : {A : Type 0} (o : Option A) (x : A) → o ≡ Some x → IsTrue (is_some o)
 some_so (Some y) x e = refl
 some_so None x e = cc
@@ -71,7 +48,7 @@ if_no (stop.Fault why) P Q so h = tt
 
 pub if_err_no : {T : Type 0} (r : Result T Stop) (P Q : Denial → Type 0) → ((d : Denial) → P d → Q d)
     → IfErr r (λ s. IfNo s P) → IfErr r (λ s. IfNo s Q)
-if_err_no r P Q so h = if_err r (λ s. IfNo s P) (λ s. IfNo s Q) (λ s. if_no s P Q so) h
+if_err_no r P Q so h = IfErr-weaker r (λ s. IfNo s P) (λ s. IfNo s Q) (λ s. if_no s P Q so) h
 
 in_front : (m : BrokerMachine StoreState) (ms : List (BrokerMachine StoreState)) (k : ℕ)
     (x : BrokerMachine StoreState) → slice_get (m ∷ []) k ≡ Some x → slice_get (m ∷ ms) k ≡ Some x

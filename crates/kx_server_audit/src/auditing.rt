@@ -64,8 +64,12 @@ pub struct ServerAudit {
     tells_progress: bool,
 }
 
-// How an audit ends that refuses at a trace.
-fn refused_at<I: Read + Drop>(trace: usize, source: &Source<I>, why: TraceRefusal) -> Ending
+/// How an audit ends that refuses at a trace.
+pub(crate) fn refused_at<I: Read + Drop>(
+    trace: usize,
+    source: &Source<I>,
+    why: TraceRefusal,
+) -> Ending
     ensures { RefusesAt trace why result }
 {
     match why {
@@ -110,8 +114,12 @@ fn feed(audit: &mut TraceAudit<ServerNode>, trace: usize, bytes: &[u8]) -> Resul
 }
 
 impl ServerAudit {
-    // The audit of traces of which nothing was read after their heads.
-    fn new(
+    /// The audit of traces of which nothing was read after their heads.
+    ///
+    /// # Errors
+    ///
+    /// `DuplicateNode` where two traces are of one node; `Memory` where memory runs out.
+    pub(crate) fn new(
         alloc: Global,
         traces: &[TraceOf],
         tells_progress: bool,
@@ -185,8 +193,12 @@ impl ServerAudit {
         }
     }
 
-    // Goes on by one item of a trace, or reads on where it needs that; says whether it did.
-    fn go_on<R: Eprint, I: Read + Drop>(
+    /// Goes on by one item of a trace, or reads on where it needs that; says whether it did.
+    ///
+    /// # Errors
+    ///
+    /// As [`Ending`] has them.
+    pub(crate) fn go_on<R: Eprint, I: Read + Drop>(
         &mut self,
         rt: &R,
         trace: usize,

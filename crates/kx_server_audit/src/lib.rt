@@ -39,4 +39,4 @@ pub use logs::{log_is, whole_len};
 pub use server::{AuditOptions, audit_server};
 pub use server_node::ServerNode;
 pub use sources::Source;
-pub use steps::{ServerStep, end_steps, server_steps};
+pub use steps::{end_steps, server_steps};

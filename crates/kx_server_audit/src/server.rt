@@ -28,8 +28,8 @@ pub struct AuditOptions<'a> {
     pub tells_progress: bool,
 }
 
-// What it is to an audit of a server where the audit of these traces ends so.
-fn stop_at(of: &[TraceOf], ending: Ending) -> Stop
+/// What it is to an audit of a server where the audit of these traces ends so.
+pub(crate) fn stop_at(of: &[TraceOf], ending: Ending) -> Stop
     ensures { IfNo result (IsItemOf of.now ending) }
 {
     match ending {

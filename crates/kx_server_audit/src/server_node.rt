@@ -10,7 +10,7 @@ use kx_machines::{BrokerMachine, LocalStore, local_coordinator, local_server};
 use kx_message::NodeId;
 use kx_nodes::Made;
 use kx_trace::TracedNode;
-use kx_trace_audit::Server;
+use kx_trace_audit::{Server, node_name};
 use std::alloc::{AllocError, Global};
 
 /// A node of a server, which is made with an empty log in memory.
@@ -37,10 +37,7 @@ impl Made for ServerNode {
     ghost state = { λ server. node_of (making_of server.node) };
 
     fn name(&self) -> NodeId {
-        match self.node {
-            TracedNode::Coordinator => NodeId::Coordinator,
-            TracedNode::Partition(number) => NodeId::Partition(number),
-        }
+        node_name(self.node)
     }
 }
 

@@ -1,87 +1,62 @@
 //! The steps of a server, by the traces that it left, for a page.
+use crate::auditing::{Ending, ServerAudit, refused_at};
 use crate::denial::Stop;
 use crate::fault::AuditFault;
-use crate::file::AuditFile;
-use crate::server::{AuditOptions, find};
-use crate::server_node::ServerNode;
-use crate::traces::{Traces, read_fault};
-use kx_machine::{Input, StoreMode};
-use kx_message::NodeId;
-use kx_nodes::Made;
-use kx_trace::TracedNode;
-use kx_trace_audit::{Progress, Server, ToldStep, TraceAudit, TraceOf, TraceRefusal};
+use crate::server::{AuditOptions, find, stop_at};
+use crate::sources::Source;
+use crate::traces::Traces;
+use kx_trace_audit::ToldStep;
 use std::alloc::{AllocError, Global};
 use std::fs::{File, Files};
-use std::io;
 use std::io::Read;
-
-/// A step of a server's node: what it took, and what its store did meanwhile.
-#[derive(Drop)]
-pub struct ServerStep {
-    pub node: NodeId,
-    pub input: Input,
-    pub store: StoreMode,
-}
 
 /// Drops steps. A crate that ends them by this call, and not by dropping them, need not prove the drop
 /// of each of their types.
-pub fn end_steps(steps: Vec<ServerStep>) {
+pub fn end_steps(steps: Vec<ToldStep>) {
     drop(steps);
 }
 
-// The node that a trace names.
-fn name_of(node: TracedNode) -> NodeId {
-    ServerNode { node }.name()
-}
-
-// Keeps a node's step, if one is told.
-fn keep(
-    steps: &mut Vec<ServerStep>,
-    node: NodeId,
-    told: Option<ToldStep>,
-) -> Result<(), AllocError> {
-    let Some(told) = told else {
-        return Ok(());
-    };
-    steps.push(ServerStep {
-        node,
-        input: told.input,
-        store: told.store,
-    })?;
+// Keeps a step, if one is told.
+fn keep(steps: &mut Vec<ToldStep>, told: Option<ToldStep>) -> Result<(), AllocError> {
+    if let Some(step) = told {
+        steps.push(step)?;
+    }
     Ok(())
 }
 
-// Makes the next step of a trace again, if it can be made now, and keeps it; says whether the trace
-// went on.
-fn go_on<B: Server>(
-    audit: &mut TraceAudit<B>,
+// Goes on by one item of a trace, or reads on where it needs that, and keeps the step that is made;
+// says whether the trace went on.
+fn go_on<R: Eprint, I: Read + Drop>(
+    rt: &R,
+    audit: &mut ServerAudit,
     trace: usize,
-    node: NodeId,
-    steps: &mut Vec<ServerStep>,
-) -> Result<bool, TraceRefusal> {
-    let told = audit.next(trace)?;
-    let went = audit.go(trace);
-    if let Ok(Progress::Made { .. }) = went {
-        keep(steps, node, told)?;
-        return Ok(true);
+    source: &mut Source<I>,
+    steps: &mut Vec<ToldStep>,
+) -> Result<bool, Ending> {
+    let told = match audit.audit.next(trace) {
+        Ok(told) => told,
+        Err(why) => return Err(refused_at(trace, source, why)),
+    };
+    let went_on = audit.go_on(rt, trace, source);
+    if matches!(went_on, Ok(true)) {
+        keep(steps, told)?;
+    } else {
+        drop(told);
     }
-    drop(told);
-    match went {
-        Ok(progress) => Ok(matches!(progress, Progress::NotTaken)),
-        Err(refusal) => Err(refusal),
-    }
+    went_on
 }
 
-// Goes on by an item in each of these traces, one after the other, until none goes on.
-fn go_all<B: Server>(
-    audit: &mut TraceAudit<B>,
-    of: &[TraceOf],
-    steps: &mut Vec<ServerStep>,
-) -> Result<(), TraceRefusal> {
+// Goes on by an item in each trace, one after the other, until none goes on.
+fn go_all<R: Eprint, I: Read + Drop>(
+    rt: &R,
+    audit: &mut ServerAudit,
+    sources: &mut Vec<Source<I>>,
+    steps: &mut Vec<ToldStep>,
+) -> Result<(), Ending> {
     for _ in 0..u64::MAX {
         let mut went_on = false;
-        for (trace, one) in of.iter().enumerate() {
-            went_on |= go_on(audit, trace, name_of(one.node), steps)?;
+        for trace in 0..sources.len() {
+            went_on |= go_on(rt, audit, trace, &mut sources[trace], steps)?;
         }
         if !went_on {
             break;
@@ -90,73 +65,43 @@ fn go_all<B: Server>(
     Ok(())
 }
 
-// Feeds all bytes that are left of a trace.
-fn feed_all<B: Server, I: Read>(
+// The steps of traces that were found.
+fn steps_in<R: Eprint>(
+    rt: &R,
     alloc: Global,
-    audit: &mut TraceAudit<B>,
-    trace: usize,
-    reader: &mut I,
-) -> io::Result<()> {
-    let mut bytes = Vec::new(alloc);
-    reader.read_to_end(&mut bytes)?;
-    audit.feed(trace, bytes.as_slice())?;
-    audit.feed(trace, &[])?;
-    Ok(())
-}
-
-// Feeds all bytes of traces that were found.
-fn feed_traces<B: Server>(
-    alloc: Global,
-    audit: &mut TraceAudit<B>,
     traces: &mut Traces<File>,
-) -> Result<(), AuditFault> {
-    let sources = traces.sources.iter_mut();
-    for (trace, (source, one)) in sources.zip(traces.of.iter()).enumerate() {
-        if let Err(error) = feed_all(alloc, audit, trace, &mut source.reader) {
-            return Err(read_fault(AuditFile::Trace(one.node), error.kind()));
-        }
-    }
-    Ok(())
-}
-
-// The steps of traces that were found, of nodes that are made as B says.
-fn steps_in<B: Server>(
-    alloc: Global,
-    mut traces: Traces<File>,
-) -> Result<Vec<ServerStep>, AuditFault> {
-    let Ok(mut audit) = TraceAudit::<B>::new(alloc, traces.of.as_slice()) else {
-        drop(traces);
+) -> Result<Vec<ToldStep>, AuditFault> {
+    let Ok(mut audit) = ServerAudit::new(alloc, traces.of.as_slice(), false) else {
         return Err(AuditFault::Memory);
     };
     let mut steps = Vec::new(alloc);
-    let fed = feed_traces(alloc, &mut audit, &mut traces);
-    if fed.is_ok() {
-        let _ = go_all(&mut audit, traces.of.as_slice(), &mut steps);
-    }
+    let ended = go_all(rt, &mut audit, &mut traces.sources, &mut steps);
     drop(audit);
-    drop(traces);
-    match fed {
-        Ok(()) => Ok(steps),
-        Err(fault) => {
+    if let Err(ending) = ended {
+        if let Stop::Fault(fault) = stop_at(traces.of.as_slice(), ending) {
             end_steps(steps);
-            Err(fault)
+            return Err(fault);
         }
     }
+    Ok(steps)
 }
 
 /// The steps of a server by the traces that it left in a folder, in an order in which an audit makes
-/// them again, up to where it refuses or no trace goes on. All bytes of the traces are kept in memory
-/// meanwhile.
+/// them again, up to where it refuses or no trace goes on.
 ///
 /// # Errors
 ///
 /// As [`AuditFault`] has them.
-pub fn server_steps<R: Files<File = File> + AllocGlobal>(
+pub fn server_steps<R: Files<File = File> + AllocGlobal + Eprint>(
     rt: &R,
     options: &AuditOptions<'_>,
-) -> Result<Vec<ServerStep>, AuditFault> {
+) -> Result<Vec<ToldStep>, AuditFault> {
     match find(rt, options) {
-        Ok(traces) => steps_in::<ServerNode>(rt.alloc(), traces),
+        Ok(mut traces) => {
+            let steps = steps_in(rt, rt.alloc(), &mut traces);
+            drop(traces);
+            steps
+        }
         Err(Stop::No(_)) => Ok(Vec::new(rt.alloc())),
         Err(Stop::Fault(fault)) => Err(fault),
     }

@@ -1,9 +1,9 @@
 use Rattle.std.proofs.Common.{◌∙◌, IsTrue, None, ap, is_some, length}
+use Rattle.std.proofs.lemmas.Result.{IfOk-weaker, MatchResult-at_err, MatchResult-at_ok}
 use Rattle.kx_server_audit.specs.Denials.{IsItemOf, IsLogDenied, IsStopped}
 use Rattle.kx_server_audit.specs.Telling.{AreFindings, SaysNoOf, machines_in}
 use Rattle.kx_server_audit.specs.declared.findings.Findings.{Findings}
-use Rattle.kx_server_audit.proofs.Comparing.{if_no, if_ok, item_no, log_no, match_err, match_ok}
-use Rattle.kx_server_audit.proofs.Comparing.{stopped_finds}
+use Rattle.kx_server_audit.proofs.Comparing.{if_no, item_no, log_no, stopped_finds}
 use Rattle.kx_server_audit.proofs.server.audit_in.Goals as goal
 
 pub returns-in-Err : goal.returns-in-Err
@@ -18,12 +18,12 @@ returns-in-Err g c =
       denial = None;
     } in
     let count = ap length c.as_slice-of.ensures.value ∙ c.requires.count in
-    let ends = match_err c.in-Ok.ended _ _ _ c.in-Err.is c.in-Ok.ensures in
+    let ends = MatchResult-at_err _ _ _ c.in-Err.is c.in-Ok.ensures in
     let denied = if_no c.stop_at.result (IsItemOf of c.in-Err.ending)
     (SaysNoOf compares counts transactions) (λ d is. item_no _ of c.args.traces.now.sources.items
     count compares c.in-Ok.audit counts transactions c.counts.ensures c.transactions.ensures
     c.in-Err.ending d ends is) c.stop_at.ensures in
-    if_ok c.stopped.result (IsStopped c.stop_at.result found) (AreFindings compares)
+    IfOk-weaker c.stopped.result (IsStopped c.stop_at.result found) (AreFindings compares)
     (λ f so. stopped_finds compares c.stop_at.result found f denied so) c.stopped.ensures
 
 pub returns-in-Err-compare : goal.returns-in-Err-compare
@@ -39,13 +39,13 @@ returns-in-Err-compare g c =
       denial = None;
     } in
     let count = ap length c.as_slice-of.ensures.value ∙ c.requires.count in
-    let says = match_ok c.in-Ok.ended _ _ _ c.in_default-ended.is c.in-Ok.ensures in
+    let says = MatchResult-at_ok _ _ _ c.in_default-ended.is c.in-Ok.ensures in
     let denied = if_no c.in-Err-compare.stop
     (λ d. IsTrue compares × IsLogDenied (machines_in audit) of d)
     (SaysNoOf compares counts transactions) (λ d h. log_no _ of c.args.traces.now.sources.items count
     compares audit counts transactions c.counts.ensures c.transactions.ensures d says h)
     c.in-Err-compare.ensures.no in
-    if_ok c.stopped-in-Err-compare.result (IsStopped c.in-Err-compare.stop found)
+    IfOk-weaker c.stopped-in-Err-compare.result (IsStopped c.in-Err-compare.stop found)
     (AreFindings compares)
     (λ f so. stopped_finds compares c.in-Err-compare.stop found f denied so)
     c.stopped-in-Err-compare.ensures
@@ -54,7 +54,7 @@ pub returns-in-Ok-compare : goal.returns-in-Ok-compare
 returns-in-Ok-compare g c = record {
   origins = _;
   audit = c.in-Ok.audit;
-  says = match_ok c.in-Ok.ended _ _ _ c.in_default-ended.is c.in-Ok.ensures;
+  says = MatchResult-at_ok _ _ _ c.in_default-ended.is c.in-Ok.ensures;
   counts_are = c.counts.ensures;
   transactions_are = c.transactions.ensures;
   logs = c.in-Ok-compare.ensures.ok;

@@ -1,14 +1,15 @@
 use Rattle.std.proofs.Common.{All, IsTrue, List, is_some, subst}
+use Rattle.std.proofs.lemmas.Result.{on_ok_weaker}
 use Rattle.kx_log.specs.Store.{StoreState}
 use Rattle.kx_machines.specs.declared.broker.BrokerMachine.{BrokerMachine}
 use Rattle.kx_server_audit.specs.Denials.{IsLogDenied}
 use Rattle.kx_server_audit.specs.Telling.{HasLog, machines_in}
-use Rattle.kx_server_audit.proofs.Comparing.{if_err_no, on_ok_so, some_so}
+use Rattle.kx_server_audit.proofs.Comparing.{if_err_no, some_so}
 use Rattle.kx_server_audit.proofs.server.compare.Goals as goal
 
 pub returns-in_ok-machines-in-Some-clause-ok : goal.returns-in_ok-machines-in-Some-clause-ok
 returns-in_ok-machines-in-Some-clause-ok g c =
-    on_ok_so c.compare_logs.result (λ all compares.
+    on_ok_weaker c.compare_logs.result (λ all compares.
     subst (All HasLog) c.in_ok-machines-in-Some.ensures all) c.compare_logs.ensures.ok
 
 pub returns-in_ok-machines-in-Some-clause-no : goal.returns-in_ok-machines-in-Some-clause-no
