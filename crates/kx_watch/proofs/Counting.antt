@@ -2,6 +2,8 @@
 use Rattle.std.proofs.Common.{◌≡◌, ◌∙◌, ◌+◌, ◌++◌, ◌∷◌, [], ℕ, List, ap, arith, append_assoc, length}
 use Rattle.std.proofs.Common.{length-append, refl, sym}
 use Rattle.std.proofs.lemmas.List.{length-map}
+use Rattle.std.specs.Prelude.{Err, IfOk, IsOk, Ok, OnOk, Result}
+use Rattle.kx_page.specs.declared.run.Run.{Run}
 use Rattle.kx_page.specs.declared.run.Step.{Step}
 use Rattle.kx_view.specs.Recording.{AddsStep, TellSame, words_of}
 use Rattle.kx_watch.specs.Steps.{AddsSteps}
@@ -23,3 +25,13 @@ then_more a b old mid new first second = (
 pub as_many : (before after : List Step) → TellSame before after → length after ≡ length before
 as_many before after same =
     sym (length-map after words_of) ∙ ap length same ∙ length-map before words_of
+
+-- a run has as many steps as were recorded, since there is one only if watching didn't fail
+pub has_steps : {T E F : Type 0} (n : ℕ) (recorded : List Step) (watched : Result T E)
+    (result : Result Run F) → OnOk watched (length recorded ≡ n)
+    → IfOk result (λ run. TellSame recorded run.steps.items) → OnOk result (IsOk watched)
+    → IfOk result (λ run. length run.steps.items ≡ n)
+has_steps n recorded watched (Err failed) counted same ok = tt
+has_steps n recorded (Err failed) (Ok run) counted same ok = absurd cc
+has_steps n recorded (Ok done) (Ok run) counted same ok =
+    as_many recorded run.steps.items same ∙ counted

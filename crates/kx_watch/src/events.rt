@@ -32,11 +32,6 @@ pub fn run_of_events(
     ensures title { IfOk result (λ run. run.title.now ≡ title.now) }
 {
     let mut watched = Watched::new(alloc, all_partitions())?;
-    match watch_all(&mut watched, events) {
-        Ok(()) => watched.into_run(alloc, title),
-        Err(error) => {
-            watched.end();
-            Err(error)
-        }
-    }
+    let happened = watch_all(&mut watched, events);
+    watched.into_run(title, happened)
 }

@@ -12,4 +12,4 @@ mod world;
 
 pub use events::run_of_events;
 pub use script::run_of_script;
-pub use server::ServerWatch;
+pub use world::{Watched, all_partitions};

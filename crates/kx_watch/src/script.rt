@@ -67,11 +67,6 @@ pub fn run_of_script(alloc: Global, title: &'static str, script: &[u8]) -> Resul
         return Recorder::new(alloc).into_run(title);
     };
     let mut watched = Watched::new(alloc, partitions)?;
-    match take_lines(alloc, &mut watched, rest) {
-        Ok(()) => watched.into_run(alloc, title),
-        Err(error) => {
-            watched.end();
-            Err(error)
-        }
-    }
+    let taken = take_lines(alloc, &mut watched, rest);
+    watched.into_run(title, taken)
 }

@@ -1,7 +1,9 @@
 //! A world in which an event happens and is watched.
-ghost use Rattle.std.specs.Prelude.{◌≡◌, [], IfOk, OnErr, OnOk};
+ghost use Rattle.std.specs.Prelude.{◌≡◌, [], IfOk, IsOk, OnErr, OnOk};
+ghost use Rattle.kx_message.specs.Ranges.{data_partitions};
 ghost use Rattle.kx_view.specs.Recording.{AddsStep, TellSame};
 
+use crate::transit::Transit;
 use kx_core::{Event, Happened, PartitionCount, Sent};
 use kx_machines::LocalStore;
 use kx_message::{NodeId, PartitionId};
@@ -124,15 +126,20 @@ fn add_logs(alloc: Global, recorder: &mut Recorder, running: &Running) -> Result
 }
 
 /// As many data partitions as a world can have.
-pub(crate) fn all_partitions() -> PartitionCount {
+pub fn all_partitions() -> PartitionCount
+    ensures { result ≡ data_partitions }
+{
     PartitionCount::new(PartitionId::DATA_COUNT).unwrap()
 }
 
 /// A world that is watched: each event that happens in it is recorded. It ends by
-/// [`into_run`](Watched::into_run) or [`end`](Watched::end).
-pub(crate) struct Watched {
+/// [`into_run`](Watched::into_run), which drops it.
+pub struct Watched {
+    alloc: Global,
     pub(crate) recorder: Recorder,
     pub(crate) running: Running,
+    // what the nodes of a server sent to each other; nothing in other worlds
+    pub(crate) transit: Transit,
 }
 
 impl Model for Watched {
@@ -150,13 +157,15 @@ impl Watched {
     /// # Errors
     ///
     /// Only where memory runs out.
-    pub(crate) fn new(alloc: Global, partitions: PartitionCount) -> Result<Watched, AllocError>
+    pub fn new(alloc: Global, partitions: PartitionCount) -> Result<Watched, AllocError>
         ensures { IfOk result (λ watched. watched ≡ []) }
     {
         let running = Running::new(alloc, partitions)?;
         Ok(Watched {
+            alloc,
             recorder: Recorder::new(alloc),
             running,
+            transit: Transit::new(alloc),
         })
     }
 
@@ -177,20 +186,32 @@ impl Watched {
         Ok(happened)
     }
 
-    /// The run that was watched, of this title, with the logs to which it led.
+    /// The run that was watched, of this title, with the logs to which it led; where watching failed,
+    /// that failure.
     ///
     /// # Errors
     ///
-    /// Only where memory runs out.
-    pub(crate) fn into_run(self, alloc: Global, title: &'static str) -> Result<Run, AllocError>
+    /// Only where memory runs out, or ran out while the world was watched.
+    pub fn into_run(
+        self,
+        title: &'static str,
+        watched: Result<(), AllocError>,
+    ) -> Result<Run, AllocError>
         ensures steps { IfOk result (λ run. TellSame self run.steps.items) }
         ensures title { IfOk result (λ run. run.title.now ≡ title.now) }
+        ensures ok { OnOk result (IsOk watched) }
     {
         let Watched {
+            alloc,
             mut recorder,
             running,
+            transit,
         } = self;
-        let added = add_logs(alloc, &mut recorder, &running);
+        drop(transit);
+        let added = match watched {
+            Ok(()) => add_logs(alloc, &mut recorder, &running),
+            Err(error) => Err(error),
+        };
         running.end();
         match added {
             Ok(()) => recorder.into_run(title),
@@ -199,12 +220,5 @@ impl Watched {
                 Err(error)
             }
         }
-    }
-
-    /// Drops all that was watched.
-    pub(crate) fn end(self) {
-        let Watched { recorder, running } = self;
-        recorder.end();
-        running.end();
     }
 }
