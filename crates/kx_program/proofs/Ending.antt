@@ -3,6 +3,7 @@ use Rattle.std.proofs.Common.{◌≡◌, ◌∙◌, ◌⊎◌, ℕ, List, Bool, 
 use Rattle.std.proofs.Common.{inl, inr, IfSome, MatchResult, refl, subst, sym}
 use Rattle.std.specs.Prelude.{OnOk}
 use Rattle.std.specs.Io.KnownBytes.{Appends, Keeps}
+use Rattle.std.proofs.KnownBytes.{Appends-kept, Keeps-refl}
 use Rattle.kx_demo.specs.Telling.{Tells, SaysYes, SaysNo, GaveUp, Fails}
 use Rattle.kx_demo.specs.declared.fault.DemoFault.{DemoFault}
 use Rattle.kx_program.specs.Program.{Audits, DumpsBytes, DumpsFile, Plays, ServesStock}
@@ -33,32 +34,25 @@ file_dumped bytes (Ok v) old new how told = (Some (bytes v), told)
 file_dumped bytes (Err e) old new how told = (None, told)
 
 -- a flush keeps what was appended
-appends_kept : (old mid new : Option (List ℕ)) (text : List ℕ) → Appends old mid text
-    → Keeps mid new → Appends old new text
-appends_kept None mid new text appended kept = tt
-appends_kept (Some xs) None new text appended kept = absurd appended
-appends_kept (Some xs) (Some ys) None text appended kept = absurd kept
-appends_kept (Some xs) (Some ys) (Some zs) text appended kept = kept ∙ appended
-
 tells_kept : (old mid new : Option (List ℕ)) (played : Result Bool DemoFault) → Keeps mid new
     → Tells old mid played → Tells old new played
 tells_kept old mid new _ kept (SaysYes run audited told) = SaysYes run audited (record {
   counts = told.counts;
   counted = told.counted;
-  printed = appends_kept old mid new _ told.printed kept;
+  printed = Appends-kept old mid new _ told.printed kept;
 })
 tells_kept old mid new _ kept (SaysNo trails receipts why refused printed) =
-    SaysNo trails receipts why refused (appends_kept old mid new _ printed kept)
-tells_kept old mid new _ kept (GaveUp printed) = GaveUp (appends_kept old mid new _ printed kept)
+    SaysNo trails receipts why refused (Appends-kept old mid new _ printed kept)
+tells_kept old mid new _ kept (GaveUp printed) = GaveUp (Appends-kept old mid new _ printed kept)
 tells_kept old mid new _ kept (Fails why other) = Fails why other
 
 audit_kept : (compares : Bool) (old mid new : Option (List ℕ))
     (audited : Result Bool AuditFault) → Keeps mid new → audit.Tells compares old mid audited
     → audit.Tells compares old new audited
 audit_kept compares old mid new _ kept (audit.TellsYes f words none says printed) =
-    audit.TellsYes f words none says (appends_kept old mid new _ printed kept)
+    audit.TellsYes f words none says (Appends-kept old mid new _ printed kept)
 audit_kept compares old mid new _ kept (audit.TellsNo f words denial some why printed) =
-    audit.TellsNo f words denial some why (appends_kept old mid new _ printed kept)
+    audit.TellsNo f words denial some why (Appends-kept old mid new _ printed kept)
 audit_kept compares old mid new _ kept (audit.Fails why) = audit.Fails why
 
 -- the audit of a server, and a flush after it
@@ -86,13 +80,9 @@ pub stock_served : (served : Result (Unit {0}) ServeFault) (old new : Option (Li
 stock_served (Ok done) old new how listens is = subst (ServesStock old new) (sym is) listens
 stock_served (Err fault) old new how listens is = subst (ServesStock old new) (sym is) tt
 
-keeps_same : (known : Option (List ℕ)) → Keeps known known
-keeps_same None = tt
-keeps_same (Some xs) = refl
-
 -- the topics that were asked for are wrong
 pub stock_refused : (known : Option (List ℕ)) (how : Ending)
     → (how ≡ ending.Failed) ⊎ (how ≡ ending.WrongArguments) → ServesStock known known how
 stock_refused known how (inl failed) = subst (ServesStock known known) (sym failed) tt
 stock_refused known how (inr wrong) =
-    subst (ServesStock known known) (sym wrong) (keeps_same known)
+    subst (ServesStock known known) (sym wrong) (Keeps-refl known)

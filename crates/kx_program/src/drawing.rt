@@ -9,9 +9,10 @@ ghost use Rattle.kx_text.specs.declared.program.Ending.TheVariants as ending;
 use crate::streams::{failed, sim};
 use crate::task::Pictures;
 use kx_page::{Run, diagram, page};
-use kx_server_audit::{AuditOptions, ServerStep, end_steps, server_steps};
+use kx_server_audit::{AuditOptions, end_steps, server_steps};
 use kx_text::{Ending, ScriptFault};
-use kx_watch::{ServerWatch, run_of_script};
+use kx_trace_audit::ToldStep;
+use kx_watch::{Watched, all_partitions, run_of_script};
 use std::alloc::{AllocError, Global};
 use std::fs;
 use std::fs::{File, Files};
@@ -123,32 +124,27 @@ pub(crate) fn sim_with<R: Files<File = File> + AllocGlobal, I: BufRead, O: Write
 }
 
 // Each step of a server is made again, and watched.
-fn take_all(watch: &mut ServerWatch, steps: &[ServerStep]) -> Result<(), AllocError>
-    ensures { OnOk result (AddsSteps (rows_of steps.now) watch.old watch.new) }
+fn take_all(watched: &mut Watched, steps: &[ToldStep]) -> Result<(), AllocError>
+    ensures { OnOk result (AddsSteps (rows_of steps.now) watched.old watched.new) }
 {
     for step in steps {
-        watch.take(step.node, &step.input, step.store)?;
+        watched.take(step.node, &step.input, step.store)?;
     }
     Ok(())
 }
 
 // The run that these steps of a server are.
-fn server_run(alloc: Global, steps: &[ServerStep]) -> Result<Run, AllocError>
+fn server_run(alloc: Global, steps: &[ToldStep]) -> Result<Run, AllocError>
     ensures { IfOk result (λ run. length run.steps.items ≡ rows_of steps.now) }
 {
-    let mut watch = ServerWatch::new(alloc)?;
-    match take_all(&mut watch, steps) {
-        Ok(()) => watch.into_run("A server"),
-        Err(error) => {
-            watch.end();
-            Err(error)
-        }
-    }
+    let mut watched = Watched::new(alloc, all_partitions())?;
+    let taken = take_all(&mut watched, steps);
+    watched.into_run("A server", taken)
 }
 
 /// Draws the steps of a server into the file at this path, by the traces that it left, and says
 /// whether the page stands there. If not, a line on standard error says why.
-pub(crate) fn draw_server<R: Files<File = File> + AllocGlobal, E: Write>(
+pub(crate) fn draw_server<R: Files<File = File> + AllocGlobal + Eprint, E: Write>(
     rt: &R,
     options: &AuditOptions<'_>,
     path: &str,

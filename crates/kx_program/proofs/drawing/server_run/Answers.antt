@@ -1,18 +1,16 @@
-use Rattle.std.proofs.Common.{◌≡◌, ◌∙◌, [], List, ap, arith, length, length-append}
-use Rattle.std.proofs.lemmas.Result.{IfOk-weaker}
+use Rattle.std.proofs.Common.{◌∙◌, List, ap, arith, length, length-append}
+use Rattle.std.proofs.lemmas.Result.{on_ok_weaker}
 use Rattle.kx_page.specs.declared.run.Step.{Step}
-use Rattle.kx_watch.proofs.Counting.{as_many}
-use Rattle.kx_watch.specs.Steps.{AddsSteps}
+use Rattle.kx_watch.proofs.Counting.{has_steps}
 use Rattle.kx_program.specs.Drawing.{rows_of}
 use Rattle.kx_program.proofs.drawing.server_run.Goals as goal
 
-pub returns-in-Ok : goal.returns-in-Ok
-returns-in-Ok c =
-    let start : c.in_ok-watch.watch ≡ [] = c.in_ok-watch.ensures in
-    let adds : AddsSteps (rows_of c.args.steps.now) c.in_ok-watch.watch c.take_all.new.watch =
-    c.in-Ok.ensures in
-    let count : length c.take_all.new.watch ≡ rows_of c.args.steps.now =
-    ap length adds.2 ∙ length-append c.in_ok-watch.watch adds.0
-    ∙ omega (arith, ap (λ (s : List Step). length s) start, adds.1) in
-    IfOk-weaker c.into_run.result _ _
-    (λ run same. as_many c.take_all.new.watch run.steps.items same ∙ count) c.into_run.ensures.steps
+pub returns : goal.returns
+returns c =
+    let rows = rows_of c.args.steps.now in
+    let old = c.in_ok-watched.watched in
+    has_steps rows c.take_all-taken.new.watched c.take_all-taken.result c.into_run.result
+    (on_ok_weaker c.take_all-taken.result (λ adds.
+    ap length adds.2 ∙ length-append old adds.0
+    ∙ omega (arith, ap (λ (s : List Step). length s) c.in_ok-watched.ensures, adds.1))
+    c.take_all-taken.ensures) c.into_run.ensures.steps c.into_run.ensures.ok
