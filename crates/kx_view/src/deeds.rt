@@ -4,7 +4,7 @@ use crate::seen::{Seen, Took};
 use crate::words::{by_outcome, name_of, word_of};
 use kx_client::ClientFault;
 use kx_machine::{Command, Input, Note};
-use kx_message::{EndTxn, ErrorCode, Held, InitReply, Message, Outcome, PartitionId, ProduceReply};
+use kx_message::{ErrorCode, Held, InitReply, Message, Outcome, PartitionId, ProduceReply};
 use kx_page::{Mark, Rule};
 use kx_partition::Produced;
 use std::alloc::{AllocError, Global};
@@ -80,10 +80,10 @@ fn with_id(words: &'static str, held: Held, rule: Option<Rule>) -> Deed {
     }
 }
 
-// A step that appended a batch.
-fn appended(seen: &Seen<'_>) -> Deed {
+// A step that appended a batch at an offset.
+fn appended(offset: i64) -> Deed {
     Deed {
-        title: Title::At("append at", seen.before.end),
+        title: Title::At("append at", offset),
         rule: Some(Rule::BATCH_APPENDED),
         mark: Mark::Batch,
     }
@@ -96,7 +96,55 @@ struct Line {
     rule: Rule,
 }
 
-const MARKER: [Line; 3] = [
+static BATCH: [Line; 9] = [
+    Line {
+        code: ErrorCode::MessageTooLarge,
+        words: "batch too large",
+        rule: Rule::BATCH_TOO_LARGE,
+    },
+    Line {
+        code: ErrorCode::CorruptMessage,
+        words: "corrupt batch",
+        rule: Rule::BATCH_UNREADABLE,
+    },
+    Line {
+        code: ErrorCode::UnsupportedCompressionType,
+        words: "compressed",
+        rule: Rule::BATCH_COMPRESSED,
+    },
+    Line {
+        code: ErrorCode::InvalidRecord,
+        words: "invalid record",
+        rule: Rule::BATCH_NOT_DATA,
+    },
+    Line {
+        code: ErrorCode::InvalidProducerEpoch,
+        words: "fenced: old epoch",
+        rule: Rule::BATCH_OLD_EPOCH,
+    },
+    Line {
+        code: ErrorCode::OutOfOrderSequenceNumber,
+        words: "out of order",
+        rule: Rule::BATCH_OUT_OF_ORDER,
+    },
+    Line {
+        code: ErrorCode::ConcurrentTransactions,
+        words: "not yet: concurrent",
+        rule: Rule::BATCH_EARLIER_OPEN,
+    },
+    Line {
+        code: ErrorCode::InvalidTxnState,
+        words: "invalid state",
+        rule: Rule::BATCH_OUTSIDE,
+    },
+    Line {
+        code: ErrorCode::KafkaStorageError,
+        words: "storage error",
+        rule: Rule::BATCH_CLOSED,
+    },
+];
+
+static MARKER: [Line; 3] = [
     Line {
         code: ErrorCode::NoError,
         words: "marker is there",
@@ -114,7 +162,7 @@ const MARKER: [Line; 3] = [
     },
 ];
 
-const INIT: [Line; 3] = [
+static INIT: [Line; 3] = [
     Line {
         code: ErrorCode::ConcurrentTransactions,
         words: "still preparing",
@@ -132,7 +180,7 @@ const INIT: [Line; 3] = [
     },
 ];
 
-const ADD: [Line; 5] = [
+static ADD: [Line; 5] = [
     Line {
         code: ErrorCode::NoError,
         words: "lists it",
@@ -160,7 +208,7 @@ const ADD: [Line; 5] = [
     },
 ];
 
-const END: [Line; 4] = [
+static END: [Line; 4] = [
     Line {
         code: ErrorCode::NoError,
         words: "ended already",
@@ -197,20 +245,29 @@ fn answered(answer: Option<ErrorCode>, lines: &[Line], other: Option<Rule>) -> D
     said(word_of(code), other)
 }
 
-// The line of the rules on batches by which a code is answered.
-fn batch_rule(code: ErrorCode) -> Option<Rule> {
-    match code {
-        ErrorCode::MessageTooLarge => Some(Rule::BATCH_TOO_LARGE),
-        ErrorCode::CorruptMessage => Some(Rule::BATCH_UNREADABLE),
-        ErrorCode::UnsupportedCompressionType => Some(Rule::BATCH_COMPRESSED),
-        ErrorCode::InvalidRecord => Some(Rule::BATCH_NOT_DATA),
-        ErrorCode::InvalidProducerEpoch => Some(Rule::BATCH_OLD_EPOCH),
-        ErrorCode::OutOfOrderSequenceNumber => Some(Rule::BATCH_OUT_OF_ORDER),
-        ErrorCode::ConcurrentTransactions => Some(Rule::BATCH_EARLIER_OPEN),
-        ErrorCode::InvalidTxnState => Some(Rule::BATCH_OUTSIDE),
-        ErrorCode::KafkaStorageError => Some(Rule::BATCH_CLOSED),
-        _ => None,
-    }
+// What a partition answered that appended no batch.
+fn batch_answered(answer: Option<ErrorCode>) -> Deed {
+    answered(answer, &BATCH, None)
+}
+
+// What a partition answered that appended no marker.
+fn marker_answered(answer: Option<ErrorCode>) -> Deed {
+    answered(answer, &MARKER, Some(Rule::MARKER_CLOSED))
+}
+
+// What the coordinator answered that gave no id.
+fn init_answered(answer: Option<ErrorCode>) -> Deed {
+    answered(answer, &INIT, None)
+}
+
+// What the coordinator answered that was asked to list a partition.
+fn add_answered(answer: Option<ErrorCode>) -> Deed {
+    answered(answer, &ADD, None)
+}
+
+// What the coordinator answered that ended no transaction.
+fn end_answered(answer: Option<ErrorCode>) -> Deed {
+    answered(answer, &END, None)
 }
 
 // Where a batch stands that arrived again, by the reply to it.
@@ -224,23 +281,22 @@ fn duplicate(sent: &[Message]) -> Deed {
 }
 
 // A partition that answered nothing asks the coordinator first, or the request isn't for it.
-fn unanswered(seen: &Seen<'_>) -> Deed {
-    if seen.sent.is_empty() {
-        said("not for it", None)
-    } else {
-        said("parked, asks", Some(Rule::BATCH_UNVERIFIED))
+fn unanswered(sent: &[Message]) -> Deed {
+    match sent {
+        [] => said("not for it", None),
+        _ => said("parked, asks", Some(Rule::BATCH_UNVERIFIED)),
     }
 }
 
 // What a partition did with a batch, or with the coordinator's answer on one that is parked.
 fn batch_arrived(seen: &Seen<'_>) -> Deed {
     if seen.has_appended() {
-        return appended(seen);
+        return appended(seen.before.end);
     }
     match answer_in(seen.sent) {
-        None => unanswered(seen),
+        None => unanswered(seen.sent),
         Some(ErrorCode::NoError) => duplicate(seen.sent),
-        Some(code) => said(word_of(code), batch_rule(code)),
+        answer => batch_answered(answer),
     }
 }
 
@@ -253,7 +309,7 @@ fn marker_arrived(seen: &Seen<'_>, outcome: Outcome) -> Deed {
             mark: Mark::Marker,
         };
     }
-    answered(answer_in(seen.sent), &MARKER, Some(Rule::MARKER_CLOSED))
+    marker_answered(answer_in(seen.sent))
 }
 
 // The id and the epoch that a reply gives.
@@ -278,37 +334,40 @@ fn given(sent: &[Message]) -> Deed {
 }
 
 // What the coordinator did with a request for an id.
-fn init_arrived(seen: &Seen<'_>) -> Deed {
-    match answer_in(seen.sent) {
-        Some(ErrorCode::NoError) => given(seen.sent),
-        Some(ErrorCode::ConcurrentTransactions) if has_marker(seen.sent) => {
+fn init_arrived(sent: &[Message]) -> Deed {
+    match answer_in(sent) {
+        Some(ErrorCode::NoError) => given(sent),
+        Some(ErrorCode::ConcurrentTransactions) if has_marker(sent) => {
             said("fences: aborts", Some(Rule::INIT_FENCES))
         }
-        answer => answered(answer, &INIT, None),
+        answer => init_answered(answer),
     }
 }
 
 // What the coordinator did with the end of a transaction.
-fn end_arrived(seen: &Seen<'_>, asked: &EndTxn) -> Deed {
-    match answer_in(seen.sent) {
-        Some(ErrorCode::NoError) if has_marker(seen.sent) => {
-            let words = by_outcome(asked.outcome, "prepares commit", "prepares abort");
+fn end_arrived(sent: &[Message], outcome: Outcome) -> Deed {
+    match answer_in(sent) {
+        Some(ErrorCode::NoError) if has_marker(sent) => {
+            let words = by_outcome(outcome, "prepares commit", "prepares abort");
             said(words, Some(Rule::ENDS))
         }
-        answer => answered(answer, &END, None),
+        answer => end_answered(answer),
     }
 }
 
 // What a node did with a group's request, by the rule for what it takes and for what it refuses.
 fn group_arrived(seen: &Seen<'_>, words: &'static str, taken: Rule, refused: Rule) -> Deed {
     match answer_in(seen.sent) {
-        None => unanswered(seen),
-        Some(ErrorCode::NoError) if seen.has_appended() => Deed {
+        None => unanswered(seen.sent),
+        Some(ErrorCode::NoError) => Deed {
             title: Title::Words(words),
             rule: Some(taken),
-            mark: Mark::Batch,
+            mark: if seen.has_appended() {
+                Mark::Batch
+            } else {
+                Mark::Dot
+            },
         },
-        Some(ErrorCode::NoError) => said(words, Some(taken)),
         Some(ErrorCode::IllegalGeneration) => {
             said("illegal generation", Some(Rule::OFFSETS_GENERATION))
         }
@@ -341,8 +400,8 @@ fn heard(reply: &Message) -> Deed {
 }
 
 // What the coordinator did with the reply to a marker.
-fn settled(seen: &Seen<'_>) -> Deed {
-    let words = if seen.has_appended() {
+fn settled(has_appended: bool) -> Deed {
+    let words = if has_appended {
         "completes it"
     } else {
         "notes the marker"
@@ -350,17 +409,9 @@ fn settled(seen: &Seen<'_>) -> Deed {
     said(words, Some(Rule::SETTLES))
 }
 
-// What a node did with a message.
-fn message_arrived(seen: &Seen<'_>, message: &Message) -> Deed {
+// What a node did with a request of a group, or a client with a reply.
+fn others_arrived(seen: &Seen<'_>, message: &Message) -> Deed {
     match message {
-        Message::InitProducerId(_) => init_arrived(seen),
-        Message::EndTxn(asked) => end_arrived(seen, asked),
-        Message::AddPartition(_) => answered(answer_in(seen.sent), &ADD, None),
-        Message::AddReply(_) if seen.sent.is_empty() => said("nothing is parked", None),
-        Message::Produce(_) | Message::AddReply(_) => batch_arrived(seen),
-        Message::WriteMarker(marker) => marker_arrived(seen, marker.outcome),
-        Message::MarkerReply(_) => settled(seen),
-        Message::Fetch(_) => said("sends a page", None),
         Message::Join(_) => group_arrived(seen, "joined", Rule::JOINS, Rule::JOIN_REFUSED),
         Message::Leave(_) => group_arrived(seen, "left", Rule::LEAVES, Rule::LEAVE_REFUSED),
         Message::TxnOffsetCommit(_) => {
@@ -383,30 +434,48 @@ fn message_arrived(seen: &Seen<'_>, message: &Message) -> Deed {
     }
 }
 
+// What a node did with a message.
+fn message_arrived(seen: &Seen<'_>, message: &Message) -> Deed {
+    match message {
+        Message::InitProducerId(_) => init_arrived(seen.sent),
+        Message::EndTxn(asked) => end_arrived(seen.sent, asked.outcome),
+        Message::AddPartition(_) => add_answered(answer_in(seen.sent)),
+        Message::AddReply(_) if matches!(seen.sent, []) => said("nothing is parked", None),
+        Message::Produce(_) | Message::AddReply(_) => batch_arrived(seen),
+        Message::WriteMarker(marker) => marker_arrived(seen, marker.outcome),
+        Message::MarkerReply(_) => settled(seen.has_appended()),
+        Message::Fetch(_) => said("sends a page", None),
+        other => others_arrived(seen, other),
+    }
+}
+
 // What a client is told to do.
 fn told(command: &Command) -> Deed {
-    match command {
-        Command::Init => said("asks for an id", None),
-        Command::Begin => said("begins", None),
-        Command::Send(partition, values) => Deed {
-            title: Title::Sends(values.count(), *partition),
-            rule: None,
-            mark: Mark::Dot,
-        },
-        Command::Join(_) => said("asks to join", None),
-        Command::Leave => said("asks to leave", None),
-        Command::Offsets(_) => said("commits offsets", None),
-        Command::End(outcome) => said(by_outcome(*outcome, "commits", "aborts"), None),
-        Command::Resend => said("sends again", None),
-        Command::Poll => said("goes on", None),
-    }
+    let words = match command {
+        Command::Send(partition, values) => {
+            return Deed {
+                title: Title::Sends(values.count(), *partition),
+                rule: None,
+                mark: Mark::Dot,
+            };
+        }
+        Command::Init => "asks for an id",
+        Command::Begin => "begins",
+        Command::Join(_) => "asks to join",
+        Command::Leave => "asks to leave",
+        Command::Offsets(_) => "commits offsets",
+        Command::End(outcome) => by_outcome(*outcome, "commits", "aborts"),
+        Command::Resend => "sends again",
+        Command::Poll => "goes on",
+    };
+    said(words, None)
 }
 
 // What became of a batch of no producer.
 fn was_put(seen: &Seen<'_>) -> Deed {
     match seen.note {
-        Note::Put(Produced::Refused(code)) => said(word_of(code), batch_rule(code)),
-        Note::Put(_) => appended(seen),
+        Note::Put(Produced::Refused(code)) => batch_answered(Some(code)),
+        Note::Put(_) => appended(seen.before.end),
         _ => said("not for it", None),
     }
 }
@@ -427,17 +496,18 @@ fn reopened(note: Note) -> Deed {
 
 // What a node did with an input.
 fn input_taken(seen: &Seen<'_>, input: &Input) -> Deed {
-    match input {
-        Input::Deliver(message) => message_arrived(seen, message),
-        Input::Command(command) => told(command),
-        Input::Expire(_) if has_marker(seen.sent) => said("expires: aborts", Some(Rule::SETTLES)),
-        Input::Expire(_) => said("nothing expires", Some(Rule::SETTLES)),
-        Input::Remind => said("reminds", Some(Rule::SETTLES)),
-        Input::Drop(_, _) if seen.has_appended() => said("drops a member", Some(Rule::LEAVES)),
-        Input::Drop(_, _) => said("no such member", Some(Rule::LEAVE_REFUSED)),
-        Input::Put(_) => was_put(seen),
-        Input::Restart(_) => reopened(seen.note),
-    }
+    let (words, rule) = match input {
+        Input::Deliver(message) => return message_arrived(seen, message),
+        Input::Command(command) => return told(command),
+        Input::Put(_) => return was_put(seen),
+        Input::Restart(_) => return reopened(seen.note),
+        Input::Expire(_) if has_marker(seen.sent) => ("expires: aborts", Rule::SETTLES),
+        Input::Expire(_) => ("nothing expires", Rule::SETTLES),
+        Input::Remind => ("reminds", Rule::SETTLES),
+        Input::Drop(_, _) if seen.has_appended() => ("drops a member", Rule::LEAVES),
+        Input::Drop(_, _) => ("no such member", Rule::LEAVE_REFUSED),
+    };
+    said(words, Some(rule))
 }
 
 // What a step did, whatever its store did.

@@ -1,4 +1,5 @@
 //! What became of what steps appended to logs.
+use crate::seen::Seen;
 use kx_page::Fate;
 use std::alloc::{AllocError, Global};
 use std::collections::HashMap;
@@ -29,7 +30,7 @@ impl Endings {
         }
     }
 
-    /// Notes that a step appended a batch or a marker at an offset of its lane's log.
+    /// Notes what a step appended to its lane's log, if it appended a batch or a marker.
     ///
     /// # Errors
     ///
@@ -38,9 +39,11 @@ impl Endings {
         &mut self,
         step: usize,
         lane: usize,
-        offset: i64,
+        seen: &Seen<'_>,
     ) -> Result<(), AllocError> {
-        self.steps.insert((lane, offset), step)?;
+        if seen.has_appended() {
+            self.steps.insert((lane, seen.before.end), step)?;
+        }
         Ok(())
     }
 
@@ -75,9 +78,12 @@ impl Endings {
 
     /// What became of what a step appended; nothing if it appended nothing that is in a log.
     pub(crate) fn of(&self, step: usize) -> Ending {
-        self.endings.get(&step).copied().unwrap_or(Ending {
-            fate: Fate::Plain,
-            ended: None,
-        })
+        match self.endings.get(&step) {
+            Some(ending) => *ending,
+            None => Ending {
+                fate: Fate::Plain,
+                ended: None,
+            },
+        }
     }
 }

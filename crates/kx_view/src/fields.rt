@@ -1,6 +1,6 @@
 //! What is read of messages: whose they are, which transaction they are about, and how they answer.
 use kx_batch::BatchView;
-use kx_message::{ClientId, ErrorCode, Held, Message, Produce};
+use kx_message::{ClientId, ErrorCode, Held, Message, NodeId, Produce};
 
 // Whose producer id a batch has; none where it has none, or its bytes are no batch.
 fn producer_in(produce: &Produce) -> Option<i64> {
@@ -34,26 +34,26 @@ pub(crate) fn producer_of(message: &Message) -> Option<i64> {
     Some(held_in(message)?.id.get())
 }
 
-/// The client that a message is from or for, if any.
-pub(crate) fn client_of(message: &Message) -> Option<ClientId> {
+// The client that sends a message, if one does.
+fn sender_of(message: &Message) -> Option<ClientId> {
     match message {
         Message::InitProducerId(request) => Some(request.caller.client),
-        Message::InitReply(reply) => Some(reply.caller.client),
         Message::EndTxn(request) => Some(request.caller.client),
-        Message::EndReply(reply) => Some(reply.caller.client),
         Message::Produce(request) => Some(request.caller.client),
-        Message::ProduceReply(reply) => Some(reply.caller.client),
         Message::Fetch(request) => Some(request.caller.client),
-        Message::FetchReply(reply) => Some(reply.caller.client),
         Message::Join(request) => Some(request.caller.client),
-        Message::JoinReply(reply) => Some(reply.caller.client),
         Message::Leave(request) => Some(request.caller.client),
-        Message::LeaveReply(reply) => Some(reply.caller.client),
         Message::TxnOffsetCommit(request) => Some(request.caller.client),
-        Message::OffsetsReply(reply) => Some(reply.caller.client),
         Message::OffsetFetch(request) => Some(request.caller.client),
-        Message::OffsetFetchReply(reply) => Some(reply.caller.client),
         _ => None,
+    }
+}
+
+/// The client that a message is from or for, if any.
+pub(crate) fn client_of(message: &Message) -> Option<ClientId> {
+    match message.receiver() {
+        NodeId::Client(client) => Some(client),
+        NodeId::Coordinator | NodeId::Partition(_) => sender_of(message),
     }
 }
 

@@ -1,5 +1,6 @@
 //! Logs as they end: of each batch, what became of its transaction, and what readers are shown.
 use crate::endings::Endings;
+use crate::push::push;
 use crate::seen::LogAt;
 use kx_batch::{BatchView, RecordView};
 use kx_message::Outcome;
@@ -25,14 +26,6 @@ struct Kind {
     producer: i64,
     is_transactional: bool,
     marker: Option<Outcome>,
-}
-
-// A log as it is read.
-#[derive(Drop)]
-struct ReadLog {
-    alloc: Global,
-    log: Log,
-    kinds: Vec<Kind>,
 }
 
 // What became of a transaction that ended so.
@@ -115,42 +108,55 @@ fn reading(kind: Kind, fate: Fate, offset: i64, stable: i64) -> &'static str {
     }
 }
 
-// A batch of a log, of whose transaction nothing is known yet.
-fn logged(alloc: Global, batch: &BatchView<'_>, kind: Kind) -> Result<LoggedBatch, AllocError> {
-    Ok(LoggedBatch {
-        offset: batch.base_offset(),
-        kind: words_of(alloc, batch, kind)?,
-        records: records_of(alloc, batch)?,
-        fate: Fate::Plain,
-        reading: "",
-    })
+// What a batch is.
+fn kind_of(batch: &BatchView<'_>) -> Kind {
+    let marker = match batch.end_marker() {
+        Some((outcome, _)) => Some(outcome),
+        None => None,
+    };
+    Kind {
+        producer: batch.producer_id(),
+        is_transactional: batch.is_transactional(),
+        marker,
+    }
 }
 
-impl ReadLog {
-    // Adds a batch, of whose transaction nothing is known yet.
-    fn add(&mut self, batch: &BatchView<'_>) -> Result<(), AllocError> {
-        let kind = Kind {
-            producer: batch.producer_id(),
-            is_transactional: batch.is_transactional(),
-            marker: match batch.end_marker() {
-                Some((outcome, _)) => Some(outcome),
-                None => None,
-            },
-        };
-        self.kinds.push(kind)?;
-        self.log.batches.push(logged(self.alloc, batch, kind)?)?;
-        Ok(())
-    }
+// Adds a batch, of whose transaction nothing is known yet.
+fn add_batch(
+    alloc: Global,
+    batches: &mut Vec<LoggedBatch>,
+    batch: &BatchView<'_>,
+    kind: Kind,
+) -> Result<(), AllocError> {
+    let words = words_of(alloc, batch, kind)?;
+    let records = records_of(alloc, batch)?;
+    push(
+        batches,
+        LoggedBatch {
+            offset: batch.base_offset(),
+            kind: words,
+            records,
+            fate: Fate::Plain,
+            reading: "",
+        },
+    )
+}
 
-    // Adds the batches that these bytes are.
-    fn read(&mut self, bytes: &[u8]) -> Result<(), AllocError> {
-        let mut rest = bytes;
-        while let Ok((batch, behind)) = BatchView::read(rest) {
-            self.add(&batch)?;
-            rest = behind;
-        }
-        Ok(())
+// Adds the batches that these bytes are.
+fn read(
+    alloc: Global,
+    batches: &mut Vec<LoggedBatch>,
+    kinds: &mut Vec<Kind>,
+    bytes: &[u8],
+) -> Result<(), AllocError> {
+    let mut rest = bytes;
+    while let Ok((batch, behind)) = BatchView::read(rest) {
+        let kind = kind_of(&batch);
+        push(kinds, kind)?;
+        add_batch(alloc, batches, &batch, kind)?;
+        rest = behind;
     }
+    Ok(())
 }
 
 // What became of a batch's transaction, by the first marker of its producer after it, and the offset
@@ -166,55 +172,55 @@ fn ending_of(kind: Kind, after: Option<&Ended>) -> (Fate, Option<i64>) {
     }
 }
 
-impl ReadLog {
-    // Says of a batch what became of it, and answers its offset.
-    fn settle(&mut self, number: usize, kind: Kind, fate: Fate) -> Option<i64> {
-        let stable = self.log.stable;
-        let logged = self.log.batches.get_mut(number)?;
-        logged.fate = fate;
-        logged.reading = reading(kind, fate, logged.offset, stable);
-        Some(logged.offset)
-    }
+// Says of a batch what became of it, and answers its offset.
+fn settle(logged: &mut LoggedBatch, kind: Kind, fate: Fate, stable: i64) -> i64 {
+    let offset = logged.offset;
+    logged.fate = fate;
+    logged.reading = reading(kind, fate, offset, stable);
+    offset
+}
 
-    // Says of all batches that were read what became of them, from the end on, and notes it among
-    // the endings of the log's lane. These markers are after them, each the first of its producer.
-    fn judge(
-        &mut self,
-        after: &mut HashMap<i64, Ended>,
-        lane: usize,
-        endings: &mut Endings,
-    ) -> Result<(), AllocError> {
-        for number in (0..self.kinds.len()).rev() {
-            let Some(kind) = self.kinds.get(number).copied() else {
-                continue;
-            };
-            let (fate, marker) = ending_of(kind, after.get(&kind.producer));
-            let Some(offset) = self.settle(number, kind, fate) else {
-                continue;
-            };
-            endings.settle(lane, offset, fate, marker)?;
-            if let Some(outcome) = kind.marker {
-                after.insert(kind.producer, Ended { outcome, offset })?;
-            }
+// Says of all batches of a log what became of them, from the end on, and notes it among the endings
+// of the log's lane. These markers are after them, each the first of its producer.
+fn judge(
+    log: &mut Log,
+    kinds: &[Kind],
+    after: &mut HashMap<i64, Ended>,
+    lane: usize,
+    endings: &mut Endings,
+) -> Result<(), AllocError> {
+    let stable = log.stable;
+    for number in (0..kinds.len()).rev() {
+        let kind = kinds[number];
+        let (fate, marker) = ending_of(kind, after.get(&kind.producer));
+        let Some(logged) = log.batches.get_mut(number) else {
+            continue;
+        };
+        let offset = settle(logged, kind, fate, stable);
+        endings.settle(lane, offset, fate, marker)?;
+        if let Some(outcome) = kind.marker {
+            after.insert(kind.producer, Ended { outcome, offset })?;
         }
-        Ok(())
     }
+    Ok(())
+}
 
-    // Reads the batches that stand in these texts, and says what became of them.
-    fn read_all(
-        &mut self,
-        texts: &[&[u8]],
-        lane: usize,
-        endings: &mut Endings,
-    ) -> Result<(), AllocError> {
-        for text in texts {
-            self.read(text)?;
-        }
-        let mut after = HashMap::new(self.alloc);
-        let judged = self.judge(&mut after, lane, endings);
-        drop(after);
-        judged
+// Reads the batches that stand in these texts, and says what became of them.
+fn read_all(
+    alloc: Global,
+    log: &mut Log,
+    texts: &[&[u8]],
+    lane: usize,
+    endings: &mut Endings,
+) -> Result<(), AllocError> {
+    let mut kinds = Vec::new(alloc);
+    for text in texts {
+        read(alloc, &mut log.batches, &mut kinds, text)?;
     }
+    let mut after = HashMap::new(alloc);
+    let judged = judge(log, kinds.as_slice(), &mut after, lane, endings);
+    drop(after);
+    judged
 }
 
 /// A log of this name as it ends, whose batches stand in these texts. What became of them is noted
@@ -231,24 +237,12 @@ pub(crate) fn read_log(
     lane: usize,
     endings: &mut Endings,
 ) -> Result<Log, AllocError> {
-    let mut log = ReadLog {
-        alloc,
-        log: Log {
-            name,
-            stable: at.stable,
-            end: at.end,
-            batches: Vec::new(alloc),
-        },
-        kinds: Vec::new(alloc),
+    let mut log = Log {
+        name,
+        stable: at.stable,
+        end: at.end,
+        batches: Vec::new(alloc),
     };
-    match log.read_all(texts, lane, endings) {
-        Ok(()) => {
-            let ReadLog { log, .. } = log;
-            Ok(log)
-        }
-        Err(error) => {
-            drop(log);
-            Err(error)
-        }
-    }
+    read_all(alloc, &mut log, texts, lane, endings)?;
+    Ok(log)
 }

@@ -6,6 +6,7 @@ use crate::deeds::{Deed, deed_of, text_of};
 use crate::endings::Endings;
 use crate::fields::{client_of, number_of, producer_of};
 use crate::logs::read_log;
+use crate::push::push;
 use crate::seen::{LogAt, Seen, Took};
 use crate::words::name_of;
 use kx_machine::{Input, Note};
@@ -62,18 +63,59 @@ fn rank(owner: &Owner) -> u64 {
 
 // How many of these are left of an owner.
 fn left_of(owners: &[Owner], owner: &Owner) -> usize {
-    owners
-        .iter()
-        .filter(|other| rank(other) < rank(owner))
-        .count()
+    let own = rank(owner);
+    let mut count: usize = 0;
+    for other in owners {
+        if rank(other) < own {
+            count = count.saturating_add(1);
+        }
+    }
+    count
 }
 
 // How many of these are clients.
 fn clients_in(owners: &[Owner]) -> usize {
-    owners
-        .iter()
-        .filter(|owner| matches!(owner, Owner::Node(NodeId::Client(_))))
-        .count()
+    let mut count: usize = 0;
+    for owner in owners {
+        if matches!(owner, Owner::Node(NodeId::Client(_))) {
+            count = count.saturating_add(1);
+        }
+    }
+    count
+}
+
+// The lane of an owner, if it has one.
+fn lane_in(owners: &[Owner], owner: &Owner) -> Option<usize> {
+    for (lane, other) in owners.iter().enumerate() {
+        if other == owner {
+            return Some(lane);
+        }
+    }
+    None
+}
+
+// Whose lane a node is shown in.
+fn owner_of(owners: &[Owner], node: NodeId) -> Owner {
+    let own = Owner::Node(node);
+    if !matches!(node, NodeId::Client(_)) || lane_in(owners, &own).is_some() {
+        return own;
+    }
+    if clients_in(owners) < MOST_CLIENTS {
+        own
+    } else {
+        Owner::Others
+    }
+}
+
+// The lane of a node, in the order in which nodes appeared.
+fn lane_of(owners: &mut Vec<Owner>, node: NodeId) -> Result<usize, AllocError> {
+    let owner = owner_of(owners.as_slice(), node);
+    if let Some(lane) = lane_in(owners.as_slice(), &owner) {
+        return Ok(lane);
+    }
+    let lane = owners.len();
+    push(owners, owner)?;
+    Ok(lane)
 }
 
 // Adds the messages that a step sent.
@@ -91,7 +133,7 @@ fn add_taken(text: &mut String, took: Took<'_>) -> Result<(), AllocError> {
         Took::Message(number, message) => write!(text, " takes #{number} {message}"),
         Took::Input(Input::Deliver(message)) => write!(text, " takes {message}"),
         Took::Input(Input::Expire(time)) => write!(text, " hears that it is {time} ms"),
-        Took::Input(_) | Took::Nothing | Took::Outside(_) => Ok(()),
+        Took::Nothing | Took::Input(_) | Took::Outside(_) => Ok(()),
     }
 }
 
@@ -138,7 +180,7 @@ fn producer_in(seen: &Seen<'_>) -> Option<i64> {
 
 // Who sends the first of these, if a client does.
 fn sender_in(sent: &[Message]) -> NodeId {
-    let Some(request) = sent.first() else {
+    let [request, ..] = sent else {
         return NodeId::Coordinator;
     };
     match client_of(request) {
@@ -149,21 +191,52 @@ fn sender_in(sent: &[Message]) -> NodeId {
 
 // That a client outside sends the first of these.
 fn asked_in(sent: &[Message]) -> Took<'_> {
-    match sent.first() {
-        Some(request) => Took::Outside(request),
-        None => Took::Nothing,
+    match sent {
+        [request, ..] => Took::Outside(request),
+        [] => Took::Nothing,
     }
 }
 
-// The arrow of a message that hasn't arrived.
-fn arrow_of(
+// Adds a step as it is seen, before anything is known of what becomes of it.
+fn add_step(
+    alloc: Global,
+    steps: &mut Vec<Step>,
+    lane: usize,
+    seen: &Seen<'_>,
+) -> Result<(), AllocError>
+    ensures ok { OnOk result (AddsStep steps.old.items steps.new.items) }
+    ensures err { OnErr result (steps.new.items ≡ steps.old.items) }
+{
+    let Deed { title, rule, mark } = deed_of(seen);
+    let title = text_of(alloc, &title)?;
+    let detail = detail_of(alloc, seen)?;
+    let step = Step {
+        lane,
+        title,
+        detail,
+        rule,
+        mark,
+        fate: Fate::Plain,
+        client: client_in(seen),
+        producer: producer_in(seen),
+        ended: None,
+        stable: seen.stable(),
+    };
+    push(steps, step)?;
+    Ok(())
+}
+
+// Notes a message that a step sends, which hasn't arrived.
+fn send(
+    first: &mut Vec<Arrow>,
     alloc: Global,
     step: usize,
     from: usize,
     to: usize,
     message: &Message,
-) -> Result<Arrow, AllocError> {
-    Ok(Arrow {
+) -> Result<(), AllocError> {
+    let text = format!(in alloc; "{message}")?;
+    let arrow = Arrow {
         sent: step,
         from,
         taken: step,
@@ -173,24 +246,74 @@ fn arrow_of(
         client: number_of(message),
         producer: producer_of(message),
         name: name_of(message),
-        text: format!(in alloc; "{message}")?,
-    })
+        text,
+    };
+    push(first, arrow)
 }
 
-// A copy of an arrow, to another step.
-fn again_to(arrow: &Arrow, taken: usize) -> Result<Arrow, AllocError> {
-    Ok(Arrow {
-        sent: arrow.sent,
-        from: arrow.from,
-        taken,
-        to: arrow.to,
-        way: Way::Again,
-        fate: Fate::Plain,
-        client: arrow.client,
-        producer: arrow.producer,
-        name: arrow.name,
-        text: arrow.text.clone()?,
-    })
+// Notes the messages that a step sends.
+fn send_all(
+    owners: &mut Vec<Owner>,
+    first: &mut Vec<Arrow>,
+    alloc: Global,
+    step: usize,
+    from: usize,
+    sent: &[Message],
+) -> Result<(), AllocError> {
+    for message in sent {
+        let to = lane_of(owners, message.receiver())?;
+        send(first, alloc, step, from, to, message)?;
+    }
+    Ok(())
+}
+
+// Notes that a message arrives again, whose first arrival is this arrow.
+fn arrive_again(again: &mut Vec<Arrow>, arrow: &Arrow, taken: usize) -> Result<(), AllocError> {
+    let text = arrow.text.clone()?;
+    push(
+        again,
+        Arrow {
+            sent: arrow.sent,
+            from: arrow.from,
+            taken,
+            to: arrow.to,
+            way: Way::Again,
+            fate: Fate::Plain,
+            client: arrow.client,
+            producer: arrow.producer,
+            name: arrow.name,
+            text,
+        },
+    )
+}
+
+// Notes that the message that a step takes arrives, if it takes one.
+fn arrive(
+    first: &mut Vec<Arrow>,
+    again: &mut Vec<Arrow>,
+    step: usize,
+    took: Took<'_>,
+) -> Result<(), AllocError> {
+    let Took::Message(number, _) = took else {
+        return Ok(());
+    };
+    let Some(arrow) = first.get_mut(number) else {
+        return Ok(());
+    };
+    if !matches!(arrow.way, Way::Lost) {
+        return arrive_again(again, arrow, step);
+    }
+    arrow.way = Way::First;
+    arrow.taken = step;
+    Ok(())
+}
+
+// Notes that a lane is that of a client outside.
+fn note_outside(outside: &mut Vec<usize>, lane: usize) -> Result<(), AllocError> {
+    if outside.as_slice().contains(&lane) {
+        return Ok(());
+    }
+    push(outside, lane)
 }
 
 impl Recorder {
@@ -210,115 +333,6 @@ impl Recorder {
         }
     }
 
-    // Whose lane a node is shown in.
-    fn owner_of(&self, node: NodeId) -> Owner {
-        let own = Owner::Node(node);
-        let owners = self.owners.as_slice();
-        if !matches!(node, NodeId::Client(_)) || owners.contains(&own) {
-            return own;
-        }
-        if clients_in(owners) < MOST_CLIENTS {
-            own
-        } else {
-            Owner::Others
-        }
-    }
-
-    // The lane of a node, in the order in which nodes appeared.
-    fn lane_of(&mut self, node: NodeId) -> Result<usize, AllocError>
-        ensures { self.new ≡ self.old }
-    {
-        let owner = self.owner_of(node);
-        if let Some(lane) = self.owners.iter().position(|other| *other == owner) {
-            return Ok(lane);
-        }
-        self.owners.push(owner)?;
-        Ok(self.owners.len() - 1)
-    }
-
-    // Notes a message that a step sent, which hasn't arrived.
-    fn send(&mut self, from: usize, message: &Message) -> Result<(), AllocError>
-        ensures { self.new ≡ self.old }
-    {
-        let to = self.lane_of(message.receiver())?;
-        let arrow = arrow_of(self.alloc, self.steps.len(), from, to, message)?;
-        self.first.push(arrow)?;
-        Ok(())
-    }
-
-    // Notes the messages that a step sent.
-    fn send_all(&mut self, from: usize, sent: &[Message]) -> Result<(), AllocError>
-        ensures { self.new ≡ self.old }
-    {
-        for message in sent {
-            self.send(from, message)?;
-        }
-        Ok(())
-    }
-
-    // Notes that the message that the next step takes arrives, if it takes one.
-    fn arrive(&mut self, took: Took<'_>) -> Result<(), AllocError>
-        ensures { self.new ≡ self.old }
-    {
-        let step = self.steps.len();
-        let Took::Message(number, _) = took else {
-            return Ok(());
-        };
-        let Some(arrow) = self.first.get_mut(number) else {
-            return Ok(());
-        };
-        if matches!(arrow.way, Way::Lost) {
-            arrow.way = Way::First;
-            arrow.taken = step;
-            return Ok(());
-        }
-        let copy = again_to(arrow, step)?;
-        self.again.push(copy)?;
-        Ok(())
-    }
-
-    // Notes that a node is a client outside.
-    fn note_outside(&mut self, node: NodeId) -> Result<(), AllocError>
-        ensures { self.new ≡ self.old }
-    {
-        let lane = self.lane_of(node)?;
-        if !self.outside.as_slice().contains(&lane) {
-            self.outside.push(lane)?;
-        }
-        Ok(())
-    }
-
-    // Notes what a step appended to a partition's log.
-    fn append(&mut self, lane: usize, seen: &Seen<'_>) -> Result<(), AllocError>
-        ensures { self.new ≡ self.old }
-    {
-        if !seen.has_appended() {
-            return Ok(());
-        }
-        self.endings.append(self.steps.len(), lane, seen.before.end)
-    }
-
-    // A step as it is seen, before anything is known of what becomes of it.
-    fn step_of(&self, lane: usize, seen: &Seen<'_>) -> Result<Step, AllocError> {
-        let Deed { title, rule, mark } = deed_of(seen);
-        Ok(Step {
-            lane,
-            title: text_of(self.alloc, &title)?,
-            detail: detail_of(self.alloc, seen)?,
-            rule,
-            mark,
-            fate: Fate::Plain,
-            client: client_in(seen),
-            producer: producer_in(seen),
-            ended: None,
-            stable: if seen.before.stable == seen.after.stable {
-                None
-            } else {
-                Some(seen.after.stable)
-            },
-        })
-    }
-
     /// Adds a step.
     ///
     /// # Errors
@@ -328,13 +342,19 @@ impl Recorder {
         ensures ok { OnOk result (AddsStep self.old self.new) }
         ensures err { OnErr result (self.new ≡ self.old) }
     {
-        let lane = self.lane_of(seen.node)?;
-        self.arrive(seen.took)?;
-        self.append(lane, seen)?;
-        self.send_all(lane, seen.sent)?;
-        let step = self.step_of(lane, seen)?;
-        self.steps.push(step)?;
-        Ok(())
+        let step = self.steps.len();
+        let lane = lane_of(&mut self.owners, seen.node)?;
+        arrive(&mut self.first, &mut self.again, step, seen.took)?;
+        self.endings.append(step, lane, seen)?;
+        send_all(
+            &mut self.owners,
+            &mut self.first,
+            self.alloc,
+            step,
+            lane,
+            seen.sent,
+        )?;
+        add_step(self.alloc, &mut self.steps, lane, seen)
     }
 
     /// Adds the step of a client outside that sends a request, the first of these.
@@ -347,7 +367,8 @@ impl Recorder {
         ensures err { OnErr result (self.new ≡ self.old) }
     {
         let none = LogAt { end: 0, stable: 0 };
-        self.note_outside(sender_in(sent))?;
+        let lane = lane_of(&mut self.owners, sender_in(sent))?;
+        note_outside(&mut self.outside, lane)?;
         self.add(&Seen {
             node: sender_in(sent),
             took: asked_in(sent),
@@ -367,11 +388,10 @@ impl Recorder {
     pub fn add_log(&mut self, node: NodeId, at: LogAt, texts: &[&[u8]]) -> Result<(), AllocError>
         ensures { self.new ≡ self.old }
     {
-        let lane = self.lane_of(node)?;
+        let lane = lane_of(&mut self.owners, node)?;
         let name = format!(in self.alloc; "{node}")?;
         let log = read_log(self.alloc, name, at, texts, lane, &mut self.endings)?;
-        self.logs.push(log)?;
-        Ok(())
+        push(&mut self.logs, log)
     }
 }
 
@@ -429,16 +449,19 @@ fn settle_arrows(arrows: &mut Vec<Arrow>, ended: Ended<'_>) {
     }
 }
 
-// The lane of an owner.
-fn lane_for(alloc: Global, owner: &Owner) -> Result<Lane, AllocError> {
-    let name = match owner {
-        Owner::Node(node) => format!(in alloc; "{node}")?,
-        Owner::Others => String::from_str(alloc, "other clients")?,
-    };
-    Ok(Lane {
-        name,
-        is_partition: matches!(owner, Owner::Node(NodeId::Partition(_))),
-    })
+// The name of a lane.
+fn name_for(alloc: Global, owner: &Owner) -> Result<String, AllocError> {
+    match owner {
+        Owner::Node(node) => format!(in alloc; "{node}"),
+        Owner::Others => String::from_str(alloc, "other clients"),
+    }
+}
+
+// Adds the lane of an owner.
+fn add_lane(lanes: &mut Vec<Lane>, alloc: Global, owner: &Owner) -> Result<(), AllocError> {
+    let name = name_for(alloc, owner)?;
+    let is_partition = matches!(owner, Owner::Node(NodeId::Partition(_)));
+    push(lanes, Lane { name, is_partition })
 }
 
 // The lanes from the left.
@@ -447,7 +470,7 @@ fn lanes_of(alloc: Global, owners: &[Owner]) -> Result<Vec<Lane>, AllocError> {
     for place in 0..owners.len() {
         for owner in owners {
             if left_of(owners, owner) == place {
-                lanes.push(lane_for(alloc, owner)?)?;
+                add_lane(&mut lanes, alloc, owner)?;
             }
         }
     }
@@ -455,8 +478,8 @@ fn lanes_of(alloc: Global, owners: &[Owner]) -> Result<Vec<Lane>, AllocError> {
 }
 
 impl Recorder {
-    // Says of all that was watched what became of it.
-    fn settle(&mut self) -> Result<(), AllocError>
+    // Says of all that was watched what became of it, and returns the lanes from the left.
+    fn settle(&mut self) -> Result<Vec<Lane>, AllocError>
         ensures { TellSame self.old self.new }
     {
         self.first.append(&mut self.again)?;
@@ -467,7 +490,7 @@ impl Recorder {
         };
         settle_steps(&mut self.steps, ended);
         settle_arrows(&mut self.first, ended);
-        Ok(())
+        lanes_of(self.alloc, ended.owners)
     }
 
     // The run that was watched, of this title and with these lanes, once all was settled.
@@ -500,10 +523,7 @@ impl Recorder {
         ensures title { IfOk result (λ run. run.title.now ≡ title.now) }
     {
         match self.settle() {
-            Ok(()) => {
-                let lanes = lanes_of(self.alloc, self.owners.as_slice())?;
-                Ok(self.with_lanes(title, lanes))
-            }
+            Ok(lanes) => Ok(self.with_lanes(title, lanes)),
             Err(error) => {
                 self.end();
                 Err(error)

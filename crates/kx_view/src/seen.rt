@@ -48,4 +48,13 @@ impl Seen<'_> {
     pub(crate) fn has_appended(&self) -> bool {
         self.before.end < self.after.end
     }
+
+    /// The last stable offset of its log, if it changed.
+    pub(crate) fn stable(&self) -> Option<i64> {
+        if self.before.stable == self.after.stable {
+            None
+        } else {
+            Some(self.after.stable)
+        }
+    }
 }

@@ -1,12 +1,9 @@
-use Rattle.std.proofs.Common.{◌∙◌, ◌++◌, ◌∷◌, [], List, ap}
+use Rattle.std.proofs.Common.{List, OnOk, subst}
 use Rattle.kx_page.specs.declared.run.Step.{Step}
+use Rattle.kx_view.specs.Recording.{AddsStep}
 use Rattle.kx_view.proofs.recorder.Recorder.add.Goals as goal
 
 pub returns-clause-ok : goal.returns-clause-ok
 returns-clause-ok c =
-    let step = c.in_ok-step.step in
-    let same = c.send_all.ensures ∙ c.append.ensures ∙ c.arrive.ensures ∙ c.lane_of.ensures in (
-      step,
-      c.in_ok-push.ensures.items
-          ∙ ap (λ (steps : List Step). steps ++ step ∷ []) (c.self.view_is ∙ same),
-    )
+    subst (λ (steps : List Step). OnOk c.add_step.result (AddsStep steps c.add_step.new.steps.items))
+    c.self.view_is c.add_step.ensures.ok

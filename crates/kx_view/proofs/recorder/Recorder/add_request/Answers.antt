@@ -6,4 +6,4 @@ use Rattle.kx_view.proofs.recorder.Recorder.add_request.Goals as goal
 pub returns-clause-ok : goal.returns-clause-ok
 returns-clause-ok c =
     subst (λ (steps : List Step). OnOk c.add.result (AddsStep steps c.add.new.self))
-    c.note_outside.ensures c.add.ensures.ok
+    c.self.view_is c.add.ensures.ok

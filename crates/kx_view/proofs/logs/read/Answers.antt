@@ -1,5 +1,5 @@
 use Rattle.kx_view.proofs.Batches.{fewer_left}
-use Rattle.kx_view.proofs.logs.ReadLog.read.Goals as goal
+use Rattle.kx_view.proofs.logs.read.Goals as goal
 
 pub loop-batch-smaller : goal.loop-batch-smaller
 loop-batch-smaller c =
