@@ -2,7 +2,6 @@
 use Rattle.std.proofs.Common.{◌≡◌, ◌≢◌, ◌++◌, ℕ, All, List, [], ◌∷◌, Some, refl, sym, ap, ◌∙◌}
 use Rattle.std.proofs.Common.{length, subst, ⊎_elim}
 use Rattle.std.specs.Prelude.{slice_get, slice_set}
-use Rattle.std.proofs.lemmas.List.{append_assoc, map-append}
 use Rattle.std.proofs.lemmas.List.Elements.{All-append, All-nil, All-push}
 use Rattle.std.proofs.lemmas.Option.{same_Some}
 use Rattle.kx_audit.specs.Arrivals.{requested}
@@ -12,10 +11,10 @@ use Rattle.kx_audit.specs.Making.{NodeMaking, node_of}
 use Rattle.kx_audit.specs.Schedule.{IsNodeMaking, IsStep}
 use Rattle.kx_audit.proofs.Places.{get_more}
 use Rattle.kx_audit.proofs.Ways.{goes_push, led_push, steps_push}
+use Rattle.kx_follow.specs.Beginning.{AreLedBy, AreNodes, IsNewName}
 use Rattle.kx_follow.specs.Following.{AreApart, Followed, Following, HasMade, IsLed, IsOf}
 use Rattle.kx_follow.specs.Following.{MakesOneMore}
 use Rattle.kx_follow.specs.Following.{arrived_in, makings_of, name_of}
-use Rattle.kx_follow.specs.Fresh.{AreFresh, IsFresh, IsNewName}
 use Rattle.kx_follow.specs.Internal.{Steps}
 use Rattle.kx_follow.specs.Pending.{AreSent}
 use Rattle.kx_machine.specs.Meaning.{NodeState}
@@ -30,64 +29,55 @@ use Rattle.kx_follow.proofs.History.{arrived_push, at_push_other, at_push_own, h
 use Rattle.kx_follow.proofs.History.{order_push}
 use Rattle.kx_follow.proofs.Lists.{get_push, get_set, map_set, set_here, set_there}
 
+-- one more of them, under a name of its own
+pub one_named : {B M : Type 0} (making : B → NodeMaking) (nodes : List (Followed B M))
+    (n : Followed B M) → AreNodes making nodes → IsNodeMaking (making n.made)
+    → IsNewName making (name_of making n) nodes → AreNodes making (nodes ++ n ∷ [])
+one_named making nodes n are fits new = record {
+  apart = λ j k q r qat rat same.
+      ⊎_elim
+      (λ (a : slice_get nodes j ≡ Some q).
+      ⊎_elim
+      (λ (b : slice_get nodes k ≡ Some r). are.apart j k q r a b same)
+      (λ (b : (k ≡ length nodes) × (n ≡ r)).
+      absurd (new j q a (same ∙ ap (name_of making) (sym b.1))))
+      (get_push nodes n k r rat))
+      (λ (a : (j ≡ length nodes) × (n ≡ q)).
+      ⊎_elim
+      (λ (b : slice_get nodes k ≡ Some r).
+      absurd (new k r b (sym same ∙ ap (name_of making) (sym a.1))))
+      (λ (b : (k ≡ length nodes) × (n ≡ r)). a.0 ∙ sym b.0)
+      (get_push nodes n k r rat))
+      (get_push nodes n j q qat);
+  fit = λ k q qat.
+      ⊎_elim
+      (λ (a : slice_get nodes k ≡ Some q). are.fit k q a)
+      (λ (a : (k ≡ length nodes) × (n ≡ q)).
+      subst (λ (x : Followed _ _). IsNodeMaking (making x.made)) a.1 fits)
+      (get_push nodes n k q qat);
+}
+
 module _ {B M : Type 0} (making : B → NodeMaking) (stands : NodeState → M → Type 0) where
   abbrev name : Followed B M → NodeId
   name n = name_of making n
 
-  -- nodes that have taken nothing yet
-  pub nothing_made : (nodes : List (Followed B M)) → AreFresh making stands nodes
-      → HasMade making stands [] (record { nodes = nodes; pending = [] })
-  nothing_made nodes fresh = record {
-    apart = fresh.apart;
+  -- earlier steps led to them, and nothing that those sent waits
+  pub led_made : (before : List Passed) (nodes : List (Followed B M)) → AreNodes making nodes
+      → AreLedBy making stands before nodes
+      → HasMade making stands before (record { nodes = nodes; pending = [] })
+  led_made before nodes are led = record {
+    apart = are.apart;
     led = λ k n at. record {
-      fits = (fresh.each k n at).fits;
-      goes = tt;
-      stands_so = (fresh.each k n at).stands_so;
+      fits = are.fit k n at;
+      goes = (led.each k n at).goes;
+      stands_so = (led.each k n at).stands_so;
     };
-    no_others = λ j p at. absurd cc;
-    in_order = tt;
-    requests = All-nil IsRequest;
-    fits = All-nil IsStep;
+    no_others = led.no_others;
+    in_order = led.in_order;
+    requests = led.requests;
+    fits = led.fits;
     pending = λ m fits read among. absurd cc;
   }
-
-  -- one more of them, under a name of its own
-  pub fresh_more : (nodes : List (Followed B M)) (n : Followed B M) → AreFresh making stands nodes
-      → IsNodeMaking (making n.made) → stands (node_of (making n.made)) n.machine
-      → IsNewName making (name n) nodes → AreFresh making stands (nodes ++ n ∷ [])
-  fresh_more nodes n fresh fits stands_so new = record {
-    apart = λ j k q r qat rat same.
-        ⊎_elim
-        (λ (a : slice_get nodes j ≡ Some q).
-        ⊎_elim
-        (λ (b : slice_get nodes k ≡ Some r). fresh.apart j k q r a b same)
-        (λ (b : (k ≡ length nodes) × (n ≡ r)).
-        absurd (new j q a (same ∙ ap name (sym b.1))))
-        (get_push nodes n k r rat))
-        (λ (a : (j ≡ length nodes) × (n ≡ q)).
-        ⊎_elim
-        (λ (b : slice_get nodes k ≡ Some r).
-        absurd (new k r b (sym same ∙ ap name (sym a.1))))
-        (λ (b : (k ≡ length nodes) × (n ≡ r)). a.0 ∙ sym b.0)
-        (get_push nodes n k r rat))
-        (get_push nodes n j q qat);
-    each = λ k q qat.
-        ⊎_elim
-        (λ (a : slice_get nodes k ≡ Some q). fresh.each k q a)
-        (λ (a : (k ≡ length nodes) × (n ≡ q)).
-        subst (λ (x : Followed B M). IsFresh making stands x) a.1
-        (record { fits = fits; stands_so = stands_so }))
-        (get_push nodes n k q qat);
-  }
-
-  pub makings_more : (nodes : List (Followed B M)) (n : Followed B M) (made old new : List B) (b : B)
-      → makings_of nodes ++ old ≡ made → old ≡ b ∷ new → n.made ≡ b
-      → makings_of (nodes ++ n ∷ []) ++ new ≡ made
-  makings_more nodes n made old new b all next is =
-      ap (λ (l : List B). l ++ new) (map-append (λ (x : Followed B M). x.made) nodes (n ∷ []))
-      ∙ append_assoc (makings_of nodes) (n.made ∷ []) new
-      ∙ ap (λ (x : B). makings_of nodes ++ x ∷ new) is
-      ∙ ap (λ (l : List B). makings_of nodes ++ l) (sym next) ∙ all
 
   -- nothing was made, and fewer messages wait
   pub waits : (history : List Passed) (old new : Following B M) → HasMade making stands history old

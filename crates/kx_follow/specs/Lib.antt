@@ -1,6 +1,6 @@
+pub mod Beginning
 pub mod Faults
 pub mod Following
-pub mod Fresh
 pub mod Internal
 pub mod Pending
 pub mod Whole

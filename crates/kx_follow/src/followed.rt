@@ -1,6 +1,6 @@
 //! One node that is followed.
 ghost use Rattle.std.specs.Prelude.{◌≡◌, IfOk};
-ghost use Rattle.kx_audit.specs.Making.{named, node_of};
+ghost use Rattle.kx_audit.specs.Making.{named};
 ghost use Rattle.kx_audit.specs.Schedule.{IsNodeMaking};
 ghost use Rattle.kx_follow.specs.Internal.{Steps};
 ghost use Rattle.kx_machine.specs.Meaning.{NodeState};
@@ -8,12 +8,12 @@ ghost use Rattle.kx_machine.specs.Meaning.{NodeState};
 use kx_audit::Remade;
 use kx_machine::{Input, Machine, StoreMode, Taken};
 use kx_message::NodeId;
-use std::alloc::{AllocError, Global};
+use std::alloc::AllocError;
 use std::marker::Model;
 
 /// How a node was made, and its machine after the steps so far.
 #[derive(Drop)]
-pub(crate) struct FollowedNode<B: Remade> {
+pub struct FollowedNode<B: Remade> {
     made: B,
     machine: B::Machine,
 }
@@ -27,25 +27,18 @@ impl<B: Remade> Model for FollowedNode<B> {
 }
 
 impl<B: Remade> FollowedNode<B> {
-    /// A node that is made as `made` says, and has taken nothing yet.
-    ///
-    /// # Errors
-    ///
-    /// Only where memory runs out.
-    pub(crate) fn new(alloc: Global, made: B) -> Result<FollowedNode<B>, AllocError>
-        ensures made { IfOk result (λ n. n.made ≡ made) }
-        ensures fits { IfOk result (λ n. IsNodeMaking (B.making n.made)) }
-        ensures stands { IfOk result (λ n.
-            B.Machine.stands (node_of (B.making n.made)) n.machine) }
+    /// A node that was made as `made` says, whose machine is this now.
+    pub fn new(made: B, machine: B::Machine) -> FollowedNode<B>
+        ensures made { result.made ≡ made }
+        ensures machine { result.machine ≡ machine }
     {
-        made.tells();
-        let machine = made.make(alloc)?;
-        Ok(FollowedNode { made, machine })
+        FollowedNode { made, machine }
     }
 
     /// The node's name.
     pub(crate) fn name(&self) -> NodeId
-        ensures { result ≡ named (B.making self.now.made) }
+        ensures name { result ≡ named (B.making self.now.made) }
+        ensures fits { IsNodeMaking (B.making self.now.made) }
     {
         self.made.tells();
         self.made.name()

@@ -1,10 +1,10 @@
 //! Nodes of a server whose steps are made again.
-ghost use Rattle.std.specs.Prelude.{◌≡◌, ◌≤◌, ◌⊎◌, ◌++◌, ◌∷◌, [], All, IfNone, IfOk, IsFalse, IsTrue};
+ghost use Rattle.std.specs.Prelude.{◌≡◌, ◌≤◌, ◌⊎◌, ◌++◌, All, IfNone, IfOk, IsFalse, IsTrue};
 ghost use Rattle.std.specs.Prelude.{List, MatchOption, None, OnOk, Some, length, map, slice_get};
 ghost use Rattle.kx_audit.specs.Arrivals.{requested};
 ghost use Rattle.kx_audit.specs.Joined.{Passed, WasHandedOut};
-ghost use Rattle.kx_follow.specs.Following.{Followed, HasMade, MakesOneMore, makings_of};
-ghost use Rattle.kx_follow.specs.Fresh.{AreFresh, IsNewName};
+ghost use Rattle.kx_follow.specs.Beginning.{AreLedBy, AreNodes, IsNewName};
+ghost use Rattle.kx_follow.specs.Following.{Followed, HasMade, MakesOneMore};
 ghost use Rattle.kx_follow.specs.Pending.{AreSent, MustWait};
 ghost use Rattle.kx_follow.specs.Whole.{IsWholeRun};
 ghost use Rattle.kx_message.specs.declared.message.Message.{Message};
@@ -48,28 +48,16 @@ fn has_name<B: Remade>(nodes: &[FollowedNode<B>], name: NodeId) -> bool
     false
 }
 
-// Puts a node after the others.
-fn add<B: Remade>(nodes: &mut Vec<FollowedNode<B>>, node: FollowedNode<B>) -> Result<(), AllocError>
-    ensures { OnOk result (nodes.new.items ≡ nodes.old.items ++ node ∷ []) }
+// Sees that no two of these nodes have one name.
+fn check_names<B: Remade>(nodes: &[FollowedNode<B>]) -> Result<(), FollowFault>
+    ensures { OnOk result (AreNodes B.making nodes.now) }
 {
-    nodes.push(node)?;
-    Ok(())
-}
-
-// The nodes that are made as these say, no two of one name.
-fn make_all<B: Remade>(alloc: Global, made: Vec<B>) -> Result<Vec<FollowedNode<B>>, FollowFault>
-    ensures makings { IfOk result (λ nodes. makings_of nodes.items ≡ made.items) }
-    ensures fresh { IfOk result (λ nodes. AreFresh B.making B.Machine.stands nodes.items) }
-{
-    let mut nodes = Vec::new(alloc);
-    for making in made {
-        let node = FollowedNode::new(alloc, making)?;
-        if has_name(nodes.as_slice(), node.name()) {
+    for number in 0..nodes.len() {
+        if has_name(&nodes[..number], nodes[number].name()) {
             return Err(FollowFault::DuplicateNode);
         }
-        add(&mut nodes, node)?;
     }
-    Ok(nodes)
+    Ok(())
 }
 
 // The machines of these nodes, taken out.
@@ -84,16 +72,19 @@ fn machines_of<B: Remade>(nodes: Vec<FollowedNode<B>>) -> Result<Vec<B::Machine>
 }
 
 impl<B: Remade> Follower<B> {
-    /// Nodes that are made as these say, and have taken nothing yet.
+    /// Nodes of which no step was made again. Whatever steps led to them before, those that are
+    /// made again follow them.
     ///
     /// # Errors
     ///
-    /// `DuplicateNode` where two of them have one name; `Memory` where memory runs out.
-    pub fn new(alloc: Global, made: Vec<B>) -> Result<Follower<B>, FollowFault>
-        ensures makings { IfOk result (λ f. makings_of f.nodes ≡ made.items) }
-        ensures made { IfOk result (HasMade B.making B.Machine.stands []) }
+    /// `DuplicateNode` where two of them have one name.
+    pub fn new(alloc: Global, nodes: Vec<FollowedNode<B>>) -> Result<Follower<B>, FollowFault>
+        ensures nodes { IfOk result (λ f. f.nodes ≡ nodes.items) }
+        ensures made { IfOk result (λ f. (before : List Passed)
+            → AreLedBy B.making B.Machine.stands before f.nodes
+            → HasMade B.making B.Machine.stands before f) }
     {
-        let nodes = make_all(alloc, made)?;
+        check_names(nodes.as_slice())?;
         Ok(Follower {
             nodes,
             pending: Pending::new(alloc),

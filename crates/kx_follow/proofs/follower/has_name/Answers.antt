@@ -32,7 +32,7 @@ loop-node-preserved g c =
     record {
       new = no_more g.B.Tells.making c.args.nodes.now c.loop-node.node-index c.node-item.result
           c.args.name c.loop-node.invariant.new c.loop-node-test.true c.node-item.is
-          (λ e. apart (c.name.ensures ∙ e));
+          (λ e. apart (c.name.ensures.name ∙ e));
     }
 
 pub returns : goal.returns
