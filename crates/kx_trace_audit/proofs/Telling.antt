@@ -1,8 +1,6 @@
 -- What became of a step that a trace tells of.
-use Rattle.std.proofs.Common.{◌≡◌, ◌∙◌, ◌≤◌, ℕ, List, Option, Some, None, ap, arith, length, subst}
+use Rattle.std.proofs.Common.{◌≡◌, ◌∙◌, ◌≤◌, ℕ, List, ap, arith, length, subst}
 use Rattle.std.proofs.Common.{refl, sym}
-use Rattle.std.specs.Prelude.{IfNone, MatchOption}
-use Rattle.std.proofs.lemmas.Option.{same_Some}
 use Rattle.std.specs.List.{flat_map}
 use Rattle.kx_audit.specs.Joined.{Passed}
 use Rattle.kx_audit.specs.Making.{NodeMaking}
@@ -25,20 +23,6 @@ use Rattle.kx_trace_audit.specs.declared.progress.Progress.{Progress}
 use Rattle.kx_trace_audit.specs.declared.progress.Progress.TheVariants as progress
 use Rattle.kx_trace_audit.specs.declared.refusal.TraceRefusal.{TraceRefusal}
 use Rattle.kx_trace_audit.specs.declared.refusal.TraceRefusal.TheVariants as refusal
-
-pub when_some : {A : Type 0} (P : Type 0) (Q : A → Type 0) (o : Option A) (x : A) → o ≡ Some x
-    → MatchOption o P Q → Q x
-when_some P Q None x e m = absurd cc
-when_some P Q (Some y) x e m = subst Q (same_Some y x e) m
-
-pub when_no_match : {A : Type 0} (P : Type 0) (Q : A → Type 0) (o : Option A) → o ≡ None
-    → MatchOption o P Q → P
-when_no_match P Q None e m = m
-when_no_match P Q (Some y) e m = absurd cc
-
-pub when_none : {A : Type 0} (P : Type 0) (o : Option A) → o ≡ None → IfNone o P → P
-when_none P None e m = m
-when_none P (Some y) e m = absurd cc
 
 -- no more bytes are done with than there are
 pub used_within : (became : Progress) (len used : ℕ) → used ≡ used_by became len → used ≤ len

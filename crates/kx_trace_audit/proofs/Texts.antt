@@ -3,7 +3,7 @@ use Rattle.std.proofs.Common.{◌≡◌, ◌≢◌, ◌⊎◌, ◌≤◌, ◌++�
 use Rattle.std.proofs.Common.{Option, ap, inl, inr, ⊎_elim, length, arith, subst}
 use Rattle.std.specs.Prelude.{MatchOption, slice_get, slice_set}
 use Rattle.std.proofs.lemmas.Option.{same_Some, slice_get_past}
-use Rattle.kx_trace_audit.specs.Auditing.{Auditing, fed}
+use Rattle.kx_trace_audit.specs.Auditing.{Auditing, IsFedAt, fed}
 use Rattle.kx_trace_audit.specs.Readings.{Reading, fed_on}
 
 -- one of these texts: the one that was fed, or another
@@ -43,11 +43,6 @@ nothing_fed (t ∷ texts) (suc k) bytes le =
     ap (λ (l : List (List ℕ)). t ∷ l) (nothing_fed texts k bytes (omega (arith, le)))
 
 ------ of the traces that are audited
-
--- these bytes of this trace were fed; if there is no such trace, nothing was done
-abbrev pub IsFedAt : {B M : Type 0} → Auditing B M → ℕ → List ℕ → Auditing B M → Type 0
-IsFedAt old k bytes new = MatchOption (slice_get old.traces k) (new ≡ old)
-    (λ r. new ≡ record old { traces = slice_set old.traces k (fed_on bytes r) })
 
 pub fed_past : {B M : Type 0} (a : Auditing B M) (k : ℕ) (bytes : List ℕ) → length a.traces ≤ k
     → IsFedAt a k bytes a

@@ -1,14 +1,16 @@
 -- Traces that are read further, and one more item of them.
-use Rattle.std.proofs.Common.{◌≡◌, ◌≢◌, ◌<◌, ◌≤◌, ◌++◌, ℕ, List, [], ◌∷◌, Some, map, length, drop}
+use Rattle.std.proofs.Common.{◌≡◌, ◌≢◌, ◌<◌, ◌≤◌, ◌++◌, ℕ, zero, suc, List, [], ◌∷◌, Option, Some}
+use Rattle.std.proofs.Common.{map, length, drop}
 use Rattle.std.proofs.Common.{refl, sym, ap, arith, ◌∙◌, subst, ⊎_elim, append-nil}
 use Rattle.std.specs.Prelude.{slice_get, slice_set}
 use Rattle.std.specs.List.{flat_map}
 use Rattle.std.proofs.lemmas.Grind.{flat_map-append}
 use Rattle.std.proofs.lemmas.List.{append_assoc, length-map, length-set}
 use Rattle.std.proofs.lemmas.Option.{same_Some, slice_get_within}
-use Rattle.kx_audit.specs.Joined.{Passed, at_node}
-use Rattle.kx_audit.specs.Making.{NodeMaking, named}
+use Rattle.kx_audit.specs.Joined.{GoesOn, Passed, at_node, led_to}
+use Rattle.kx_audit.specs.Making.{NodeMaking, named, node_of}
 use Rattle.kx_audit.proofs.Places.{from_map, to_map}
+use Rattle.kx_follow.specs.Beginning.{AreLedBy}
 use Rattle.kx_follow.specs.Following.{Followed, Following, HasMade, makings_of, name_of}
 use Rattle.kx_follow.specs.Pending.{MustWait}
 use Rattle.kx_follow.proofs.History.{at_push_other, at_push_own}
@@ -16,11 +18,11 @@ use Rattle.kx_follow.proofs.Lists.{get_set, map_set, set_same}
 use Rattle.kx_machine.specs.Meaning.{NodeState}
 use Rattle.kx_machine.specs.declared.input.Input.{Input}
 use Rattle.kx_message.specs.declared.message.NodeId.{NodeId}
-use Rattle.kx_trace.specs.Layout.{head_text}
 use Rattle.kx_trace.specs.declared.node.TracedNode.{TracedNode}
 use Rattle.kx_trace.specs.declared.node.TracedNode.TheVariants as traced
 use Rattle.kx_trace_audit.specs.Auditing.{Auditing, HasAudited, HasGone, MakesNext, OfTrace}
 use Rattle.kx_trace_audit.specs.Auditing.{PassesOver, TellsOfIts, WaitsAt, fed}
+use Rattle.kx_trace_audit.specs.Beginnings.{AreNodesOf, CameBefore, IsBegun, IsNodeOf, heads_of}
 use Rattle.kx_trace_audit.specs.Items.{BeginsTold}
 use Rattle.kx_trace_audit.specs.Readings.{Reading, advanced, begun, ending_of, fed_on}
 use Rattle.kx_trace_audit.specs.Servers as servers
@@ -30,14 +32,9 @@ use Rattle.kx_trace_audit.specs.Told.{input_in, told_text}
 use Rattle.kx_trace_audit.specs.declared.progress.Progress.{Progress}
 use Rattle.kx_trace_audit.specs.declared.progress.Progress.TheVariants as progress
 use Rattle.kx_trace_audit.specs.declared.servers.TraceOf.{TraceOf}
+use Rattle.kx_trace_files.specs.Beginning.{begun_text}
+use Rattle.kx_trace_files.specs.declared.reading.OpenedOn.{OpenedOn}
 use Rattle.kx_trace_audit.proofs.Texts.{IsFed, get_fed, length_fed}
-
-makings_are : (of : List TraceOf)
-    → map (λ (r : Reading). servers.making_of r.node) (map begun of)
-    ≡ map (λ (t : TraceOf). servers.making_of t.node) of
-makings_are [] = refl
-makings_are (t ∷ of) =
-    ap (λ (l : List NodeMaking). servers.making_of t.node ∷ l) (makings_are of)
 
 named_so : (n : TracedNode) → named (servers.making_of n) ≡ servers.name_of n
 named_so traced.Coordinator = refl
@@ -46,13 +43,17 @@ named_so (traced.Partition number) = refl
 ------ what a trace tells
 
 -- nothing, where only its head was read
-tells_nothing : (node : TracedNode) (rest : List ℕ) → rest ≡ []
-    → TellsOf node (head_text node) rest []
-tells_nothing node rest none = record {
+tells_nothing : (node : TracedNode) (opened : Option OpenedOn) (steps : List Passed)
+    → IsBegun node opened steps → TellsOf node (begun_text node opened) [] steps
+tells_nothing node opened steps begun = record {
+  opened = opened;
+  earlier = steps;
+  later = [];
   told = [];
-  text_is = sym (ap (λ (l : List ℕ). head_text node ++ [] ++ l) none
-      ∙ append-nil (head_text node ++ [])
-      ∙ append-nil (head_text node));
+  steps_are = sym (append-nil steps);
+  begun = begun;
+  text_is = sym (append-nil (begun_text node opened ++ [])
+      ∙ append-nil (begun_text node opened));
   are = NoneTold;
 }
 
@@ -61,35 +62,47 @@ tells_on : (node : TracedNode) (text rest bytes more new : List ℕ) (steps : Li
     → TellsOf node text rest steps → more ≡ text ++ bytes → new ≡ rest ++ bytes
     → TellsOf node more new steps
 tells_on node text rest bytes more new steps tells more_is new_is =
-    let front = head_text node ++ flat_map told_text tells.told in
+    let front = begun_text node tells.opened ++ flat_map told_text tells.told in
     record {
+      opened = tells.opened;
+      earlier = tells.earlier;
+      later = tells.later;
       told = tells.told;
+      steps_are = tells.steps_are;
+      begun = tells.begun;
       text_is = more_is ∙ ap (λ (l : List ℕ). l ++ bytes) tells.text_is
           ∙ append_assoc front rest bytes ∙ ap (λ (l : List ℕ). front ++ l) (sym new_is);
       are = tells.are;
     }
 
-text_then : (node : TracedNode) (told : List Told) (x : Told) (text rest new : List ℕ)
-    → text ≡ head_text node ++ flat_map told_text told ++ rest → rest ≡ told_text x ++ new
-    → text ≡ head_text node ++ flat_map told_text (told ++ x ∷ []) ++ new
-text_then node told x text rest new text_is rest_is =
-    let front = head_text node ++ flat_map told_text told in
+text_then : (head : List ℕ) (told : List Told) (x : Told) (text rest new : List ℕ)
+    → text ≡ head ++ flat_map told_text told ++ rest → rest ≡ told_text x ++ new
+    → text ≡ head ++ flat_map told_text (told ++ x ∷ []) ++ new
+text_then head told x text rest new text_is rest_is =
+    let front = head ++ flat_map told_text told in
     let one : flat_map told_text (told ++ x ∷ []) ≡ flat_map told_text told ++ told_text x =
     flat_map-append told_text told (x ∷ [])
     ∙ ap (λ (l : List ℕ). flat_map told_text told ++ l) (append-nil (told_text x)) in
     text_is ∙ ap (λ (l : List ℕ). front ++ l) rest_is
     ∙ sym (append_assoc front (told_text x) new)
-    ∙ ap (λ (l : List ℕ). l ++ new) (append_assoc (head_text node) (flat_map told_text told)
-    (told_text x) ∙ ap (λ (l : List ℕ). head_text node ++ l) (sym one))
+    ∙ ap (λ (l : List ℕ). l ++ new) (append_assoc head (flat_map told_text told) (told_text x)
+    ∙ ap (λ (l : List ℕ). head ++ l) (sym one))
 
 -- it tells of one more step
 tells_step : (node : TracedNode) (text rest new : List ℕ) (steps : List Passed) (x : Told)
     (p : Passed) → TellsOf node text rest steps → rest ≡ told_text x ++ new → IsStepOf x p
     → TellsOf node text new (steps ++ p ∷ [])
 tells_step node text rest new steps x p tells rest_is is = record {
+  opened = tells.opened;
+  earlier = tells.earlier;
+  later = tells.later ++ p ∷ [];
   told = tells.told ++ x ∷ [];
-  text_is = text_then node tells.told x text rest new tells.text_is rest_is;
-  are = OneMore tells.told steps x p tells.are is;
+  steps_are = ap (λ (l : List Passed). l ++ p ∷ []) tells.steps_are
+      ∙ append_assoc tells.earlier tells.later (p ∷ []);
+  begun = tells.begun;
+  text_is = text_then (begun_text node tells.opened) tells.told x text rest new tells.text_is
+      rest_is;
+  are = OneMore tells.told tells.later x p tells.are is;
 }
 
 -- it tells of an input that was not taken
@@ -97,9 +110,15 @@ tells_untaken : (node : TracedNode) (text rest new : List ℕ) (steps : List Pas
     → TellsOf node text rest steps → rest ≡ told_text (Untaken input) ++ new
     → TellsOf node text new steps
 tells_untaken node text rest new steps input tells rest_is = record {
+  opened = tells.opened;
+  earlier = tells.earlier;
+  later = tells.later;
   told = tells.told ++ Untaken input ∷ [];
-  text_is = text_then node tells.told (Untaken input) text rest new tells.text_is rest_is;
-  are = NotTaken tells.told steps input tells.are;
+  steps_are = tells.steps_are;
+  begun = tells.begun;
+  text_is = text_then (begun_text node tells.opened) tells.told (Untaken input) text rest new
+      tells.text_is rest_is;
+  are = NotTaken tells.told tells.later input tells.are;
 }
 
 ------ all traces
@@ -108,25 +127,129 @@ module _ {B M : Type 0} (making : B → NodeMaking) (stands : NodeState → M �
   abbrev Has : List (List ℕ) → List Passed → Auditing B M → Type 0
   Has texts history a = HasAudited making stands texts history a
 
+  -- the nodes of the traces, in order
+  abbrev Are : List TraceOf → List (Followed B M) → Type 0
+  Are of nodes = AreNodesOf making stands of nodes
+
+  makings_are : (of : List TraceOf) (nodes : List (Followed B M)) → Are of nodes
+      → map making (makings_of nodes)
+      ≡ map (λ (r : Reading). servers.making_of r.node) (map begun of)
+  makings_are [] [] are = refl
+  makings_are (t ∷ of) (n ∷ nodes) are =
+      ap (λ (m : NodeMaking). m ∷ map making (makings_of nodes)) are.0.making_is
+      ∙ ap (λ (l : List NodeMaking). servers.making_of t.node ∷ l) (makings_are of nodes are.1)
+  makings_are [] (n ∷ nodes) are = absurd are
+  makings_are (t ∷ of) [] are = absurd are
+
+  -- the node of this number is that of the trace of this number
+  pub record IsNodeAt (of : List TraceOf) (k : ℕ) (n : Followed B M) : Type 0 where
+    pub trace : TraceOf
+    pub there : slice_get of k ≡ Some trace
+    pub is : IsNodeOf making stands trace n
+
+  node_at : (of : List TraceOf) (nodes : List (Followed B M)) → Are of nodes → (k : ℕ)
+      (n : Followed B M) → slice_get nodes k ≡ Some n → IsNodeAt of k n
+  node_at [] [] are k n at = absurd cc
+  node_at (t ∷ of) (m ∷ nodes) are zero n at = record {
+    trace = t;
+    there = refl;
+    is = subst (IsNodeOf making stands t) (same_Some m n at) are.0;
+  }
+  node_at (t ∷ of) (m ∷ nodes) are (suc k) n at =
+      let found = node_at of nodes are.1 k n at in
+      record { trace = found.trace; there = found.there; is = found.is }
+  node_at [] (m ∷ nodes) are k n at = absurd are
+  node_at (t ∷ of) [] are k n at = absurd are
+
+  -- the trace of this number has a node
+  pub record HasNode (nodes : List (Followed B M)) (k : ℕ) (t : TraceOf) : Type 0 where
+    pub node : Followed B M
+    pub there : slice_get nodes k ≡ Some node
+    pub is : IsNodeOf making stands t node
+
+  has_node : (of : List TraceOf) (nodes : List (Followed B M)) → Are of nodes → (k : ℕ)
+      (t : TraceOf) → slice_get of k ≡ Some t → HasNode nodes k t
+  has_node [] [] are k t at = absurd cc
+  has_node (u ∷ of) (m ∷ nodes) are zero t at = record {
+    node = m;
+    there = refl;
+    is = subst (λ (x : TraceOf). IsNodeOf making stands x m) (same_Some u t at) are.0;
+  }
+  has_node (u ∷ of) (m ∷ nodes) are (suc k) t at =
+      let found = has_node of nodes are.1 k t at in
+      record { node = found.node; there = found.there; is = found.is }
+  has_node [] (m ∷ nodes) are k t at = absurd are
+  has_node (u ∷ of) [] are k t at = absurd are
+
+  -- one more of them
+  pub one_node_more : (of : List TraceOf) (nodes : List (Followed B M)) (t : TraceOf)
+      (n : Followed B M) → Are of nodes → IsNodeOf making stands t n
+      → Are (of ++ t ∷ []) (nodes ++ n ∷ [])
+  one_node_more [] [] t n are is = (is, tt)
+  one_node_more (u ∷ of) (m ∷ nodes) t n are is = (are.0, one_node_more of nodes t n are.1 is)
+  one_node_more [] (m ∷ nodes) t n are is = absurd are
+  one_node_more (u ∷ of) [] t n are is = absurd are
+
+  -- the name of a node is that of its trace's
+  name_as : (t : TraceOf) (n : Followed B M) → making n.made ≡ servers.making_of t.node
+      → name_of making n ≡ servers.name_of t.node
+  name_as t n is = ap named is ∙ named_so t.node
+
+  -- the steps that came before the traces led to the nodes
+  pub led_by : (of : List TraceOf) (nodes : List (Followed B M)) (before : List Passed)
+      → Are of nodes → CameBefore before of → AreLedBy making stands before nodes
+  led_by of nodes before are came = record {
+    each = λ k n at.
+        let own = node_at of nodes are k n at in
+        let t = own.trace in
+        let name = sym (name_as t n own.is.making_is) in
+        let made = sym own.is.making_is in
+        record {
+          goes = subst (λ (m : NodeMaking). GoesOn (node_of m)
+              (at_node (name_of making n) before)) made
+              (subst (λ (x : NodeId). GoesOn (node_of (servers.making_of t.node))
+              (at_node x before)) name (came.goes k t own.there));
+          stands_so = subst (λ (m : NodeMaking). stands (led_to (node_of m)
+              (at_node (name_of making n) before)) n.machine) made
+              (subst (λ (x : NodeId). stands (led_to (node_of (servers.making_of t.node))
+              (at_node x before)) n.machine) name
+              (own.is.stands_so (at_node (servers.name_of t.node) before)
+              (came.begun k t own.there)));
+        };
+    no_others = λ j p at.
+        let other = came.no_others j p at in
+        let its = has_node of nodes are other.number other.trace other.there in
+        record {
+          number = other.number;
+          node = its.node;
+          there = its.there;
+          name_is = other.name_is ∙ sym (name_as other.trace its.node its.is.making_is);
+        };
+    in_order = came.in_order;
+    requests = came.requests;
+    fits = came.fits;
+  }
+
   -- nothing was read but the heads
-  pub begins : (of : List TraceOf) (f : Following B M) (made : List B)
-      → HasMade making stands [] f → makings_of f.nodes ≡ made
-      → map making made ≡ map (λ (t : TraceOf). servers.making_of t.node) of
-      → Has (map (λ (t : TraceOf). head_text t.node) of) []
-      (record { following = f; traces = map begun of })
-  begins of f made has made_are makings = record {
+  pub begins : (of : List TraceOf) (f : Following B M) (before : List Passed) → Are of f.nodes
+      → CameBefore before of → HasMade making stands before f
+      → Has (heads_of of) before (record { following = f; traces = map begun of })
+  begins of f before are came has = record {
     made = has;
-    nodes_are = ap (λ (l : List B). map making l) made_are ∙ makings ∙ sym (makings_are of);
-    count = length-map of (λ (t : TraceOf). head_text t.node) ∙ sym (length-map of begun);
+    nodes_are = makings_are of f.nodes are;
+    count = length-map of (λ (t : TraceOf). begun_text t.node t.opened)
+        ∙ sym (length-map of begun);
     tells = λ k text r text_at at.
-        let head = from_map (λ (t : TraceOf). head_text t.node) of k text text_at in
+        let head = from_map (λ (t : TraceOf). begun_text t.node t.opened) of k text text_at in
         let read = from_map begun of k r at in
-        let same : head.0 ≡ read.0 = same_Some head.0 read.0 (sym head.1 ∙ read.1) in
-        subst (λ (x : Reading). TellsOf x.node text x.unread (at_node (servers.name_of x.node) []))
-        read.2
-        (subst (λ (t : List ℕ). TellsOf read.0.node t [] [])
-        (ap (λ (t : TraceOf). head_text t.node) (sym same) ∙ head.2)
-        (tells_nothing read.0.node [] refl));
+        let t = read.0 in
+        let same : head.0 ≡ t = same_Some head.0 t (sym head.1 ∙ read.1) in
+        subst (λ (x : Reading). TellsOf x.node text x.unread
+        (at_node (servers.name_of x.node) before)) read.2
+        (subst (λ (l : List ℕ). TellsOf t.node l [] (at_node (servers.name_of t.node) before))
+        (ap (λ (x : TraceOf). begun_text x.node x.opened) (sym same) ∙ head.2)
+        (tells_nothing t.node t.opened (at_node (servers.name_of t.node) before)
+        (came.begun k t read.1)));
   }
 
   module _ (texts : List (List ℕ)) (history : List Passed) (old : Auditing B M) (k : ℕ) (r : Reading)

@@ -1,6 +1,6 @@
 -- Traces that are audited, and what a yes says.
 use Rattle.std.specs.Prelude.{◌≡◌, ◌<◌, ◌≤◌, ◌++◌, ℕ, zero, suc, List, [], ◌∷◌, length, map}
-use Rattle.std.specs.Prelude.{slice_get, slice_set, Some}
+use Rattle.std.specs.Prelude.{MatchOption, slice_get, slice_set, Some}
 use Rattle.kx_audit.specs.Joined.{Passed, at_node}
 use Rattle.kx_audit.specs.Making.{NodeMaking}
 use Rattle.kx_follow.specs.Following.{Following, HasMade, makings_of}
@@ -11,7 +11,7 @@ use Rattle.kx_machine.specs.declared.input.Input.{Input}
 use Rattle.kx_system.specs.System.{System}
 use Rattle.kx_trace.specs.Reading.{More, record_at}
 use Rattle.kx_trace_audit.specs.Items.{BeginsTold}
-use Rattle.kx_trace_audit.specs.Readings.{Reading, advanced, ending_of}
+use Rattle.kx_trace_audit.specs.Readings.{Reading, advanced, ending_of, fed_on}
 use Rattle.kx_trace_audit.specs.Servers.{making_of, name_of}
 use Rattle.kx_trace_audit.specs.Stepping.{HasRefused, NeedsMore}
 use Rattle.kx_trace_audit.specs.Told.{IsStepOf, TellsOf, Told, Untaken, input_in}
@@ -29,6 +29,11 @@ abbrev pub fed : List (List ℕ) → ℕ → List ℕ → List (List ℕ)
 fed [] trace bytes = []
 fed (text ∷ texts) zero bytes = (text ++ bytes) ∷ texts
 fed (text ∷ texts) (suc trace) bytes = text ∷ fed texts trace bytes
+
+-- these bytes of this trace were fed; if there is no such trace, nothing was done
+abbrev pub IsFedAt : {B M : Type 0} → Auditing B M → ℕ → List ℕ → Auditing B M → Type 0
+IsFedAt old k bytes new = MatchOption (slice_get old.traces k) (new ≡ old)
+    (λ r. new ≡ record old { traces = slice_set old.traces k (fed_on bytes r) })
 
 -- what was read of this trace tells of the node's steps in this history
 abbrev pub TellsOfIts : List Passed → List ℕ → Reading → Type 0
@@ -60,11 +65,10 @@ module _ {B M : Type 0} (making : B → NodeMaking) (stands : NodeState → M �
   abbrev pub AreRead : List Reading → Type 0
   AreRead traces = (k : ℕ) (r : Reading) → slice_get traces k ≡ Some r → IsRead r
 
-  -- an audit's yes: the bytes of each trace, up to a record that was torn off, tell of the steps of
-  -- its node in an open schedule, which keeps the promises that need no trust in clients, and leads
-  -- to the nodes for which the machines stand
-  pub record IsYes (texts : List (List ℕ)) (a : Auditing B M) : Type 0 where
-    pub history : List Passed
+  -- an audit's yes: this history is an open schedule, which keeps the promises that need no trust
+  -- in clients, and leads to the nodes for which the machines stand; and the bytes of each trace, up
+  -- to a record that was torn off, tell of the steps of its node
+  pub record IsYes (texts : List (List ℕ)) (history : List Passed) (a : Auditing B M) : Type 0 where
     pub system : System
     pub audited : HasAudited texts history a
     pub read : AreRead a.traces

@@ -1,4 +1,5 @@
 pub mod Auditing
+pub mod Beginnings
 pub mod Faults
 pub mod Internal
 pub mod Items

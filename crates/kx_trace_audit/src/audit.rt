@@ -1,20 +1,19 @@
 //! The audit of traces.
-ghost use Rattle.std.specs.Prelude.{◌≡◌, ◌↔◌, ◌++◌, ℕ, [], IfOk, IsTrue, List, MatchOption, MatchResult};
-ghost use Rattle.std.specs.Prelude.{None, OnErr, OnOk, Some, map, slice_get, slice_set};
+ghost use Rattle.std.specs.Prelude.{◌≡◌, ◌↔◌, ◌++◌, ℕ, IfOk, IsTrue, List, MatchOption, MatchResult};
+ghost use Rattle.std.specs.Prelude.{None, OnErr, OnOk, Some, map, slice_get};
 ghost use Rattle.kx_audit.specs.Joined.{Passed};
 ghost use Rattle.kx_follow.specs.Following.{Followed};
-ghost use Rattle.kx_trace.specs.Layout.{head_text};
 ghost use Rattle.kx_trace_audit.specs.Auditing.{HasAudited, HasGone, IsFirstLeft, IsRead, IsRefused};
-ghost use Rattle.kx_trace_audit.specs.Auditing.{IsYes, fed};
-ghost use Rattle.kx_trace_audit.specs.Readings.{begun, fed_on};
-ghost use Rattle.kx_trace_audit.specs.Servers.{making_of};
+ghost use Rattle.kx_trace_audit.specs.Auditing.{IsFedAt, IsYes, fed};
+ghost use Rattle.kx_trace_audit.specs.Beginnings.{AreNodesOf, CameBefore, heads_of};
+ghost use Rattle.kx_trace_audit.specs.Readings.{begun};
 
 use crate::progress::Progress;
 use crate::reading::Reading;
 use crate::refusal::TraceRefusal;
 use crate::servers::{Server, TraceOf};
 use crate::step::go_on;
-use kx_follow::{FollowFault, Follower};
+use kx_follow::{FollowFault, FollowedNode, Follower};
 use kx_trace::read_record;
 use std::alloc::{AllocError, Global};
 use std::marker::Model;
@@ -42,35 +41,42 @@ fn readings(alloc: Global, of: &[TraceOf]) -> Result<Vec<Reading>, AllocError>
 {
     let mut traces = Vec::new(alloc);
     for one in of {
-        traces.push(Reading::new(alloc, *one))?;
+        traces.push(Reading::new(alloc, one))?;
     }
     Ok(traces)
 }
 
-// How these nodes are made.
-fn makings<B: Server>(alloc: Global, of: &[TraceOf]) -> Result<Vec<B>, AllocError>
-    ensures { IfOk result (λ made. map B.making made.items ≡ map (λ t. making_of t.node) of.now) }
+// The nodes of these traces, of which no step was made again.
+fn nodes_of<B: Server>(alloc: Global, of: &[TraceOf]) -> Result<Vec<FollowedNode<B>>, TraceRefusal>
+    ensures { IfOk result (λ nodes. AreNodesOf B.making B.Machine.stands of.now nodes.items) }
 {
-    let mut made = Vec::new(alloc);
+    let mut nodes = Vec::new(alloc);
     for one in of {
-        made.push(B::of(one.node))?;
+        let machine = B::begun(alloc, one)?;
+        let node = FollowedNode::new(B::of(one.node), machine);
+        if let Err(_) = nodes.push(node) {
+            return Err(TraceRefusal::Memory);
+        }
     }
-    Ok(made)
+    Ok(nodes)
 }
 
 impl<B: Server> TraceAudit<B> {
-    /// The audit of traces of which nothing was read after their heads.
+    /// The audit of traces of which nothing was read after their heads. Whatever steps came before
+    /// those that the traces tell, it goes on after them: after none, if each node was made with an
+    /// empty log.
     ///
     /// # Errors
     ///
-    /// `DuplicateNode` where two traces are of one node; `Memory` where memory runs out.
+    /// `DuplicateNode` where two traces are of one node; `Bytes` where the log with which a trace
+    /// begins can't be opened; `Memory` where memory runs out.
     pub fn new(alloc: Global, traces: &[TraceOf]) -> Result<TraceAudit<B>, TraceRefusal>
-        ensures { IfOk result
-            (HasAudited B.making B.Machine.stands (map (λ t. head_text t.node) traces.now) []) }
+        ensures { IfOk result (λ a. (before : List Passed) → CameBefore before traces.now
+            → HasAudited B.making B.Machine.stands (heads_of traces.now) before a) }
     {
-        let made = makings::<B>(alloc, traces)?;
+        let nodes = nodes_of::<B>(alloc, traces)?;
         let traces = readings(alloc, traces)?;
-        match Follower::new(alloc, made) {
+        match Follower::new(alloc, nodes) {
             Ok(follower) => Ok(TraceAudit {
                 alloc,
                 follower,
@@ -88,11 +94,7 @@ impl<B: Server> TraceAudit<B> {
     ///
     /// Only where memory runs out; then nothing was fed.
     pub fn feed(&mut self, trace: usize, bytes: &[u8]) -> Result<(), AllocError>
-        ensures ok { OnOk result (MatchOption (slice_get self.old.traces trace)
-            (self.new ≡ self.old)
-            (λ r. self.new ≡ record self.old {
-              traces = slice_set self.old.traces trace (fed_on bytes.now r);
-            })) }
+        ensures ok { OnOk result (IsFedAt self.old trace bytes.now self.new) }
         ensures audited { (texts : List (List ℕ)) (history : List Passed)
             → HasAudited B.making B.Machine.stands texts history self.old → OnOk result
             (HasAudited B.making B.Machine.stands (fed texts trace bytes.now) history self.new) }
@@ -166,12 +168,14 @@ impl<B: Server> TraceAudit<B> {
 
     /// The first trace of which a record is left that was not made again, by its number. None is the
     /// audit's yes: all of each trace was made again, but for records that were torn off, and so what
-    /// the bytes of the traces tell is an open schedule, which keeps the promises that need no trust
-    /// in clients, and leads to the nodes for which the machines stand.
+    /// the bytes of the traces tell, after the steps that came before them, is an open schedule, which
+    /// keeps the promises that need no trust in clients, and leads to the nodes for which the machines
+    /// stand.
     pub fn left_over(&self) -> Option<usize>
         ensures { (texts : List (List ℕ)) (history : List Passed)
             → HasAudited B.making B.Machine.stands texts history self.now → MatchOption result
-            (IsYes B.making B.Machine.stands texts self.now) (IsFirstLeft self.now.traces) }
+            (IsYes B.making B.Machine.stands texts history self.now)
+            (IsFirstLeft self.now.traces) }
     {
         self.follower.steps_are_an_open_schedule();
         for trace in 0..self.traces.len() {

@@ -51,8 +51,8 @@ impl Reading {
     ghost use Rattle.kx_trace_audit.specs.Servers.{name_of};
 
     /// A trace of which nothing was read after its head.
-    pub(crate) fn new(alloc: Global, of: TraceOf) -> Reading
-        ensures { result ≡ begun of }
+    pub(crate) fn new(alloc: Global, of: &TraceOf) -> Reading
+        ensures { result ≡ begun of.now }
     {
         Reading {
             node: of.node,

@@ -2,15 +2,21 @@
 ghost use Rattle.std.specs.Prelude.{◌≡◌};
 ghost use Rattle.kx_trace_audit.specs.Servers.{name_of};
 
+use crate::refusal::TraceRefusal;
 use kx_audit::Remade;
 use kx_message::NodeId;
 use kx_trace::TracedNode;
+use kx_trace_files::OpenedOn;
+use std::alloc::Global;
 
-/// The node that a trace is of, and what is known of the node's log.
-#[derive(Clone, Copy, Debug, PartialEq, Eq)]
+/// What a trace's head says, and what is known of the node's log.
+#[derive(Drop)]
 pub struct TraceOf {
     /// The node that the trace's head names.
     pub node: TracedNode,
+    /// The log on which the node was opened when its trace was begun; None where it was made with an
+    /// empty log.
+    pub opened: Option<OpenedOn>,
     /// How many bytes of whole entries the node's log had when its trace ended, where that is known.
     pub log_len: Option<u64>,
 }
@@ -25,16 +31,26 @@ pub fn node_name(node: TracedNode) -> NodeId
     }
 }
 
-/// How a server's node is made again, with an empty log.
+/// How a server's node is made again.
 pub trait Server: Remade {
-    ghost use Rattle.std.specs.Prelude.{◌≡◌, ◌↔◌, IsTrue};
+    ghost use Rattle.std.specs.Prelude.{◌≡◌, ◌↔◌, IfOk, IsTrue};
     ghost use Rattle.kx_machine.specs.Meaning.{NodeState};
+    ghost use Rattle.kx_trace_audit.specs.Beginnings.{StandsAsBegun};
     ghost use Rattle.kx_trace_audit.specs.Logs.{HasFound, log_size};
     ghost use Rattle.kx_trace_audit.specs.Servers.{making_of};
 
     /// How the node that a trace names is made.
     fn of(node: TracedNode) -> Self
         ensures { Self.making result ≡ making_of node };
+
+    /// The machine of the node of a trace, of which no step was made again.
+    ///
+    /// # Errors
+    ///
+    /// `Bytes` where the log with which the trace begins can't be opened; `Memory` where memory runs
+    /// out.
+    fn begun(alloc: Global, of: &TraceOf) -> Result<Self::Machine, TraceRefusal>
+        ensures { IfOk result (StandsAsBegun Self.Machine.stands of.now) };
 
     /// How many bytes the entries of its log have, or `u64::MAX` where they have more.
     fn log_len(machine: &Self::Machine) -> u64

@@ -1,11 +1,11 @@
 use Rattle.std.proofs.Common.{◌≡◌, ◌∙◌, Bool, Option, drop, subst, sym}
 use Rattle.std.proofs.lemmas.List.{take_rest}
+use Rattle.std.proofs.lemmas.Option.{MatchOption-at_none, MatchOption-at_some}
 use Rattle.kx_trace.specs.Reading.{More, record_at}
 use Rattle.kx_trace_audit.specs.Internal.{LooksAt}
 use Rattle.kx_trace_audit.specs.Lookahead.{EntryIsTold}
 use Rattle.kx_trace_audit.proofs.Ahead.{HasPassed, breaks, ends, passes, tells}
 use Rattle.kx_trace_audit.proofs.Records.{refused_so}
-use Rattle.kx_trace_audit.proofs.Telling.{when_no_match, when_some}
 use Rattle.kx_trace_audit.proofs.lookahead.entry_stood.Goals as goal
 
 pub returns-in_err-looked : goal.returns-in_err-looked
@@ -27,7 +27,7 @@ returns-in-Some-told c =
     let restarts = c.loop-looked.restarts in
     let passed = c.loop-looked.invariant.passed in
     let looked = c.in-Some.looked in
-    let looks = when_some (record_at rest ≡ More) (LooksAt n restarts rest) c.in_ok-looked.field-0
+    let looks = MatchOption-at_some (record_at rest ≡ More) (LooksAt n restarts rest)
     looked c.in-Some.is c.in_ok-looked.ensures in
     tells n bytes restarts rest passed looks.next looked.len looks.begins c.args.ending
     c.in-Some-told.stood (sym looks.told_is ∙ c.in-Some-told.is)
@@ -40,7 +40,7 @@ loop-looked-preserved c =
     let restarts = c.loop-looked.restarts in
     let passed = c.loop-looked.invariant.passed in
     let looked = c.in-Some.looked in
-    let looks = when_some (record_at rest ≡ More) (LooksAt n restarts rest) c.in_ok-looked.field-0
+    let looks = MatchOption-at_some (record_at rest ≡ More) (LooksAt n restarts rest)
     looked c.in-Some.is c.in_ok-looked.ensures in
     record {
       passed = subst (HasPassed n bytes looked.restarts) (sym (take_rest rest looked.len))
@@ -58,5 +58,5 @@ returns c =
     let passed = c.loop-looked.invariant.passed in
     subst (λ (o : Option Bool). EntryIsTold n c.args.ending bytes o) (sym c.stood_at.ensures)
     (ends n bytes restarts rest passed c.args.ending
-    (when_no_match (record_at rest ≡ More) (LooksAt n restarts rest) c.in_ok-looked.field-0
+    (MatchOption-at_none (record_at rest ≡ More) (LooksAt n restarts rest)
     c.in_default.is c.in_ok-looked.ensures))

@@ -1,9 +1,9 @@
 use Rattle.std.proofs.Common.{refl, subst, sym}
 use Rattle.std.proofs.lemmas.List.{take_rest}
+use Rattle.std.proofs.lemmas.Option.{MatchOption-at_none, MatchOption-at_some}
 use Rattle.kx_trace_audit.specs.Items.{IsItem, NeedsItem}
 use Rattle.kx_trace_audit.specs.Stepping.{HasStepped, NoItem}
 use Rattle.kx_trace_audit.specs.declared.step.Stepped.{Stepped}
-use Rattle.kx_trace_audit.proofs.Telling.{when_no_match, when_some}
 use Rattle.kx_trace_audit.proofs.step.go_on.Goals as goal
 
 pub returns-in_default-clause-steps : goal.returns-in_default-clause-steps
@@ -16,7 +16,7 @@ returns-in_default-clause-steps g c = λ history made n there.
     let end = c.args.ending in
     subst (λ (s : Stepped). HasStepped making stands k bytes end history old old s.progress s.used)
     (sym c.needs_more.ensures) (
-      NoItem (when_no_match (NeedsItem bytes end) (IsItem bytes) c.in_ok-item.field-0
+      NoItem (MatchOption-at_none (NeedsItem bytes end) (IsItem bytes)
           c.in_default.is c.in_ok-item.ensures),
       refl,
       refl,
@@ -26,5 +26,5 @@ pub returns-clause-steps : goal.returns-clause-steps
 returns-clause-steps g c = λ history made n there.
     let bytes = c.args.unread.now in
     c.take_item-stepped.ensures.steps bytes
-    (when_some (NeedsItem bytes c.args.ending) (IsItem bytes) c.in_ok-item.field-0 c.in-Some.item
+    (MatchOption-at_some (NeedsItem bytes c.args.ending) (IsItem bytes) c.in-Some.item
     c.in-Some.is c.in_ok-item.ensures) (take_rest bytes c.in-Some.item.used) history made n there

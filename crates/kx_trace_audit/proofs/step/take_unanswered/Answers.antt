@@ -1,8 +1,9 @@
 use Rattle.std.proofs.Common.{List, ap, length}
+use Rattle.std.proofs.lemmas.Option.{MatchOption-at_some}
 use Rattle.kx_follow.specs.Following.{MakesOneMore}
 use Rattle.kx_machine.specs.declared.taken.Taken.{Taken}
 use Rattle.kx_message.specs.declared.message.Message.{Message}
-use Rattle.kx_trace_audit.proofs.Telling.{unanswered, when_some}
+use Rattle.kx_trace_audit.proofs.Telling.{unanswered}
 use Rattle.kx_trace_audit.proofs.step.take_unanswered.Goals as goal
 
 pub returns : goal.returns
@@ -12,8 +13,8 @@ returns g c = λ history made.
     let old = c.args.follower.now in
     let new = c.take.new.self in
     let input = c.args.input.now in
-    let is = when_some _ (λ (taken : Taken). MakesOneMore making stands c.args.node input c.args.mode taken history old new)
-    c.in_ok-taken.field-0 c.in-Some.taken c.in-Some.is (c.in_ok-taken.ensures.made history made) in
+    let is = MatchOption-at_some _ (λ (taken : Taken). MakesOneMore making stands c.args.node input c.args.mode taken history old new)
+    c.in-Some.taken c.in-Some.is (c.in_ok-taken.ensures.made history made) in
     unanswered making stands c.args.node history old new input c.args.mode c.in-Some.taken is
     (length c.as_slice-sent.result.now)
     (ap (λ (l : List Message). length l) c.as_slice-sent.ensures)

@@ -1,9 +1,9 @@
 use Rattle.std.proofs.Common.{◌≤◌, ◌<◌, List, ap, arith, length, refl, subst, sym}
 use Rattle.std.specs.Prelude.{ℕ, slice_set}
 use Rattle.std.proofs.lemmas.Option.{slice_get_read}
-use Rattle.kx_trace_audit.specs.Auditing.{Auditing, HasAudited, fed}
+use Rattle.kx_trace_audit.specs.Auditing.{Auditing, HasAudited, IsFedAt, fed}
 use Rattle.kx_trace_audit.specs.Readings.{Reading}
-use Rattle.kx_trace_audit.proofs.Texts.{IsFedAt, fed_at, fed_past, nothing_fed}
+use Rattle.kx_trace_audit.proofs.Texts.{fed_at, fed_past, nothing_fed}
 use Rattle.kx_trace_audit.proofs.Traces.{feeds}
 use Rattle.kx_trace_audit.proofs.audit.TraceAudit.feed.Goals as goal
 

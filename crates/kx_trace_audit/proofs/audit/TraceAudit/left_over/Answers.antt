@@ -17,7 +17,6 @@ returns g c = λ texts history has.
     (c.steps_are_an_open_schedule.ensures history own.made) in
     let seen = ap (λ (a : Auditing _ _). length a.traces) c.self.view_is in
     record {
-      history = history;
       system = all.0;
       audited = has;
       read = λ k r at.
