@@ -19,7 +19,7 @@ use Rattle.kx_server_audit.specs.Driving.{Advances, AreAudited, AreStuck, Audite
 use Rattle.kx_server_audit.specs.Driving.{AreTold, EndsIn, GoesNoFurther, GoesOn, HasGoneOn, IsFed}
 use Rattle.kx_server_audit.specs.Driving.{IsStuck, IsTold, IsUnderWay, IsWhole, ItemLeft, ItemRefused}
 use Rattle.kx_server_audit.specs.Driving.{OthersStay, RefusesAt, SaysYes, Stays, making}
-use Rattle.kx_server_audit.specs.Reads.{IsEnded, Origin}
+use Rattle.kx_server_audit.specs.Reads.{IsEnded, Start}
 use Rattle.kx_server_audit.specs.declared.auditing.Ending.{Ending}
 use Rattle.kx_server_audit.specs.declared.auditing.Ending.TheVariants as ending
 use Rattle.kx_server_audit.specs.declared.auditing.ServerAudit.{ServerAudit}
@@ -148,7 +148,8 @@ module _ {I : Type 0} (remaining : I → Option (List ℕ)) where
   pub makes : (texts : List (List ℕ)) (history more : List Passed) (k : ℕ) (old new : ServerAudit)
       (from to : Source I) → to.reader ≡ from.reader → to.is_ended ≡ from.is_ended
       → (IsTold k old from → IsTold k new to) → OthersStay k old.audit new.audit
-      → (AreCounts history old.counts → AreCounts (history ++ more) new.counts)
+      → ((done : List Passed) → AreCounts done old.counts
+      → AreCounts (done ++ more) new.counts)
       → AreAudited texts (history ++ more) new.audit
       → Advances remaining texts history k old new from to
   makes texts history more k old new from to reader ended told others counted audited = record {
@@ -174,8 +175,8 @@ module _ {I : Type 0} (remaining : I → Option (List ℕ)) where
   stays texts history k old new from to reader ended told others counts audited =
       let none = append-nil history in
       makes texts history [] k old new from to reader ended told others
-      (λ counted. subst (λ (h : List Passed). AreCounts h new.counts) (sym none)
-      (subst (AreCounts history) (sym counts) counted))
+      (λ done counted. subst (λ (h : List Passed). AreCounts h new.counts)
+      (sym (append-nil done)) (subst (AreCounts done) (sym counts) counted))
       (subst (λ (h : List Passed). AreAudited texts h new.audit) (sym none) audited)
 
   -- these bytes were read, and no step was made
@@ -196,8 +197,8 @@ module _ {I : Type 0} (remaining : I → Option (List ℕ)) where
         others = is_fed.others;
         audited = subst (λ (h : List Passed). AreAudited (fed texts k bytes) h new.audit)
             (sym none) audited;
-        counted = λ counted. subst (λ (h : List Passed). AreCounts h new.counts) (sym none)
-            (subst (AreCounts history) (sym counts) counted);
+        counted = λ done counted. subst (λ (h : List Passed). AreCounts h new.counts)
+            (sym (append-nil done)) (subst (AreCounts done) (sym counts) counted);
       }
 
   -- it goes on twice
@@ -219,7 +220,8 @@ module _ {I : Type 0} (remaining : I → Option (List ℕ)) where
         audited = subst (λ (ts : List (List ℕ)). AreAudited ts (history ++ (a.more ++ b.more)) new.audit)
             (fed-fed texts k a.read b.read)
             (subst (λ (h : List Passed). AreAudited (fed (fed texts k a.read) k b.read) h new.audit) joined b.audited);
-        counted = λ c. subst (λ (h : List Passed). AreCounts h new.counts) joined (b.counted (a.counted c));
+        counted = λ done c. subst (λ (h : List Passed). AreCounts h new.counts)
+            (append_assoc done a.more b.more) (b.counted (done ++ a.more) (a.counted done c));
       }
 
   pub goes_nowhere : (k : ℕ) (a : ServerAudit) (s : Source I) → GoesOn remaining k a a s s
@@ -244,20 +246,21 @@ module _ {I : Type 0} (remaining : I → Option (List ℕ)) where
       (goes_nowhere k old from texts history has))
 
   -- it has gone on in one of the traces
-  pub one_goes : (origins : List Origin) (k : ℕ) (old new : ServerAudit) (from to : Source I)
+  pub one_goes : (start : Start) (k : ℕ) (old new : ServerAudit) (from to : Source I)
       (sources : List (Source I)) → from ≡ get_or sources k from → GoesOn remaining k old new from to
-      → IsUnderWay remaining origins old sources
-      → IsUnderWay remaining origins new (slice_set sources k to)
-  one_goes origins k old new from to sources e goes w =
-      let a = goes w.texts w.history w.audited in
+      → IsUnderWay remaining start old sources
+      → IsUnderWay remaining start new (slice_set sources k to)
+  one_goes start k old new from to sources e goes w =
+      let a = goes w.texts (start.before ++ w.more) w.audited in
       record {
         texts = fed w.texts k a.read;
-        history = w.history ++ a.more;
-        audited = a.audited;
-        read = read_at remaining origins w.texts sources k from to a.read e a.consumed a.ended w.read;
+        more = w.more ++ a.more;
+        audited = subst (λ (h : List Passed). AreAudited (fed w.texts k a.read) h new.audit)
+            (append_assoc start.before w.more a.more) a.audited;
+        read = read_at remaining start.origins w.texts sources k from to a.read e a.consumed a.ended w.read;
         told = λ j s there. told_at k j old new from to s sources e a.told a.others w.told there
             (cases_eq j k);
-        counted = a.counted w.counted;
+        counted = a.counted w.more w.counted;
       }
 
   -- it went on in this trace before it ended so
@@ -303,62 +306,64 @@ module _ {I : Type 0} (remaining : I → Option (List ℕ)) where
   ends_refused k old new from why ending.Memory counts refused h = tt
 
   -- going on in one of the traces ended the audit
-  pub one_ends : (origins : List Origin) (k : ℕ) (old new : ServerAudit) (from : Source I)
+  pub one_ends : (start : Start) (k : ℕ) (old new : ServerAudit) (from : Source I)
       (sources : List (Source I)) (e : Ending) → from ≡ get_or sources k from
       → k < length sources → EndsIn remaining k old new from e
-      → IsUnderWay remaining origins old sources → EndsBy origins new e
-  one_ends origins k old new from sources (ending.Refused r) is within h w =
-      let u = one_goes origins k old h.before from h.to sources is h.goes w in
+      → IsUnderWay remaining start old sources → EndsBy start new e
+  one_ends start k old new from sources (ending.Refused r) is within h w =
+      let u = one_goes start k old h.before from h.to sources is h.goes w in
       ItemRefused (record {
         texts = u.texts;
-        history = u.history;
+        more = u.more;
         before = h.before.audit;
-        parts = are_parts remaining origins u.texts (slice_set sources k h.to) u.read;
+        parts = are_parts remaining start.origins u.texts (slice_set sources k h.to) u.read;
         audited = u.audited;
-        counted = subst (AreCounts u.history) (sym h.counts_are) u.counted;
+        counted = subst (AreCounts u.more) (sym h.counts_are) u.counted;
         known = h.known;
-        refused = subst (λ (n : ℕ). IsRefused making broker_stands u.history n h.before.audit new.audit r.why)
-            (sym h.trace_is) (h.refused u.texts u.history u.audited);
+        refused = subst (λ (n : ℕ). IsRefused making broker_stands (start.before ++ u.more) n
+            h.before.audit new.audit r.why) (sym h.trace_is)
+            (h.refused u.texts (start.before ++ u.more) u.audited);
       })
-  one_ends origins k old new from sources (ending.Read trace) is within h w =
-      let count = count_read remaining origins w.texts sources w.read in
+  one_ends start k old new from sources (ending.Read trace) is within h w =
+      let count = count_read remaining start.origins w.texts sources w.read in
       omega (arith, h, count.1)
-  one_ends origins k old new from sources ending.Memory is within h w = tt
+  one_ends start k old new from sources ending.Memory is within h w = tt
 
   -- a source can't be read
-  pub unread_ends : (origins : List Origin) (a : ServerAudit) (sources : List (Source I)) (k : ℕ)
-      (e : Ending) → k < length sources → CannotRead k e → IsUnderWay remaining origins a sources
-      → EndsBy origins a e
-  unread_ends origins a sources k (ending.Refused r) within h w = absurd h
-  unread_ends origins a sources k (ending.Read trace) within h w =
-      let count = count_read remaining origins w.texts sources w.read in
+  pub unread_ends : (start : Start) (a : ServerAudit) (sources : List (Source I)) (k : ℕ)
+      (e : Ending) → k < length sources → CannotRead k e → IsUnderWay remaining start a sources
+      → EndsBy start a e
+  unread_ends start a sources k (ending.Refused r) within h w = absurd h
+  unread_ends start a sources k (ending.Read trace) within h w =
+      let count = count_read remaining start.origins w.texts sources w.read in
       omega (arith, h, count.1)
-  unread_ends origins a sources k ending.Memory within h w = tt
+  unread_ends start a sources k ending.Memory within h w = tt
 
   -- all was read, and the audit says yes
-  pub says_yes : (origins : List Origin) (a : ServerAudit)
+  pub says_yes : (start : Start) (a : ServerAudit)
       (shown sources : List (Source I)) → shown ≡ sources → All (λ s. s.is_ended ≡ true) shown
-      → ((texts : List (List ℕ)) (history : List Passed) → AreAudited texts history a.audit → IsYes making broker_stands texts a.audit)
-      → IsUnderWay remaining origins a sources → SaysYes origins a
-  says_yes origins a shown sources e ended says w = record {
+      → ((texts : List (List ℕ)) (history : List Passed) → AreAudited texts history a.audit
+      → IsYes making broker_stands texts history a.audit)
+      → IsUnderWay remaining start a sources → SaysYes start a
+  says_yes start a shown sources e ended says w = record {
     texts = w.texts;
-    history = w.history;
-    whole = all_are_read remaining origins w.texts sources
+    more = w.more;
+    whole = all_are_read remaining start.origins w.texts sources
         (subst (All (λ (s : Source I). s.is_ended ≡ true)) e ended) w.read;
     audited = w.audited;
     counted = w.counted;
-    says = says w.texts w.history w.audited;
+    says = says w.texts (start.before ++ w.more) w.audited;
   }
 
-  left_at : (origins : List Origin) (a : ServerAudit) (sources : List (Source I)) (k : ℕ)
+  left_at : (start : Start) (a : ServerAudit) (sources : List (Source I)) (k : ℕ)
       (e : Ending) → AreStuck a sources → IsFirstLeft a.audit.traces k
-      → RefusesAt k refusal.Unsent e → IsUnderWay remaining origins a sources → EndsBy origins a e
-  left_at origins a sources k (ending.Refused r) stuck first h w =
-      let count = count_read remaining origins w.texts sources w.read in
+      → RefusesAt k refusal.Unsent e → IsUnderWay remaining start a sources → EndsBy start a e
+  left_at start a sources k (ending.Refused r) stuck first h w =
+      let count = count_read remaining start.origins w.texts sources w.read in
       ItemLeft (record {
         texts = w.texts;
-        history = w.history;
-        parts = are_parts remaining origins w.texts sources w.read;
+        more = w.more;
+        parts = are_parts remaining start.origins w.texts sources w.read;
         audited = w.audited;
         counted = w.counted;
         why_is = h.1;
@@ -366,31 +371,31 @@ module _ {I : Type 0} (remaining : I → Option (List ℕ)) where
         stuck = λ j below.
             let at = element sources j (omega (arith, count.0, count.1, w.audited.count)) in
             let reading = element a.audit.traces j below in
-            no_further w.history j a.audit (at.0.is_ended ≡ true)
-            (IsWhole origins w.texts j a.audit)
+            no_further (start.before ++ w.more) j a.audit (at.0.is_ended ≡ true)
+            (IsWhole start.origins w.texts j a.audit)
             (λ ended. record {
-              all = all_at remaining origins w.texts sources j at.0 at.1 ended w.read;
+              all = all_at remaining start.origins w.texts sources j at.0 at.1 ended w.read;
               reading = reading.0;
               there = reading.1;
               is_end = w.told j at.0 at.1 reading.0 reading.1 ended;
             })
-            (stuck j at.0 at.1 w.texts w.history w.audited);
+            (stuck j at.0 at.1 w.texts (start.before ++ w.more) w.audited);
       })
-  left_at origins a sources k (ending.Read trace) stuck first h w = absurd h
-  left_at origins a sources k ending.Memory stuck first h w = tt
+  left_at start a sources k (ending.Read trace) stuck first h w = absurd h
+  left_at start a sources k ending.Memory stuck first h w = tt
 
   -- each trace is stuck, and an item is left
-  pub says_left : (origins : List Origin) (a : ServerAudit) (sources : List (Source I)) (k : ℕ)
+  pub says_left : (start : Start) (a : ServerAudit) (sources : List (Source I)) (k : ℕ)
       (e : Ending) → AreStuck a sources
       → ((texts : List (List ℕ)) (history : List Passed) → AreAudited texts history a.audit
       → IsFirstLeft a.audit.traces k)
       → (k < length sources → RefusesAt k refusal.Unsent e)
-      → IsUnderWay remaining origins a sources → EndsBy origins a e
-  says_left origins a sources k e stuck left refuses w =
-      let first = left w.texts w.history w.audited in
-      let count = count_read remaining origins w.texts sources w.read in
+      → IsUnderWay remaining start a sources → EndsBy start a e
+  says_left start a sources k e stuck left refuses w =
+      let first = left w.texts (start.before ++ w.more) w.audited in
+      let count = count_read remaining start.origins w.texts sources w.read in
       let within = slice_get_within a.audit.traces k first.reading first.there in
-      left_at origins a sources k e stuck first
+      left_at start a sources k e stuck first
       (refuses (omega (arith, count.0, count.1, w.audited.count, within))) w
 
 ------ traces that are stuck
@@ -426,41 +431,41 @@ all_stuck n a sources e below = λ k s there.
     below k (omega (arith, slice_get_within sources k s there)) s there
 
 -- one more trace of a round
-pub next_trace : {I : Type 0} (remaining : I → Option (List ℕ)) (origins : List Origin) (n : ℕ)
+pub next_trace : {I : Type 0} (remaining : I → Option (List ℕ)) (start : Start) (n : ℕ)
     (old new : ServerAudit) (from to : Source I) (sources : List (Source I)) (before went_on : Bool)
     → from ≡ get_or sources n from → HasGoneOn remaining n old new from to went_on
-    → IsUnderWay remaining origins old sources × (before ≡ false → AreStuckBelow n old sources)
-    → IsUnderWay remaining origins new (slice_set sources n to)
+    → IsUnderWay remaining start old sources × (before ≡ false → AreStuckBelow n old sources)
+    → IsUnderWay remaining start new (slice_set sources n to)
     × ((before || went_on) ≡ false → AreStuckBelow (n + 1) new (slice_set sources n to))
-next_trace remaining origins n old new from to sources before true is gone w = (
-  one_goes remaining origins n old new from to sources is gone w.0,
+next_trace remaining start n old new from to sources before true is gone w = (
+  one_goes remaining start n old new from to sources is gone w.0,
   λ none. absurd (false≢true (sym none ∙ or_true before)),
 )
-next_trace remaining origins n old new from to sources true false is gone w = (
-  one_goes remaining origins n old new from to sources is
+next_trace remaining start n old new from to sources true false is gone w = (
+  one_goes remaining start n old new from to sources is
       (has_gone remaining n old new from to false gone) w.0,
   λ none. absurd (false≢true (sym none)),
 )
-next_trace remaining origins n old new from to sources false false is gone w = (
-  one_goes remaining origins n old new from to sources is
+next_trace remaining start n old new from to sources false false is gone w = (
+  one_goes remaining start n old new from to sources is
       (has_gone remaining n old new from to false gone) w.0,
-  λ none. stuck_next w.0.texts w.0.history n old new from to sources is w.0.audited gone
+  λ none. stuck_next w.0.texts (start.before ++ w.0.more) n old new from to sources is w.0.audited gone
       (w.1 refl),
 )
 
 -- no item is left
-pub ended : {I T : Type 0} (remaining : I → Option (List ℕ)) (origins : List Origin)
+pub ended : {I T : Type 0} (remaining : I → Option (List ℕ)) (start : Start)
     (a : ServerAudit) (shown sources : List (Source I)) (r : Result T Ending) → shown ≡ sources
     → MatchResult r (λ done. All (λ s. s.is_ended ≡ true) shown)
     (λ e. (k : ℕ) × (k < length shown) × CannotRead k e)
     → ((texts : List (List ℕ)) (history : List Passed) → AreAudited texts history a.audit
-    → IsYes making broker_stands texts a.audit)
-    → IsUnderWay remaining origins a sources
-    → MatchResult r (λ done. SaysYes origins a) (EndsBy origins a)
-ended remaining origins a shown sources (Ok done) e all says w =
-    says_yes remaining origins a shown sources e all says w
-ended {I} remaining origins a shown sources (Err x) e why says w =
-    unread_ends remaining origins a sources why.0 x
+    → IsYes making broker_stands texts history a.audit)
+    → IsUnderWay remaining start a sources
+    → MatchResult r (λ done. SaysYes start a) (EndsBy start a)
+ended remaining start a shown sources (Ok done) e all says w =
+    says_yes remaining start a shown sources e all says w
+ended {I} remaining start a shown sources (Err x) e why says w =
+    unread_ends remaining start a sources why.0 x
     (subst (λ (ss : List (Source I)). why.0 < length ss) e why.1) why.2 w
 
 ------ counts of transactions

@@ -1,6 +1,6 @@
 -- Logs that are compared, and what an audit then finds and tells.
-use Rattle.std.proofs.Common.{◌≡◌, ◌∷◌, ℕ, zero, suc, All, Bool, IfErr, IsTrue, List, [], None}
-use Rattle.std.proofs.Common.{Option, Result, Some, drop, false, is_some, length, refl, slice_get, subst, sym}
+use Rattle.std.proofs.Common.{◌≡◌, ◌∷◌, ℕ, zero, suc, All, Bool, IfErr, IsTrue, List, []}
+use Rattle.std.proofs.Common.{Option, Result, Some, drop, false, length, refl, slice_get, subst, sym}
 use Rattle.std.proofs.lemmas.Bool.{false≢true}
 use Rattle.std.proofs.lemmas.List.Elements.{All-cons, All-nil, All-same}
 use Rattle.std.proofs.lemmas.Result.{IfErr-weaker}
@@ -10,7 +10,7 @@ use Rattle.kx_server_audit.specs.Counting.{decided_in}
 use Rattle.kx_server_audit.specs.Denials.{IfNo, IsItemOf, IsLogDenied, IsNoAtOnce, IsOtherLogOf}
 use Rattle.kx_server_audit.specs.Denials.{IsStopped}
 use Rattle.kx_server_audit.specs.Driving.{EndsBy, SaysNo, SaysYes}
-use Rattle.kx_server_audit.specs.Reads.{IsOfNode, origins_of}
+use Rattle.kx_server_audit.specs.Reads.{IsOfNode, Start, WhateverCame, origins_of}
 use Rattle.kx_server_audit.specs.Telling.{AreFindings, AtItem, AtLog, HasLog, SaysNoOf, machines_in}
 use Rattle.kx_server_audit.specs.declared.auditing.Ending.{Ending}
 use Rattle.kx_server_audit.specs.declared.auditing.Ending.TheVariants as ending
@@ -34,11 +34,6 @@ all_none ms e = All-same HasLog ms [] e (All-nil HasLog)
 pub all_more : (m : BrokerMachine StoreState) (ms old : List (BrokerMachine StoreState))
     → old ≡ m ∷ ms → HasLog m → All HasLog ms → All HasLog old
 all_more m ms old e has all = All-same HasLog old (m ∷ ms) e (All-cons HasLog m ms has all)
-
--- an option that is there
-pub some_so : {A : Type 0} (o : Option A) (x : A) → o ≡ Some x → IsTrue (is_some o)
-some_so (Some y) x e = refl
-some_so None x e = cc
 
 ------ a no
 
@@ -121,7 +116,8 @@ module _ {I : Type 0} (remaining : I → Option (List ℕ)) (of : List TraceOf)
     (a : ServerAudit) (counts : Counts) (transactions : ℕ) (counts_are : counts ≡ a.counts)
     (transactions_are : transactions ≡ decided_in (machines_in a)) where
   -- the audit of traces says no
-  pub item_no : (e : Ending) (d : Denial) → EndsBy (origins_of remaining of sources) a e
+  pub item_no : (e : Ending) (d : Denial)
+      → WhateverCame (origins_of remaining of sources) (λ start. EndsBy start a e)
       → IsItemOf of e d → SaysNoOf compares counts transactions d
   item_no (ending.Refused r) (denial.Item node item why) ends is =
       let origins = origins_of remaining of sources in
@@ -131,10 +127,12 @@ module _ {I : Type 0} (remaining : I → Option (List ℕ)) (of : List TraceOf)
         trace = r.trace;
         of_node = subst (IsOfNode origins r.trace) (sym is.2)
             (of_node remaining of sources r.trace is.0 count is.1);
-        says = subst (λ (w : TraceRefusal). SaysNo origins a (record { trace = r.trace; item = item; why = w }))
-            (sym is.4)
-            (subst (λ (n : ℕ). SaysNo origins a (record { trace = r.trace; item = n; why = r.why }))
-            (sym is.3) ends);
+        says = λ before came.
+            let start : Start = record { origins = origins; before = before } in
+            subst (λ (w : TraceRefusal). SaysNo start a
+            (record { trace = r.trace; item = item; why = w })) (sym is.4)
+            (subst (λ (n : ℕ). SaysNo start a
+            (record { trace = r.trace; item = n; why = r.why })) (sym is.3) (ends before came));
         counts_are = counts_are;
         transactions_are = transactions_are;
       })
@@ -144,7 +142,8 @@ module _ {I : Type 0} (remaining : I → Option (List ℕ)) (of : List TraceOf)
   item_no ending.Memory d ends is = absurd is
 
   -- a log isn't the one to which its trace leads
-  pub log_no : (d : Denial) → SaysYes (origins_of remaining of sources) a
+  pub log_no : (d : Denial)
+      → WhateverCame (origins_of remaining of sources) (λ start. SaysYes start a)
       → IsTrue compares × IsLogDenied (machines_in a) of d
       → SaysNoOf compares counts transactions d
   log_no (denial.OtherLog node) says h =

@@ -1,5 +1,6 @@
 pub mod Advancing
 pub mod Comparing
+pub mod OnLogs
 pub mod Reading
 pub mod Restarting
 pub mod Texts

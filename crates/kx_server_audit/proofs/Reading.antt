@@ -1,17 +1,18 @@
 -- What was read of the sources of traces, a piece more at a time.
 use Rattle.std.proofs.Common.{◌≡◌, ◌∙◌, ◌++◌, ℕ, zero, suc, List, [], ◌∷◌, Option, ap, append-nil}
-use Rattle.std.proofs.Common.{All, Some, append_assoc, arith, false, get_or, length, map, refl}
+use Rattle.std.proofs.Common.{All, Some, append_assoc, arith, false, get_or, length, refl}
 use Rattle.std.proofs.Common.{slice_get, slice_set, subst, sym, true}
 use Rattle.std.proofs.lemmas.Bool.{false≢true}
 use Rattle.std.proofs.lemmas.List.Elements.{All-head, All-tail}
 use Rattle.std.specs.Io.KnownBytes.{Consumes}
 use Rattle.std.proofs.KnownBytes.{Consumes-all, Consumes-nil, Consumes-trans}
 use Rattle.kx_server_audit.specs.Reads.{AreAllOf, ArePartsOf, AreReadOf, IsAllAt, IsAllOf, IsEnded}
-use Rattle.kx_server_audit.specs.Reads.{IsOfNode, IsReadOf, Origin, origins_of}
+use Rattle.kx_server_audit.specs.Reads.{IsOfNode, IsReadOf, Origin, head_of, origins_of, traces_of}
 use Rattle.kx_server_audit.specs.declared.sources.Source.{Source}
-use Rattle.kx_trace.specs.Layout.{head_text}
 use Rattle.kx_trace_audit.specs.Auditing.{fed}
+use Rattle.kx_trace_audit.specs.Beginnings.{heads_of}
 use Rattle.kx_trace_audit.specs.declared.servers.TraceOf.{TraceOf}
+use Rattle.kx_trace_files.specs.Beginning.{begun_text}
 
 pub fed-nil : (texts : List (List ℕ)) (k : ℕ) → fed texts k [] ≡ texts
 fed-nil [] k = refl
@@ -33,7 +34,7 @@ module _ {I : Type 0} (remaining : I → Option (List ℕ)) where
       → IsReadOf remaining o text s → IsReadOf remaining o (text ++ read) t
   read_more o text s t read consumed ended r = record {
     read = r.read ++ read;
-    text_is = ap (λ (x : List ℕ). x ++ read) r.text_is ∙ append_assoc o.head r.read read;
+    text_is = ap (λ (x : List ℕ). x ++ read) r.text_is ∙ append_assoc (head_of o) r.read read;
     consumed = Consumes-trans o.rest (remaining s.reader) (remaining t.reader) r.read read r.consumed consumed;
     ended = ended r.ended;
   }
@@ -42,7 +43,7 @@ module _ {I : Type 0} (remaining : I → Option (List ℕ)) where
   all_read : (o : Origin) (text : List ℕ) (s : Source I) → s.is_ended ≡ true
       → IsReadOf remaining o text s → IsAllOf o text
   all_read o text s e r =
-      Consumes-all o.rest (remaining s.reader) r.read o.head text r.consumed (r.ended e) r.text_is
+      Consumes-all o.rest (remaining s.reader) r.read (head_of o) text r.consumed (r.ended e) r.text_is
 
   -- more was read of one of the sources
   pub read_at : (os : List Origin) (ts : List (List ℕ)) (ss : List (Source I)) (k : ℕ) (s t : Source I)
@@ -86,14 +87,14 @@ module _ {I : Type 0} (remaining : I → Option (List ℕ)) where
   pub begun : (traces : List TraceOf) (ss : List (Source I)) → length traces ≡ length ss
       → All (λ s. s.is_ended ≡ false) ss
       → AreReadOf remaining (origins_of remaining traces ss)
-      (map (λ t. head_text t.node) traces) ss
+      (heads_of traces) ss
   begun [] [] e unread = tt
   begun [] (s ∷ ss) e unread = absurd (omega arith)
   begun (t ∷ traces) [] e unread = absurd (omega arith)
   begun (t ∷ traces) (s ∷ ss) e unread = (
     record {
       read = [];
-      text_is = sym (append-nil (head_text t.node));
+      text_is = sym (append-nil (begun_text t.node t.opened));
       consumed = Consumes-nil (remaining s.reader);
       ended = λ ended. absurd (false≢true
           (sym (All-head (λ (x : Source I). x.is_ended ≡ false) s ss unread) ∙ ended));
@@ -159,7 +160,15 @@ module _ {I : Type 0} (remaining : I → Option (List ℕ)) where
         all = a.all;
       }
 
-  -- each trace begins with the head of its node
+  -- the origins are those of the traces
+  pub origins_are : (traces : List TraceOf) (ss : List (Source I)) → length traces ≡ length ss
+      → traces_of (origins_of remaining traces ss) ≡ traces
+  origins_are [] ss e = refl
+  origins_are (t ∷ traces) [] e = absurd (omega arith)
+  origins_are (t ∷ traces) (s ∷ ss) e =
+      ap (λ (ts : List TraceOf). t ∷ ts) (origins_are traces ss (omega arith))
+
+  -- the head of each trace names its node
   pub of_node : (traces : List TraceOf) (ss : List (Source I)) (k : ℕ) (t : TraceOf)
       → length traces ≡ length ss → slice_get traces k ≡ Some t
       → IsOfNode (origins_of remaining traces ss) k t.node
@@ -168,10 +177,10 @@ module _ {I : Type 0} (remaining : I → Option (List ℕ)) where
   of_node (x ∷ traces) (s ∷ ss) zero t e there =
       let same : x ≡ t = cc in
       record {
-        origin = record { head = head_text x.node; rest = remaining s.reader };
+        origin = record { trace = x; rest = remaining s.reader };
         there = refl;
-        head_is = ap (λ (y : TraceOf). head_text y.node) same;
+        node_is = ap (λ (y : TraceOf). y.node) same;
       }
   of_node (x ∷ traces) (s ∷ ss) (suc k) t e there =
       let a = of_node traces ss k t (omega arith) there in
-      record { origin = a.origin; there = a.there; head_is = a.head_is }
+      record { origin = a.origin; there = a.there; node_is = a.node_is }

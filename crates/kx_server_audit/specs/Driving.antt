@@ -8,7 +8,7 @@ use Rattle.kx_log.specs.Store.{StoreState}
 use Rattle.kx_machines.specs.Brokers.{broker_stands}
 use Rattle.kx_machines.specs.declared.broker.BrokerMachine.{BrokerMachine}
 use Rattle.kx_server_audit.specs.Counting.{AreCounts}
-use Rattle.kx_server_audit.specs.Reads.{AreAllOf, ArePartsOf, AreReadOf, IsAllAt, IsEnded, Origin}
+use Rattle.kx_server_audit.specs.Reads.{AreAllOf, ArePartsOf, AreReadOf, IsAllAt, IsEnded, Origin, Start}
 use Rattle.kx_server_audit.specs.declared.auditing.Ending.{Ending}
 use Rattle.kx_server_audit.specs.declared.auditing.Ending.TheVariants as ending
 use Rattle.kx_server_audit.specs.declared.auditing.Refused.{Refused}
@@ -71,22 +71,23 @@ module _ {I : Type 0} (remaining : I → Option (List ℕ)) where
     pub told : IsTold k old from → IsTold k new to
     pub others : OthersStay k old.audit new.audit
     pub audited : AreAudited (fed texts k read) (history ++ more) new.audit
-    pub counted : AreCounts history old.counts → AreCounts (history ++ more) new.counts
+    pub counted : (done : List Passed) → AreCounts done old.counts
+        → AreCounts (done ++ more) new.counts
 
   -- the same, whatever was audited before
   abbrev pub GoesOn : ℕ → ServerAudit → ServerAudit → Source I → Source I → Type 0
   GoesOn k old new from to = (texts : List (List ℕ)) (history : List Passed)
       → AreAudited texts history old.audit → Advances texts history k old new from to
 
-  -- what was read of the sources is audited, and its steps are counted
-  pub record IsUnderWay (origins : List Origin) (a : ServerAudit) (sources : List (Source I))
+  -- what was read of the sources is audited, and the steps that it tells are counted
+  pub record IsUnderWay (start : Start) (a : ServerAudit) (sources : List (Source I))
       : Type 0 where
     pub texts : List (List ℕ)
-    pub history : List Passed
-    pub audited : AreAudited texts history a.audit
-    pub read : AreReadOf remaining origins texts sources
+    pub more : List Passed
+    pub audited : AreAudited texts (start.before ++ more) a.audit
+    pub read : AreReadOf remaining start.origins texts sources
     pub told : AreTold a sources
-    pub counted : AreCounts history a.counts
+    pub counted : AreCounts more a.counts
 
 ------ a trace that is stuck
 
@@ -148,15 +149,15 @@ EndsIn remaining k old new from (ending.Read trace) = trace ≡ k
 EndsIn remaining k old new from ending.Memory = Unit {0}
 
 -- some of what the sources had to give was audited, and then the next item of a trace was refused
-pub record IsItemRefused (origins : List Origin) (a : ServerAudit) (r : Refused) : Type 0 where
+pub record IsItemRefused (start : Start) (a : ServerAudit) (r : Refused) : Type 0 where
   pub texts : List (List ℕ)
-  pub history : List Passed
+  pub more : List Passed
   pub before : Audited
-  pub parts : ArePartsOf origins texts
-  pub audited : AreAudited texts history before
-  pub counted : AreCounts history a.counts
+  pub parts : ArePartsOf start.origins texts
+  pub audited : AreAudited texts (start.before ++ more) before
+  pub counted : AreCounts more a.counts
   pub known : r.why ≢ refusal.Memory
-  pub refused : IsRefused making broker_stands history r.trace before a.audit r.why
+  pub refused : IsRefused making broker_stands (start.before ++ more) r.trace before a.audit r.why
 
 -- all of this trace was read, and the audit was told so
 pub record IsWhole (origins : List Origin) (texts : List (List ℕ)) (k : ℕ) (a : Audited) : Type 0
@@ -168,33 +169,34 @@ pub record IsWhole (origins : List Origin) (texts : List (List ℕ)) (k : ℕ) (
 
 -- no trace goes on any more, since a message is missing or all was read, and items are left; this
 -- trace is the first that has one
-pub record IsItemLeft (origins : List Origin) (a : ServerAudit) (r : Refused) : Type 0 where
+pub record IsItemLeft (start : Start) (a : ServerAudit) (r : Refused) : Type 0 where
   pub texts : List (List ℕ)
-  pub history : List Passed
-  pub parts : ArePartsOf origins texts
-  pub audited : AreAudited texts history a.audit
-  pub counted : AreCounts history a.counts
+  pub more : List Passed
+  pub parts : ArePartsOf start.origins texts
+  pub audited : AreAudited texts (start.before ++ more) a.audit
+  pub counted : AreCounts more a.counts
   pub why_is : r.why ≡ refusal.Unsent
   pub first : IsFirstLeft a.audit.traces r.trace
   pub stuck : (k : ℕ) → k < length a.audit.traces
-      → GoesNoFurther history k a.audit (IsWhole origins texts k a.audit)
+      → GoesNoFurther (start.before ++ more) k a.audit (IsWhole start.origins texts k a.audit)
 
 -- the audit says no
-pub data SaysNo (origins : List Origin) (a : ServerAudit) (r : Refused) : Type 0 where
-  ItemRefused : IsItemRefused origins a r → SaysNo origins a r
-  ItemLeft : IsItemLeft origins a r → SaysNo origins a r
+pub data SaysNo (start : Start) (a : ServerAudit) (r : Refused) : Type 0 where
+  ItemRefused : IsItemRefused start a r → SaysNo start a r
+  ItemLeft : IsItemLeft start a r → SaysNo start a r
 
 -- the audit ends otherwise than by a yes; a source may fail at any time, and so may memory
-abbrev pub EndsBy : List Origin → ServerAudit → Ending → Type 0
-EndsBy origins a (ending.Refused r) = SaysNo origins a r
-EndsBy origins a (ending.Read trace) = trace < length origins
-EndsBy origins a ending.Memory = Unit {0}
+abbrev pub EndsBy : Start → ServerAudit → Ending → Type 0
+EndsBy start a (ending.Refused r) = SaysNo start a r
+EndsBy start a (ending.Read trace) = trace < length start.origins
+EndsBy start a ending.Memory = Unit {0}
 
--- all that the sources had to give is audited, and the audit says yes
-pub record SaysYes (origins : List Origin) (a : ServerAudit) : Type 0 where
+-- all that the sources had to give is audited, and the audit says yes of the steps that it tells,
+-- after those that came before
+pub record SaysYes (start : Start) (a : ServerAudit) : Type 0 where
   pub texts : List (List ℕ)
-  pub history : List Passed
-  pub whole : AreAllOf origins texts
-  pub audited : AreAudited texts history a.audit
-  pub counted : AreCounts history a.counts
-  pub says : IsYes making broker_stands texts a.audit
+  pub more : List Passed
+  pub whole : AreAllOf start.origins texts
+  pub audited : AreAudited texts (start.before ++ more) a.audit
+  pub counted : AreCounts more a.counts
+  pub says : IsYes making broker_stands texts (start.before ++ more) a.audit

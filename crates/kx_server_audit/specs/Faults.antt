@@ -10,3 +10,4 @@ fault_number (fault.NoTrace file) = 3
 fault_number (fault.Version file) = 4
 fault_number fault.Write = 5
 fault_number fault.Memory = 6
+fault_number (fault.Later file) = 7

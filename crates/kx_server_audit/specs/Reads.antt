@@ -1,15 +1,24 @@
 -- What was read of the sources of traces.
-use Rattle.std.specs.Prelude.{◌≡◌, ◌++◌, ℕ, List, [], ◌∷◌, true, IfSome, Option, Some, slice_get}
+use Rattle.std.specs.Prelude.{◌≡◌, ◌++◌, ℕ, List, [], ◌∷◌, true, IfSome, Option, Some, map, slice_get}
 use Rattle.std.specs.Io.KnownBytes.{Consumes, IsAtEnd}
+use Rattle.kx_audit.specs.Joined.{Passed}
 use Rattle.kx_server_audit.specs.declared.sources.Source.{Source}
-use Rattle.kx_trace.specs.Layout.{head_text}
 use Rattle.kx_trace.specs.declared.node.TracedNode.{TracedNode}
+use Rattle.kx_trace_audit.specs.Beginnings.{CameBefore}
 use Rattle.kx_trace_audit.specs.declared.servers.TraceOf.{TraceOf}
+use Rattle.kx_trace_files.specs.Beginning.{begun_text}
 
--- what the text of a trace begins with, and what its source has to give after that, where it is known
+-- a trace by its head, and what its source has to give after that, where it is known
 pub record Origin : Type 0 where
-  pub head : List ℕ
+  pub trace : TraceOf
   pub rest : Option (List ℕ)
+
+-- what the text of the trace begins with
+abbrev pub head_of : Origin → List ℕ
+head_of origin = begun_text origin.trace.node origin.trace.opened
+
+abbrev pub traces_of : List Origin → List TraceOf
+traces_of origins = map (λ o. o.trace) origins
 
 module _ {I : Type 0} (remaining : I → Option (List ℕ)) where
   -- all of the source was read where it says so
@@ -19,7 +28,7 @@ module _ {I : Type 0} (remaining : I → Option (List ℕ)) where
   -- the text is the head, and what was read of the source
   pub record IsReadOf (origin : Origin) (text : List ℕ) (s : Source I) : Type 0 where
     pub read : List ℕ
-    pub text_is : text ≡ origin.head ++ read
+    pub text_is : text ≡ head_of origin ++ read
     pub consumed : Consumes origin.rest (remaining s.reader) read
     pub ended : IsEnded s
 
@@ -37,12 +46,12 @@ abbrev pub origins_of : {I : Type 0} → (I → Option (List ℕ)) → List Trac
 origins_of remaining [] sources = []
 origins_of remaining (t ∷ traces) [] = []
 origins_of remaining (t ∷ traces) (s ∷ sources) =
-    record { head = head_text t.node; rest = remaining s.reader }
+    record { trace = t; rest = remaining s.reader }
     ∷ origins_of remaining traces sources
 
 -- the text is the head, and all that the source had to give
 abbrev pub IsAllOf : Origin → List ℕ → Type 0
-IsAllOf origin text = IfSome origin.rest (λ rest. text ≡ origin.head ++ rest)
+IsAllOf origin text = IfSome origin.rest (λ rest. text ≡ head_of origin ++ rest)
 
 abbrev pub AreAllOf : List Origin → List (List ℕ) → Type 0
 AreAllOf [] [] = Unit {0}
@@ -54,7 +63,7 @@ AreAllOf (o ∷ os) [] = ⊥
 pub record IsPartOf (origin : Origin) (text : List ℕ) : Type 0 where
   pub read : List ℕ
   pub left : Option (List ℕ)
-  pub text_is : text ≡ origin.head ++ read
+  pub text_is : text ≡ head_of origin ++ read
   pub consumed : Consumes origin.rest left read
 
 abbrev pub ArePartsOf : List Origin → List (List ℕ) → Type 0
@@ -71,8 +80,21 @@ pub record IsAllAt (origins : List Origin) (texts : List (List ℕ)) (k : ℕ) :
   pub text_there : slice_get texts k ≡ Some text
   pub all : IsAllOf origin text
 
--- the trace of this number is of this node: it begins with its head
+-- the head of the trace of this number names this node
 pub record IsOfNode (origins : List Origin) (k : ℕ) (node : TracedNode) : Type 0 where
   pub origin : Origin
   pub there : slice_get origins k ≡ Some origin
-  pub head_is : origin.head ≡ head_text node
+  pub node_is : origin.trace.node ≡ node
+
+------ what came before
+
+-- traces, and the steps that came before those that they tell
+pub record Start : Type 0 where
+  pub origins : List Origin
+  pub before : List Passed
+
+-- this holds of the traces, whatever steps came before those that they tell: none came, where all of
+-- their nodes were made with empty logs
+abbrev pub WhateverCame : List Origin → (Start → Type 0) → Type 0
+WhateverCame origins P = (before : List Passed) → CameBefore before (traces_of origins)
+    → P (record { origins = origins; before = before })

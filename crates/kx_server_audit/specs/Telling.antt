@@ -11,7 +11,7 @@ use Rattle.kx_server_audit.specs.Denials.{IsNoAtOnce, IsOther}
 use Rattle.kx_server_audit.specs.Driving.{SaysNo, SaysYes}
 use Rattle.kx_server_audit.specs.Lines.{findings_text}
 use Rattle.kx_server_audit.specs.Logs.{LogIs}
-use Rattle.kx_server_audit.specs.Reads.{IsOfNode, Origin}
+use Rattle.kx_server_audit.specs.Reads.{IsOfNode, Origin, WhateverCame}
 use Rattle.kx_server_audit.specs.declared.auditing.ServerAudit.{ServerAudit}
 use Rattle.kx_server_audit.specs.declared.counts.Counts.{Counts}
 use Rattle.kx_server_audit.specs.declared.denial.Denial.{Denial}
@@ -29,12 +29,13 @@ machines_in a = map (λ n. n.machine) a.audit.following.nodes
 abbrev pub HasLog : BrokerMachine StoreState → Type 0
 HasLog m = (bytes : List ℕ) × ((state : NodeState) → broker_stands state m → LogIs state bytes)
 
--- all that the sources of some traces had to give is audited, what was counted is counted in its
--- steps, and the logs are those to which the traces lead, if they were compared
+-- all that the sources of some traces had to give is audited, whatever came before it; what was
+-- counted is counted in its steps, and the logs are those to which the traces lead, if they were
+-- compared
 pub record IsYesOf (compares : Bool) (f : Findings) : Type 0 where
   pub origins : List Origin
   pub audit : ServerAudit
-  pub says : SaysYes origins audit
+  pub says : WhateverCame origins (λ start. SaysYes start audit)
   pub counts_are : f.counts ≡ audit.counts
   pub transactions_are : f.transactions ≡ decided_in (machines_in audit)
   pub logs : IsTrue compares → All HasLog (machines_in audit)
@@ -48,7 +49,8 @@ pub record IsNoAt (counts : Counts) (transactions : ℕ) (node : TracedNode) (it
   pub audit : ServerAudit
   pub trace : ℕ
   pub of_node : IsOfNode origins trace node
-  pub says : SaysNo origins audit (record { trace = trace; item = item; why = why })
+  pub says : WhateverCame origins (λ start.
+      SaysNo start audit (record { trace = trace; item = item; why = why }))
   pub counts_are : counts ≡ audit.counts
   pub transactions_are : transactions ≡ decided_in (machines_in audit)
 
@@ -56,7 +58,7 @@ pub record IsNoAt (counts : Counts) (transactions : ℕ) (node : TracedNode) (it
 pub record LeadsElsewhere (counts : Counts) (transactions : ℕ) (node : TracedNode) : Type 0 where
   pub origins : List Origin
   pub audit : ServerAudit
-  pub says : SaysYes origins audit
+  pub says : WhateverCame origins (λ start. SaysYes start audit)
   pub counts_are : counts ≡ audit.counts
   pub transactions_are : transactions ≡ decided_in (machines_in audit)
   pub trace : ℕ

@@ -1,17 +1,17 @@
 //! The audit of the traces of a server, which are read as far as they are needed.
 ghost use Rattle.std.specs.Prelude.{◌≡◌, ◌<◌, ◌++◌, ℕ, [], All, IfOk, IsFalse, List};
-ghost use Rattle.std.specs.Prelude.{MatchResult, OnOk, length, map, true};
+ghost use Rattle.std.specs.Prelude.{MatchResult, OnOk, length, true};
 ghost use Rattle.kx_audit.specs.Joined.{Passed};
 ghost use Rattle.kx_server_audit.specs.Counting.{AreCounts, decided_in};
 ghost use Rattle.kx_server_audit.specs.Driving.{AreAudited, AreStuck, CannotRead, EndsBy, EndsIn};
 ghost use Rattle.kx_server_audit.specs.Driving.{GoesOn, HasGoneOn, IsFed, IsUnderWay, RefusesAt};
 ghost use Rattle.kx_server_audit.specs.Driving.{SaysYes};
 ghost use Rattle.kx_server_audit.specs.Finding.{AreBegun};
-ghost use Rattle.kx_server_audit.specs.Reads.{Origin, origins_of};
+ghost use Rattle.kx_server_audit.specs.Reads.{Start, WhateverCame, origins_of};
 ghost use Rattle.kx_server_audit.specs.Telling.{machines_in};
 ghost use Rattle.kx_server_audit.specs.declared.auditing.Ending.TheVariants.{Memory};
-ghost use Rattle.kx_trace.specs.Layout.{head_text};
 ghost use Rattle.kx_trace_audit.specs.Auditing.{fed};
+ghost use Rattle.kx_trace_audit.specs.Beginnings.{CameBefore, heads_of};
 ghost use Rattle.kx_trace_audit.specs.declared.refusal.TraceRefusal.TheVariants.{Unsent};
 
 use crate::counts::{Counts, transactions};
@@ -26,18 +26,18 @@ use std::io::Read;
 const STEPS_TOLD: u64 = 1 << 20;
 
 /// Where an audit refuses, and why.
-#[derive(Clone, Copy, Debug)]
-pub struct Refused {
+#[derive(Clone, Copy)]
+pub(crate) struct Refused {
     /// The number of the trace, counted from 0.
-    pub trace: usize,
+    pub(crate) trace: usize,
     /// The number of the item in it, counted from 1.
-    pub item: u64,
-    pub why: TraceRefusal,
+    pub(crate) item: u64,
+    pub(crate) why: TraceRefusal,
 }
 
 /// How an audit ends that isn't a yes.
-#[derive(Clone, Copy, Debug)]
-pub enum Ending {
+#[derive(Clone, Copy)]
+pub(crate) enum Ending {
     /// The audit refuses.
     Refused(Refused),
     /// The source of the trace of this number can't be read.
@@ -57,7 +57,7 @@ impl From<AllocError> for Ending {
 
 /// The audit of a server's traces, as far as it has come.
 #[derive(Drop)]
-pub struct ServerAudit {
+pub(crate) struct ServerAudit {
     pub(crate) audit: TraceAudit<ServerNode>,
     pub(crate) counts: Counts,
     piece: Vec<u8>,
@@ -118,14 +118,15 @@ impl ServerAudit {
     ///
     /// # Errors
     ///
-    /// `DuplicateNode` where two traces are of one node; `Memory` where memory runs out.
+    /// As [`TraceAudit::new`].
     pub(crate) fn new(
         alloc: Global,
         traces: &[TraceOf],
         tells_progress: bool,
     ) -> Result<ServerAudit, TraceRefusal>
-        ensures audited { IfOk result (λ a.
-            AreAudited (map (λ t. head_text t.node) traces.now) [] a.audit) }
+        ensures audited { IfOk result (λ a. (before : List Passed)
+            → CameBefore before traces.now
+            → AreAudited (heads_of traces.now) before a.audit) }
         ensures counted { IfOk result (λ a. AreCounts [] a.counts) }
     {
         Ok(ServerAudit {
@@ -137,7 +138,7 @@ impl ServerAudit {
     }
 
     /// What was counted so far.
-    pub fn counts(&self) -> Counts
+    pub(crate) fn counts(&self) -> Counts
         ensures { result ≡ self.now.counts }
     {
         self.counts
@@ -145,7 +146,7 @@ impl ServerAudit {
 
     /// How many transactions were decided in the log of the first trace's node, which is the
     /// coordinator if its trace is among them.
-    pub fn transactions(&self) -> usize
+    pub(crate) fn transactions(&self) -> usize
         ensures { result ≡ decided_in (machines_in self.now) }
     {
         match self.audit.machine(0) {
@@ -159,7 +160,7 @@ impl ServerAudit {
     /// # Errors
     ///
     /// Only where memory runs out.
-    pub fn into_machines(self) -> Result<Vec<BrokerMachine<LocalStore>>, AllocError>
+    pub(crate) fn into_machines(self) -> Result<Vec<BrokerMachine<LocalStore>>, AllocError>
         ensures { IfOk result (λ machines. machines.items ≡ machines_in self) }
     {
         self.audit.into_machines()
@@ -274,10 +275,10 @@ impl ServerAudit {
         rt: &R,
         sources: &mut Vec<Source<I>>,
     ) -> Result<bool, Ending>
-        ensures { (origins : List Origin)
-            → IsUnderWay I.remaining origins self.old sources.old.items → MatchResult result
-            (λ went_on. IsUnderWay I.remaining origins self.new sources.new.items
-            × (IsFalse went_on → AreStuck self.new sources.new.items)) (EndsBy origins self.new) }
+        ensures { (start : Start)
+            → IsUnderWay I.remaining start self.old sources.old.items → MatchResult result
+            (λ went_on. IsUnderWay I.remaining start self.new sources.new.items
+            × (IsFalse went_on → AreStuck self.new sources.new.items)) (EndsBy start self.new) }
     {
         let mut went_on = false;
         for trace in 0..sources.len() {
@@ -292,10 +293,10 @@ impl ServerAudit {
         rt: &R,
         sources: &mut Vec<Source<I>>,
     ) -> Result<(), Ending>
-        ensures { (origins : List Origin)
-            → IsUnderWay I.remaining origins self.old sources.old.items → MatchResult result
-            (λ done. IsUnderWay I.remaining origins self.new sources.new.items
-            × AreStuck self.new sources.new.items) (EndsBy origins self.new) }
+        ensures { (start : Start)
+            → IsUnderWay I.remaining start self.old sources.old.items → MatchResult result
+            (λ done. IsUnderWay I.remaining start self.new sources.new.items
+            × AreStuck self.new sources.new.items) (EndsBy start self.new) }
     {
         for _ in 0..u64::MAX {
             if !self.go_round(rt, sources)? {
@@ -311,9 +312,9 @@ impl ServerAudit {
         rt: &R,
         sources: &mut Vec<Source<I>>,
     ) -> Result<(), Ending>
-        ensures { (origins : List Origin)
-            → IsUnderWay I.remaining origins self.old sources.old.items → MatchResult result
-            (λ done. SaysYes origins self.new) (EndsBy origins self.new) }
+        ensures { (start : Start)
+            → IsUnderWay I.remaining start self.old sources.old.items → MatchResult result
+            (λ done. SaysYes start self.new) (EndsBy start self.new) }
     {
         self.go_all(rt, sources)?;
         match self.audit.left_over() {
@@ -325,14 +326,14 @@ impl ServerAudit {
 
 /// Audits traces, of which nothing was read after the heads, as far as their sources give them; the
 /// source of each trace is at its number. Answers the audit, and how it ended: Ok is a yes. Then what
-/// the heads and all bytes of the sources tell is an open schedule, which keeps the promises that
-/// need no trust in clients. A refusal has its reason: the item of its trace, or that items are left
-/// and no trace goes on any more.
+/// the heads and all bytes of the sources tell, after whatever steps came before it, is an open
+/// schedule, which keeps the promises that need no trust in clients. A refusal has its reason: the
+/// item of its trace, or that items are left and no trace goes on any more.
 ///
 /// # Errors
 ///
-/// `DuplicateNode` where two traces are of one node; `Memory` where memory runs out at once.
-pub fn audit_traces<R: Eprint, I: Read + Drop>(
+/// As [`TraceAudit::new`].
+pub(crate) fn audit_traces<R: Eprint, I: Read + Drop>(
     rt: &R,
     alloc: Global,
     traces: &[TraceOf],
@@ -341,7 +342,8 @@ pub fn audit_traces<R: Eprint, I: Read + Drop>(
 ) -> Result<(ServerAudit, Result<(), Ending>), TraceRefusal>
     requires { AreBegun traces.now sources.old.items }
     ensures { let origins = origins_of I.remaining traces.now sources.old.items in
-        IfOk result (λ x. MatchResult x.1 (λ done. SaysYes origins x.0) (EndsBy origins x.0)) }
+        IfOk result (λ x. WhateverCame origins (λ start.
+        MatchResult x.1 (λ done. SaysYes start x.0) (EndsBy start x.0))) }
 {
     let mut audit = ServerAudit::new(alloc, traces, tells_progress)?;
     let ended = audit.run(rt, sources);

@@ -7,15 +7,15 @@ use kx_machines::{BrokerMachine, LocalStore};
 use kx_txnlog::{Entry, State};
 
 /// How many steps were made again, and how many messages they sent: each at most 2^64 - 1.
-#[derive(Clone, Copy, Debug, PartialEq, Eq)]
-pub struct Counts {
-    pub steps: u64,
-    pub messages: u64,
+#[derive(Clone, Copy)]
+pub(crate) struct Counts {
+    pub(crate) steps: u64,
+    pub(crate) messages: u64,
 }
 
 impl Counts {
     /// Nothing was counted.
-    pub const NONE: Counts = Counts {
+    pub(crate) const NONE: Counts = Counts {
         steps: 0,
         messages: 0,
     };
@@ -49,7 +49,7 @@ fn count_decided(entries: &[Entry]) -> usize
 
 /// How many transactions were decided in the log of a machine: the rows that prepare a commit or an
 /// abort. Only the coordinator's log has any.
-pub fn transactions(machine: &BrokerMachine<LocalStore>) -> usize
+pub(crate) fn transactions(machine: &BrokerMachine<LocalStore>) -> usize
     ensures { result ≡ decided_by machine.now }
 {
     match machine {

@@ -7,8 +7,8 @@ use kx_trace_audit::TraceRefusal;
 use std::alloc::AllocError;
 
 /// Where and why an audit says no.
-#[derive(Clone, Copy, Debug)]
-pub enum Denial {
+#[derive(Clone, Copy)]
+pub(crate) enum Denial {
     /// At an item of a node's trace, by its number, counted from 1.
     Item {
         node: TracedNode,
@@ -25,7 +25,7 @@ impl Denial {
     ghost use Rattle.kx_server_audit.specs.Denials.{denial_number};
 
     /// Its number: that of the refusal; 1 where a trace names another node, and 7 for a log.
-    pub fn number(&self) -> u8
+    pub(crate) fn number(&self) -> u8
         ensures { result ≡ denial_number self.now }
     {
         match self {
@@ -37,7 +37,7 @@ impl Denial {
 }
 
 /// Why an audit ends that isn't a yes.
-#[derive(Clone, Copy, Debug)]
+#[derive(Clone, Copy)]
 pub(crate) enum Stop {
     /// The audit says no.
     No(Denial),

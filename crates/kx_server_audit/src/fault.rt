@@ -21,6 +21,9 @@ pub enum AuditFault {
     /// The trace is of another version of the format.
     #[error("{0}: the trace has another version")]
     Version(AuditFile),
+    /// The trace begins with a log that was there before, so it doesn't tell all steps of its node.
+    #[error("{0}: the trace does not tell the steps before it")]
+    Later(AuditFile),
     /// What was found can't be written. What of it was written isn't known.
     #[error("the audit cannot be written")]
     Write,
@@ -33,7 +36,7 @@ impl AuditFault {
     ghost use Rattle.kx_server_audit.specs.Faults.{fault_number};
 
     /// The number of the fault: `NoTraces` 1, `Read` 2, `NoTrace` 3, `Version` 4, `Write` 5,
-    /// `Memory` 6, of whichever file.
+    /// `Memory` 6, `Later` 7, of whichever file.
     pub fn number(self) -> u8
         ensures { result ≡ fault_number self }
     {
@@ -44,6 +47,7 @@ impl AuditFault {
             AuditFault::Version(_) => 4,
             AuditFault::Write => 5,
             AuditFault::Memory => 6,
+            AuditFault::Later(_) => 7,
         }
     }
 }

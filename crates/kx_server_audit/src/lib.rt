@@ -1,15 +1,16 @@
 //! Whether a server that ran was exactly-once: its traces are audited as streams, its nodes are made
-//! again with empty logs, and the logs that it left are compared with those to which its traces
-//! lead.
+//! again, with empty logs or those with which their traces begin, and the logs that it left are
+//! compared with those to which its traces lead.
 //!
 //! `batches` and `entries` read and compare logs of one kind, `lengths` and `logs` those of machines;
 //! `sources` are traces that are read in pieces, which `auditing` audits; `traces` and `folder` have
-//! what a server left in its folders, `server` audits it, and `report` prints what was found. `steps` has
-//! the steps that the traces tell of, for a page.
+//! what a server left in its folders, `opened` the nodes whose traces begin with a log; `server`
+//! audits it all, and `report` prints what was found. `steps` has the steps that the traces tell of,
+//! for a page.
 //!
 //! In `proofs/`: `Texts` (texts of batches and of entries, by which logs are compared), `Restarting`
-//! (a log before and after a restart), `Reading` (sources are read in pieces), `Advancing` (the audit
-//! goes on in one trace, and then in another).
+//! (a log before and after a restart), `OnLogs` (nodes that were opened on logs), `Reading` (sources are
+//! read in pieces), `Advancing` (the audit goes on in one trace, and then in another).
 #![tactic(auto)]
 
 mod auditing;
@@ -23,6 +24,7 @@ mod findings;
 mod folder;
 mod lengths;
 mod logs;
+mod opened;
 mod report;
 mod server;
 mod server_node;
@@ -30,13 +32,7 @@ mod sources;
 mod steps;
 mod traces;
 
-pub use auditing::{Ending, Refused, ServerAudit, audit_traces};
-pub use counts::{Counts, transactions};
-pub use denial::Denial;
 pub use fault::AuditFault;
 pub use file::AuditFile;
-pub use logs::{log_is, whole_len};
 pub use server::{AuditOptions, audit_server};
-pub use server_node::ServerNode;
-pub use sources::Source;
 pub use steps::{end_steps, server_steps};

@@ -26,7 +26,11 @@ use std::alloc::{AllocError, Global};
 /// # Errors
 ///
 /// Only where memory runs out.
-pub fn whole_len(alloc: Global, node: TracedNode, bytes: Vec<u8>) -> Result<Option<u64>, AllocError>
+pub(crate) fn whole_len(
+    alloc: Global,
+    node: TracedNode,
+    bytes: Vec<u8>,
+) -> Result<Option<u64>, AllocError>
     ensures { IfOk result (HasWhole node bytes.items) }
 {
     match node {
@@ -128,7 +132,7 @@ fn closed_log_is(
 /// # Errors
 ///
 /// Only where memory runs out.
-pub fn log_is(
+pub(crate) fn log_is(
     alloc: Global,
     machine: &mut BrokerMachine<LocalStore>,
     bytes: Vec<u8>,

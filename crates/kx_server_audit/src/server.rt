@@ -107,6 +107,17 @@ fn stopped(found: Findings, stop: Stop) -> Result<Findings, AuditFault>
     }
 }
 
+// Tells whoever runs the audit of which traces it can't see the beginnings. Nobody may watch.
+fn tell_of_later<R: Eprint>(rt: &R, of: &[TraceOf]) {
+    for one in of {
+        if let Some(opened) = &one.opened {
+            let file = AuditFile::Trace(one.node);
+            let len = opened.log.len();
+            let _ = eprintln!(rt; "{file}: begun on a log of {len} bytes, which is not audited");
+        }
+    }
+}
+
 // Audits traces that were found.
 fn audit_in<R: Files<File = File> + AllocGlobal + Eprint>(
     rt: &R,
@@ -117,6 +128,7 @@ fn audit_in<R: Files<File = File> + AllocGlobal + Eprint>(
     ensures { IfOk result (AreFindings (is_some options.now.logs)) }
 {
     let of = traces.of.as_slice();
+    tell_of_later(rt, of);
     let sources = &mut traces.sources;
     let audited = audit_traces(rt, rt.alloc(), of, sources, options.tells_progress);
     let Ok((audit, ended)) = audited else {

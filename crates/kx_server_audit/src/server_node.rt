@@ -4,20 +4,21 @@ ghost use Rattle.kx_audit.specs.Making as making;
 ghost use Rattle.kx_trace_audit.specs.Servers.{making_of};
 
 use crate::lengths::{has_found, log_len};
+use crate::opened::node_on;
 use kx_audit::{Remade, Tells};
 use kx_machine::{Failing, Making, StoreMode};
 use kx_machines::{BrokerMachine, LocalStore, local_coordinator, local_server};
 use kx_message::NodeId;
 use kx_nodes::Made;
 use kx_trace::TracedNode;
-use kx_trace_audit::{Server, node_name};
+use kx_trace_audit::{Server, TraceOf, TraceRefusal, node_name};
 use std::alloc::{AllocError, Global};
 
-/// A node of a server, which is made with an empty log in memory.
-#[derive(Clone, Copy, Debug)]
-pub struct ServerNode {
+/// A node of a server, whose log is in memory.
+#[derive(Clone, Copy)]
+pub(crate) struct ServerNode {
     /// The node, as its trace names it.
-    pub node: TracedNode,
+    pub(crate) node: TracedNode,
 }
 
 // How the node is made, as any node that isn't a processor.
@@ -70,6 +71,13 @@ impl Remade for ServerNode {
 impl Server for ServerNode {
     fn of(node: TracedNode) -> ServerNode {
         ServerNode { node }
+    }
+
+    fn begun(alloc: Global, of: &TraceOf) -> Result<BrokerMachine<LocalStore>, TraceRefusal> {
+        match &of.opened {
+            None => Ok(ServerNode { node: of.node }.make(alloc)?),
+            Some(opened) => node_on(alloc, of.node, opened),
+        }
     }
 
     fn log_len(machine: &BrokerMachine<LocalStore>) -> u64 {

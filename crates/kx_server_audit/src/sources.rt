@@ -14,7 +14,7 @@ const LARGEST: usize = 1 << 40;
 
 /// A trace that is read after its head, and how far.
 #[derive(Drop)]
-pub struct Source<I: Read + Drop> {
+pub(crate) struct Source<I: Read + Drop> {
     pub(crate) reader: I,
     /// Whether it was read to its end.
     pub(crate) is_ended: bool,
@@ -69,7 +69,7 @@ fn read_once<I: Read>(reader: &mut I, piece: &mut Vec<u8>) -> Result<usize, Sour
 
 impl<I: Read + Drop> Source<I> {
     /// A trace of which its head was read.
-    pub fn new(reader: I) -> Source<I>
+    pub(crate) fn new(reader: I) -> Source<I>
         ensures reader { result.reader ≡ reader }
         ensures unread { result.is_ended ≡ false }
         ensures items { result.items ≡ 0 }

@@ -2,10 +2,11 @@
 use crate::auditing::{Ending, ServerAudit, refused_at};
 use crate::denial::Stop;
 use crate::fault::AuditFault;
+use crate::file::AuditFile;
 use crate::server::{AuditOptions, find, stop_at};
 use crate::sources::Source;
 use crate::traces::Traces;
-use kx_trace_audit::ToldStep;
+use kx_trace_audit::{ToldStep, TraceOf};
 use std::alloc::{AllocError, Global};
 use std::fs::{File, Files};
 use std::io::Read;
@@ -65,12 +66,23 @@ fn go_all<R: Eprint, I: Read + Drop>(
     Ok(())
 }
 
+// Sees that the traces tell all steps of their nodes.
+fn check_all_told(of: &[TraceOf]) -> Result<(), AuditFault> {
+    for one in of {
+        if one.opened.is_some() {
+            return Err(AuditFault::Later(AuditFile::Trace(one.node)));
+        }
+    }
+    Ok(())
+}
+
 // The steps of traces that were found.
 fn steps_in<R: Eprint>(
     rt: &R,
     alloc: Global,
     traces: &mut Traces<File>,
 ) -> Result<Vec<ToldStep>, AuditFault> {
+    check_all_told(traces.of.as_slice())?;
     let Ok(mut audit) = ServerAudit::new(alloc, traces.of.as_slice(), false) else {
         return Err(AuditFault::Memory);
     };
@@ -91,7 +103,7 @@ fn steps_in<R: Eprint>(
 ///
 /// # Errors
 ///
-/// As [`AuditFault`] has them.
+/// As [`AuditFault`] has them: `Later` where a trace was begun on a log that was there before.
 pub fn server_steps<R: Files<File = File> + AllocGlobal + Eprint>(
     rt: &R,
     options: &AuditOptions<'_>,

@@ -4,15 +4,17 @@ ghost use Rattle.std.specs.Prelude.{map};
 ghost use Rattle.std.specs.Io.KnownBytes.{Consumes};
 ghost use Rattle.kx_server_audit.specs.Denials.{IfNo, IsNoAtOnce};
 ghost use Rattle.kx_server_audit.specs.Finding.{AreBegun, all_nodes};
-ghost use Rattle.kx_trace.specs.Layout.{head_text};
+ghost use Rattle.kx_trace_files.specs.Beginning.{begun_text};
 
 use crate::denial::{Denial, Stop};
 use crate::fault::AuditFault;
 use crate::file::AuditFile;
+use crate::server_node::ServerNode;
 use crate::sources::Source;
 use kx_message::PartitionId;
-use kx_trace::{HEAD_LEN, TraceFault, TracedNode, heads_are_read, read_head};
-use kx_trace_audit::TraceOf;
+use kx_trace::{TraceFault, TracedNode};
+use kx_trace_audit::{Server, TraceOf, TraceRefusal};
+use kx_trace_files::{TraceFileFault, TraceHead, read_trace_head};
 use std::alloc::{AllocError, Global};
 use std::fs;
 use std::fs::{File, Files};
@@ -49,9 +51,11 @@ pub(crate) fn read_fault(file: AuditFile, kind: ErrorKind) -> AuditFault {
 }
 
 // Why a file has no head of a trace.
-fn head_fault(file: AuditFile, fault: TraceFault) -> AuditFault {
+fn head_fault(file: AuditFile, fault: TraceFileFault) -> AuditFault {
     match fault {
-        TraceFault::Version => AuditFault::Version(file),
+        TraceFileFault::Memory => AuditFault::Memory,
+        TraceFileFault::Device => AuditFault::Read(file),
+        TraceFileFault::Format(TraceFault::Version) => AuditFault::Version(file),
         _ => AuditFault::NoTrace(file),
     }
 }
@@ -74,53 +78,42 @@ fn open_trace<R: Files<File = File>>(
     }
 }
 
-// The node that these bytes name, as a trace's head.
-fn node_in(head: &[u8], file: AuditFile) -> Result<TracedNode, AuditFault>
-    requires { length head.now ≡ HEAD_LEN }
-    ensures { IfOk result (λ node. head.now ≡ head_text node) }
+// Reads a trace's head.
+fn head_of<I: Read>(alloc: Global, reader: &mut I, file: AuditFile) -> Result<TraceHead, AuditFault>
+    ensures { IfOk result (λ head. Consumes (I.remaining reader.old) (I.remaining reader.new)
+        (begun_text head.node head.opened)) }
 {
-    heads_are_read();
-    match read_head(head) {
-        Ok(Some(node)) => Ok(node),
-        Ok(None) => Err(AuditFault::NoTrace(file)),
+    match read_trace_head(alloc, reader) {
+        Ok(head) => Ok(head),
         Err(fault) => Err(head_fault(file, fault)),
     }
 }
 
-// Reads a trace's head, and answers the node that it names.
-fn head_of<I: Read>(reader: &mut I, file: AuditFile) -> Result<TracedNode, AuditFault>
-    ensures { IfOk result (λ node.
-        Consumes (I.remaining reader.old) (I.remaining reader.new) (head_text node)) }
-{
-    let mut head = [0u8; HEAD_LEN];
-    match reader.read_exact(&mut head) {
-        Ok(()) => node_in(&head, file),
-        Err(error) => match error.kind() {
-            ErrorKind::UnexpectedEof => Err(AuditFault::NoTrace(file)),
-            kind => Err(read_fault(file, kind)),
-        },
+// Sees that the log can be opened with which a trace begins.
+fn check_log(alloc: Global, of: &TraceOf) -> Result<(), AuditFault> {
+    match ServerNode::begun(alloc, of) {
+        Ok(machine) => {
+            drop(machine);
+            Ok(())
+        }
+        Err(TraceRefusal::Memory) => Err(AuditFault::Memory),
+        Err(_) => Err(AuditFault::NoTrace(AuditFile::Trace(of.node))),
     }
 }
 
 // Puts a trace whose head was read after the others.
-fn push<I: Read + Drop>(
-    traces: &mut Traces<I>,
-    node: TracedNode,
-    reader: I,
-) -> Result<(), AllocError>
+fn push<I: Read + Drop>(traces: &mut Traces<I>, one: TraceOf, reader: I) -> Result<(), AllocError>
     requires { AreBegun traces.old.of.items traces.old.sources.items }
     ensures { OnOk result (AreBegun traces.new.of.items traces.new.sources.items) }
 {
-    traces.of.push(TraceOf {
-        node,
-        log_len: None,
-    })?;
+    traces.of.push(one)?;
     traces.sources.push(Source::new(reader))?;
     Ok(())
 }
 
 // Adds the trace of a node, whose head is read.
 fn add_trace<I: Read + Drop>(
+    alloc: Global,
     traces: &mut Traces<I>,
     node: TracedNode,
     mut reader: I,
@@ -129,10 +122,19 @@ fn add_trace<I: Read + Drop>(
     ensures begun { OnOk result (AreBegun traces.new.of.items traces.new.sources.items) }
     ensures no { IfErr result (λ stop. IfNo stop (IsNoAtOnce false)) }
 {
-    if head_of(&mut reader, AuditFile::Trace(node))? != node {
+    let head = head_of(alloc, &mut reader, AuditFile::Trace(node))?;
+    if head.node != node {
         return Err(Stop::No(Denial::OtherNode(node)));
     }
-    push(traces, node, reader)?;
+    let one = TraceOf {
+        node,
+        opened: head.opened,
+        log_len: None,
+    };
+    if one.opened.is_some() {
+        check_log(alloc, &one)?;
+    }
+    push(traces, one, reader)?;
     Ok(())
 }
 
@@ -150,7 +152,7 @@ fn add_traces<R: Files<File = File>>(
 {
     for node in nodes {
         if let Some(opened) = open_trace(rt, alloc, folder, *node)? {
-            add_trace(traces, *node, opened)?;
+            add_trace(alloc, traces, *node, opened)?;
         }
     }
     if traces.of.is_empty() {

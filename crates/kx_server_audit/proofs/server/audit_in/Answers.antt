@@ -18,11 +18,12 @@ returns-in-Err g c =
       denial = None;
     } in
     let count = ap length c.as_slice-of.ensures.value ∙ c.requires.count in
-    let ends = MatchResult-at_err _ _ _ c.in-Err.is c.in-Ok.ensures in
     let denied = if_no c.stop_at.result (IsItemOf of c.in-Err.ending)
     (SaysNoOf compares counts transactions) (λ d is. item_no _ of c.args.traces.now.sources.items
     count compares c.in-Ok.audit counts transactions c.counts.ensures c.transactions.ensures
-    c.in-Err.ending d ends is) c.stop_at.ensures in
+    c.in-Err.ending d
+    (λ before came. MatchResult-at_err _ _ _ c.in-Err.is (c.in-Ok.ensures before came)) is)
+    c.stop_at.ensures in
     IfOk-weaker c.stopped.result (IsStopped c.stop_at.result found) (AreFindings compares)
     (λ f so. stopped_finds compares c.stop_at.result found f denied so) c.stopped.ensures
 
@@ -39,11 +40,11 @@ returns-in-Err-compare g c =
       denial = None;
     } in
     let count = ap length c.as_slice-of.ensures.value ∙ c.requires.count in
-    let says = MatchResult-at_ok _ _ _ c.in_default-ended.is c.in-Ok.ensures in
     let denied = if_no c.in-Err-compare.stop
     (λ d. IsTrue compares × IsLogDenied (machines_in audit) of d)
     (SaysNoOf compares counts transactions) (λ d h. log_no _ of c.args.traces.now.sources.items count
-    compares audit counts transactions c.counts.ensures c.transactions.ensures d says h)
+    compares audit counts transactions c.counts.ensures c.transactions.ensures d
+    (λ before came. MatchResult-at_ok _ _ _ c.in_default-ended.is (c.in-Ok.ensures before came)) h)
     c.in-Err-compare.ensures.no in
     IfOk-weaker c.stopped-in-Err-compare.result (IsStopped c.in-Err-compare.stop found)
     (AreFindings compares)
@@ -54,7 +55,8 @@ pub returns-in-Ok-compare : goal.returns-in-Ok-compare
 returns-in-Ok-compare g c = record {
   origins = _;
   audit = c.in-Ok.audit;
-  says = MatchResult-at_ok _ _ _ c.in_default-ended.is c.in-Ok.ensures;
+  says = λ before came. MatchResult-at_ok _ _ _ c.in_default-ended.is
+      (c.in-Ok.ensures before came);
   counts_are = c.counts.ensures;
   transactions_are = c.transactions.ensures;
   logs = c.in-Ok-compare.ensures.ok;

@@ -1,10 +1,10 @@
-use Rattle.std.proofs.Common.{All, IsTrue, List, is_some, subst}
+use Rattle.std.proofs.Common.{All, IsTrue, List, ap, is_some, subst}
 use Rattle.std.proofs.lemmas.Result.{on_ok_weaker}
 use Rattle.kx_log.specs.Store.{StoreState}
 use Rattle.kx_machines.specs.declared.broker.BrokerMachine.{BrokerMachine}
 use Rattle.kx_server_audit.specs.Denials.{IsLogDenied}
 use Rattle.kx_server_audit.specs.Telling.{HasLog, machines_in}
-use Rattle.kx_server_audit.proofs.Comparing.{if_err_no, some_so}
+use Rattle.kx_server_audit.proofs.Comparing.{if_err_no}
 use Rattle.kx_server_audit.proofs.server.compare.Goals as goal
 
 pub returns-in_ok-machines-in-Some-clause-ok : goal.returns-in_ok-machines-in-Some-clause-ok
@@ -14,7 +14,7 @@ returns-in_ok-machines-in-Some-clause-ok g c =
 
 pub returns-in_ok-machines-in-Some-clause-no : goal.returns-in_ok-machines-in-Some-clause-no
 returns-in_ok-machines-in-Some-clause-no g c =
-    let compares = some_so c.args.options.now.logs _ c.in-Some.is in
+    let compares = ap is_some c.in-Some.is in
     let of = c.args.of.now in
     if_err_no c.compare_logs.result (IsLogDenied c.in_ok-machines-in-Some.machines.items of)
     (λ d. IsTrue (is_some c.args.options.now.logs) × IsLogDenied (machines_in c.args.audit) of d)

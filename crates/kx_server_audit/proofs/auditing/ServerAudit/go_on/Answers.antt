@@ -21,7 +21,7 @@ returns-in-Ok-Made g c = λ texts history has.
     (still_told c.args.trace old new c.args.source.now c.pass.new.self m.reads.reading next
     m.reads.there refl m.reads.traces_are c.pass.ensures.ended)
     (others_stay c.args.trace old.audit c.go.new.self next m.reads.traces_are)
-    (counted_more history m.passed c.in-Ok-Made.sent c.args.self.now.counts c.add.new.self
+    (λ done. counted_more done m.passed c.in-Ok-Made.sent c.args.self.now.counts c.add.new.self
     m.sent_is c.add.ensures.steps c.add.ensures.messages) m.audited
 
 pub returns-in-Ok-NotTaken : goal.returns-in-Ok-NotTaken
