@@ -65,7 +65,8 @@ pub enum ServeFault {
         /// Why.
         fault: TraceFileFault,
     },
-    /// The log in this file was begun without its trace, which tells of no step of it.
+    /// The log in this file is older than its trace, which tells of no step of it, and traces of other
+    /// nodes tell of theirs. All traces of a server begin at one start, or with empty logs.
     #[error("{file}: the log is older than its trace")]
     Untold {
         /// The file.

@@ -6,6 +6,7 @@ use kx_log::{MemStore, OpenFault, Store, StoreFault};
 use std::alloc::{AllocError, Global};
 use std::fs;
 use std::fs::{File, Files};
+use std::io::ErrorKind;
 
 /// Where a server's logs are kept.
 pub(crate) trait Folder: Drop {
@@ -20,8 +21,8 @@ pub(crate) trait Folder: Drop {
     /// How many bytes the store of a log has.
     fn len(&self, alloc: Global, file: LogFile) -> Result<u64, ServeFault>;
 
-    /// The bytes of a log, as far as they can be read.
-    fn bytes(&self, alloc: Global, file: LogFile) -> Result<Vec<u8>, AllocError>;
+    /// The bytes of a log; none where there is no store of it.
+    fn bytes(&self, alloc: Global, file: LogFile) -> Result<Vec<u8>, ServeFault>;
 
     /// Tells whoever runs the server what is odd about a log.
     fn warn(&self, file: LogFile, words: &str);
@@ -46,7 +47,7 @@ impl Folder for InMemory {
         Ok(0)
     }
 
-    fn bytes(&self, alloc: Global, _file: LogFile) -> Result<Vec<u8>, AllocError> {
+    fn bytes(&self, alloc: Global, _file: LogFile) -> Result<Vec<u8>, ServeFault> {
         Ok(Vec::new(alloc))
     }
 
@@ -99,11 +100,15 @@ impl<'a, R: Files<File = File> + AllocGlobal + Eprint + Drop> Folder for InFiles
         }
     }
 
-    fn bytes(&self, alloc: Global, file: LogFile) -> Result<Vec<u8>, AllocError> {
+    fn bytes(&self, alloc: Global, file: LogFile) -> Result<Vec<u8>, ServeFault> {
         let path = file.path_in(alloc, self.dir)?;
         match fs::read(&self.rt, path.as_str()) {
             Ok(bytes) => Ok(bytes),
-            Err(_) => Ok(Vec::new(alloc)),
+            Err(error) => match error.kind() {
+                ErrorKind::NotFound => Ok(Vec::new(alloc)),
+                ErrorKind::OutOfMemory => Err(ServeFault::Memory),
+                _ => Err(fault_in(file, OpenFault::Device)),
+            },
         }
     }
 

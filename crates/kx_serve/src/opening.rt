@@ -24,7 +24,7 @@ use kx_nodes::Untraced;
 use kx_published::book::{Naming, Opened};
 use kx_server::{Member, Partitions};
 use kx_trace::TracedNode;
-use kx_trace_files::TraceFile;
+use kx_trace_files::{OpenedTrace, TraceFile};
 use kx_txnlog::TxnLog;
 use std::alloc::{AllocError, Global};
 use std::fs::{File, Files};
@@ -108,7 +108,7 @@ impl<'a, F: Folder, R: Files<File = File> + AllocGlobal + Eprint + Drop + Copy> 
     }
 
     // Warns of what is odd about the folder, of whose logs these were made before.
-    fn warn_of_files(&self, kept: &[PartitionId]) -> Result<(), AllocError> {
+    fn warn_of_files(&self, kept: &[PartitionId]) -> Result<(), ServeFault> {
         self.warn_of_more()?;
         if kept.len() > usize::from(self.partitions.get()) {
             return Ok(());
@@ -221,36 +221,80 @@ impl<'a, F: Folder, R: Files<File = File> + AllocGlobal + Eprint + Drop + Copy> 
         }
     }
 
-    // The coordinator with a trace. One of a single entry was made, and its process ended before the
+    // The trace of a node goes on: its log is opened again.
+    fn go_on(
+        &self,
+        traces: &Traces<'a, R>,
+        file: LogFile,
+        trace: TraceFile<R>,
+    ) -> Result<TraceFile<R>, ServeFault> {
+        let len = self.folder.len(self.alloc, file)?;
+        traces.go_on(trace, len)
+    }
+
+    // The trace of a node begins on its log, with the entries that were found.
+    fn begin_on(
+        &self,
+        traces: &Traces<'a, R>,
+        file: LogFile,
+        trace: TraceFile<R>,
+    ) -> Result<TraceFile<R>, ServeFault> {
+        let log = self.folder.bytes(self.alloc, file)?;
+        traces.begin_on(trace, log.as_slice())
+    }
+
+    // The trace of a coordinator whose log has this many entries. If it is new it begins on the log.
+    // A log of a single entry whose trace has no record was made, and its process ended before the
     // first step.
+    fn later_trace(
+        &self,
+        traces: &Traces<'a, R>,
+        trace: OpenedTrace<R>,
+        entries: usize,
+    ) -> Result<TraceFile<R>, ServeFault> {
+        let file = LogFile::Coordinator;
+        if trace.is_new {
+            return self.begin_on(traces, file, trace.file);
+        }
+        if !trace.has_records && entries > 1 {
+            return Err(ServeFault::Untold { file });
+        }
+        self.go_on(traces, file, trace.file)
+    }
+
+    // The coordinator with a trace.
     fn traced_coordinator(
         &self,
         kept: &[PartitionId],
         store: F::Kept,
         traces: &Traces<'a, R>,
+        trace: OpenedTrace<R>,
     ) -> Result<ServerMachine<F::Kept, R>, ServeFault>
         ensures { IfOk result StandsForCoordinator }
     {
         let (store, entries) = self.found(store)?;
-        let trace = traces.open(&TracedNode::Coordinator)?;
         if !trace.has_records && entries == 0 {
             return self.first_coordinator(store, trace.file);
         }
-        let is_told = trace.has_records || entries == 1;
-        let len = self.folder.len(self.alloc, LogFile::Coordinator)?;
-        let trace = traces.go_on(LogFile::Coordinator, trace, is_told, len)?;
+        let trace = self.later_trace(traces, trace, entries)?;
         self.later_coordinator(kept, store, Some(trace))
     }
 
-    // The coordinator's machine, in a folder of whose logs these were made before.
-    fn coordinator(&self, kept: &[PartitionId]) -> Result<ServerMachine<F::Kept, R>, ServeFault>
-        ensures { IfOk result StandsForCoordinator }
+    // The coordinator's machine, in a folder of whose logs these were made before; and whether its
+    // trace is new.
+    fn coordinator(
+        &self,
+        kept: &[PartitionId],
+    ) -> Result<(ServerMachine<F::Kept, R>, bool), ServeFault>
+        ensures { IfOk result (λ made. StandsForCoordinator made.0) }
     {
         let store = self.folder.store(self.alloc, LogFile::Coordinator)?;
-        match &self.traces {
-            None => self.later_coordinator(kept, store, None),
-            Some(traces) => self.traced_coordinator(kept, store, traces),
-        }
+        let Some(traces) = &self.traces else {
+            return Ok((self.later_coordinator(kept, store, None)?, false));
+        };
+        let trace = traces.open(&TracedNode::Coordinator)?;
+        let is_new = trace.is_new;
+        Ok((self.traced_coordinator(kept, store, traces, trace)?, is_new))
     }
 
     // The server of a data partition, as its log is opened.
@@ -286,33 +330,43 @@ impl<'a, F: Folder, R: Files<File = File> + AllocGlobal + Eprint + Drop + Copy> 
         }
     }
 
-    // The trace of a partition whose log was opened, if one is kept.
+    // The trace of a partition whose log was opened. It begins on the log if the traces of all nodes
+    // begin now, and the log was made before.
     fn trace_of(
         &self,
+        traces: &Traces<'a, R>,
         file: LogFile,
         partition: PartitionId,
-    ) -> Result<Option<TraceFile<R>>, ServeFault> {
-        match &self.traces {
-            None => Ok(None),
-            Some(traces) => {
-                let len = self.folder.len(self.alloc, file)?;
-                let node = TracedNode::Partition(partition);
-                Ok(Some(traces.of_partition(file, &node, len)?))
-            }
+        begins: bool,
+    ) -> Result<TraceFile<R>, ServeFault> {
+        let trace = traces.open(&TracedNode::Partition(partition))?;
+        match (trace.has_records, begins) {
+            (false, true) => self.begin_on(traces, file, trace.file),
+            (true, false) => self.go_on(traces, file, trace.file),
+            // no trace tells of the steps that the coordinator took meanwhile
+            (true, true) => Err(ServeFault::Untold {
+                file: LogFile::Coordinator,
+            }),
+            (false, false) if self.folder.len(self.alloc, file)? == 0 => Ok(trace.file),
+            (false, false) => Err(ServeFault::Untold { file }),
         }
     }
 
-    // The machine of a partition whose log was opened, with its trace.
+    // The machine of a partition whose log was opened, with its trace, if one is kept.
     fn traced(
         &self,
         file: LogFile,
         partition: PartitionId,
+        begins: bool,
         machine: BrokerMachine<F::Kept>,
     ) -> Result<ServerMachine<F::Kept, R>, ServeFault>
         ensures { IfOk result (λ r. r.machine ≡ machine) }
     {
-        match self.trace_of(file, partition) {
-            Ok(trace) => Ok(recorded(self.alloc, machine, trace)),
+        let Some(traces) = &self.traces else {
+            return Ok(recorded(self.alloc, machine, None));
+        };
+        match self.trace_of(traces, file, partition, begins) {
+            Ok(trace) => Ok(recorded(self.alloc, machine, Some(trace))),
             Err(fault) => {
                 drop(machine);
                 Err(fault)
@@ -320,29 +374,37 @@ impl<'a, F: Folder, R: Files<File = File> + AllocGlobal + Eprint + Drop + Copy> 
         }
     }
 
-    // The node of a data partition.
-    fn data_node<J: Naming>(&self, opened: Opened) -> Result<OpenedNode<Kept<F, R>>, ServeFault>
+    // The node of a data partition. `begins` says whether the traces of all nodes begin now.
+    fn data_node<J: Naming>(
+        &self,
+        opened: Opened,
+        begins: bool,
+    ) -> Result<OpenedNode<Kept<F, R>>, ServeFault>
         requires { HasBook J.book opened }
         ensures { IfOk result (IsServing J.book) }
     {
         let file = LogFile::of(opened.partition);
+        let begins = begins && self.folder.has(self.alloc, file)?;
         let machine = self.partition(file, opened.partition)?;
-        let machine = self.traced(file, opened.partition, machine)?;
+        let machine = self.traced(file, opened.partition, begins, machine)?;
         Ok(locked(opened.partition, machine, opened))
     }
 
-    // The node of the offsets partition, and the members of all its groups.
+    // The node of the offsets partition, and the members of all its groups. `begins` says whether the
+    // traces of all nodes begin now.
     fn offsets_node<J: Naming>(
         &self,
         opened: Opened,
+        begins: bool,
     ) -> Result<(OpenedNode<Kept<F, R>>, Vec<Member>), ServeFault>
         ensures { HasOffsetsBook J.book opened
             → IfOk result (λ made. IsServing J.book made.0) }
     {
+        let begins = begins && self.folder.has(self.alloc, LogFile::Offsets)?;
         let machine = self.offsets(LogFile::Offsets)?;
         match members_of(self.alloc, &machine) {
             Ok(members) => {
-                let machine = self.traced(LogFile::Offsets, PartitionId::OFFSETS, machine)?;
+                let machine = self.traced(LogFile::Offsets, PartitionId::OFFSETS, begins, machine)?;
                 Ok((locked(PartitionId::OFFSETS, machine, opened), members))
             }
             Err(refused) => {
@@ -358,6 +420,7 @@ impl<'a, F: Folder, R: Files<File = File> + AllocGlobal + Eprint + Drop + Copy> 
         nodes: &mut Vec<OpenedNode<Kept<F, R>>>,
         books: Vec<Opened>,
         offsets: Opened,
+        begins: bool,
     ) -> Result<Vec<Member>, ServeFault>
         requires books { All (HasBook J.book) books.items }
         requires offsets { HasOffsetsBook J.book offsets }
@@ -365,9 +428,9 @@ impl<'a, F: Folder, R: Files<File = File> + AllocGlobal + Eprint + Drop + Copy> 
             → OnOk result (All (IsServing J.book) nodes.new.items) }
     {
         for opened in books {
-            add(nodes, self.data_node::<J>(opened)?)?;
+            add(nodes, self.data_node::<J>(opened, begins)?)?;
         }
-        let (node, members) = self.offsets_node::<J>(offsets)?;
+        let (node, members) = self.offsets_node::<J>(offsets, begins)?;
         add(nodes, node)?;
         Ok(members)
     }
@@ -387,10 +450,10 @@ impl<'a, F: Folder, R: Files<File = File> + AllocGlobal + Eprint + Drop + Copy> 
     {
         let kept = self.kept()?;
         self.warn_of_files(kept.as_slice())?;
-        let machine = self.coordinator(kept.as_slice())?;
+        let (machine, begins) = self.coordinator(kept.as_slice())?;
         let coordinator = Untraced::new(NodeId::Coordinator, machine);
         let mut partitions = Vec::new(self.alloc);
-        match self.open_partitions::<J>(&mut partitions, books, offsets) {
+        match self.open_partitions::<J>(&mut partitions, books, offsets, begins) {
             Ok(members) => Ok(OpenedNodes {
                 coordinator,
                 partitions,

@@ -3,7 +3,6 @@ ghost use Rattle.std.specs.Prelude.{◌≡◌, IfOk, IsTrue, MatchOption, false}
 ghost use Rattle.kx_serve.specs.Opening.{StandsForCoordinator};
 
 use crate::fault::ServeFault;
-use crate::files::LogFile;
 use kx_log::Store;
 use kx_machine::Input;
 use kx_machines::BrokerMachine;
@@ -104,20 +103,14 @@ impl<'a, R: Files<File = File> + AllocGlobal + Eprint + Copy + Drop> Traces<'a, 
         }
     }
 
-    /// The trace of a node goes on: its log is opened again, with this many bytes. Refuses a log of
-    /// which the trace doesn't tell, and a trace of a log that was in memory.
+    /// The trace of a node goes on: its log is opened again, with this many bytes. Refuses a trace
+    /// of a log that was in memory.
     pub(crate) fn go_on(
         &self,
-        log: LogFile,
-        trace: OpenedTrace<R>,
-        is_told: bool,
+        mut file: TraceFile<R>,
         log_len: u64,
     ) -> Result<TraceFile<R>, ServeFault> {
-        let mut file = trace.file;
         let TraceName { node } = file.name();
-        if !is_told {
-            return Err(ServeFault::Untold { file: log });
-        }
         if !self.outlives {
             return Err(ServeFault::Gone {
                 file: TraceName { node },
@@ -127,19 +120,16 @@ impl<'a, R: Files<File = File> + AllocGlobal + Eprint + Copy + Drop> Traces<'a, 
         Ok(file)
     }
 
-    /// The trace of a partition, whose log has this many bytes. It tells of all of them, or the
-    /// start is refused.
-    pub(crate) fn of_partition(
+    /// The trace of a node begins on a log with these bytes, which is opened now.
+    pub(crate) fn begin_on(
         &self,
-        log: LogFile,
-        node: &TracedNode,
-        log_len: u64,
+        mut file: TraceFile<R>,
+        log: &[u8],
     ) -> Result<TraceFile<R>, ServeFault> {
-        let trace = self.open(node)?;
-        if !trace.has_records && log_len == 0 {
-            return Ok(trace.file);
+        let TraceName { node } = file.name();
+        match file.begin_on(self.alloc, self.time, log) {
+            Ok(()) => Ok(file),
+            Err(fault) => Err(fault_of(&node, fault)),
         }
-        let is_told = trace.has_records;
-        self.go_on(log, trace, is_told, log_len)
     }
 }
