@@ -7,7 +7,8 @@ Clients as those of kill.py have transactions over four partitions of PROGRAM se
 which is killed with SIGKILL and started again. Its audit has to say yes. Then one thing is changed
 in a copy of its traces or logs, each time another: an answer, an input, what a store did, a step
 left out, two traces swapped, a byte of a log, a batch at the end of a log. Each has to be refused.
-Traces are read as docs/FORMATS.md has them.
+The same of a server whose logs are older than its traces, which so begin with those logs: there the
+log in a head is changed too, and left out. Traces are read as docs/FORMATS.md has them.
 """
 import os
 import random
@@ -25,9 +26,22 @@ MESSAGE, ANSWERED = 1, 7
 PRODUCE_REPLY = 6
 
 
+def log_in(text):
+    """The log with which a trace begins, of version 2; nothing of version 1."""
+    if text[7] == 1:
+        return b""
+    size = struct.unpack(">Q", text[HEAD + 8:HEAD + 16])[0]
+    return text[HEAD + 16:HEAD + 16 + size]
+
+
+def head_len(text):
+    """How many bytes the head of a trace takes."""
+    return HEAD if text[7] == 1 else HEAD + 16 + len(log_in(text))
+
+
 def records(text):
     """Where each record of a trace begins and ends, with its kind."""
-    found, at = [], HEAD
+    found, at = [], head_len(text)
     while at + 5 <= len(text):
         size, kind = struct.unpack(">IB", text[at:at + 5])
         if at + 4 + size > len(text):
@@ -124,8 +138,10 @@ def traces_swapped(left, traces, _logs):
 
 def heads_swapped(left, traces, _logs):
     one, other = random.sample([name for name in left.names if left.appends[name]], 2)
-    write(traces, one, left.text[one][:HEAD] + left.text[other][HEAD:])
-    write(traces, other, left.text[other][:HEAD] + left.text[one][HEAD:])
+    # the records of each after the head of the other
+    for name, from_name in ((one, other), (other, one)):
+        text, records_of = left.text[name], left.text[from_name]
+        write(traces, name, text[:head_len(text)] + records_of[head_len(records_of):])
 
 
 def log_changed(left, _traces, logs):
@@ -145,8 +161,26 @@ def log_shorter(left, _traces, logs):
     write(logs, name, text[:ends[-2]])
 
 
+def begun(left):
+    """The traces that begin with a log which has entries."""
+    return [name for name in left.names if len(log_in(left.text[name])) > 64]
+
+
+def head_changed(left, traces, _logs):
+    name = random.choice(begun(left))
+    text = left.text[name]
+    write(traces, name, flipped(text, random.randrange(HEAD + 16, head_len(text))))
+
+
+def head_without_log(left, traces, _logs):
+    name = random.choice(begun(left))
+    text = left.text[name]
+    write(traces, name, text[:7] + b"\1" + text[8:HEAD] + text[head_len(text):])
+
+
 TAMPERINGS = [answer_changed, store_changed, input_changed, step_left_out, length_changed, traces_swapped,
     heads_swapped, log_changed, log_shorter]
+OF_HEADS = [head_changed, head_without_log]
 
 
 def audit(program, traces, logs):
@@ -155,13 +189,15 @@ def audit(program, traces, logs):
     return ran.returncode, ran.stdout, ran.stderr, time.monotonic() - began
 
 
-def serve(program, traces, logs, transactions, kills):
-    """Clients have transactions over a server that is killed at random."""
+def serve(program, traces, logs, transactions, kills, begun=0):
+    """Clients have transactions over a server that is killed at random, and writes traces if they have
+    a folder. They have begun so often before."""
     server = Server(program, logs, 1024)
-    server.words += ["--trace", traces, "--expire"]
+    server.words += ["--expire", *(["--trace", traces] if traces else [])]
     server.start()
     clients = [Client(server, n, transactions // 8) for n in range(1, 9)]
     for client in clients:
+        client.begun = begun
         client.start()
     for number in range(kills):
         goal = transactions * (number + 1) // (kills + 1)
@@ -175,6 +211,34 @@ def serve(program, traces, logs, transactions, kills):
     server.kill()
 
 
+def tampered(program, folder, traces, logs, tamperings, count):
+    """Audits what a server left, and then changes one thing of it at a time. Says how much failed."""
+    status, said, errors, took = audit(program, traces, logs)
+    print(said.strip().replace("\n", ", "), errors.strip().replace("\n", ", "), f"in {took:.2f} s")
+    failed = 0 if status == 0 and said.endswith("audit yes\n") else 1
+    left, numbers = Left(traces, logs), {}
+    for number in range(count):
+        tamper = tamperings[number % len(tamperings)]
+        other_traces, other_logs = os.path.join(folder, "t"), os.path.join(folder, "l")
+        for one, other in ((traces, other_traces), (logs, other_logs)):
+            shutil.rmtree(other, ignore_errors=True)
+            shutil.copytree(one, other)
+        tamper(left, other_traces, other_logs)
+        status, said, errors, _ = audit(program, other_traces, other_logs)
+        why = next((line for line in said.split("\n") if line.startswith("audit ")), errors.strip())
+        numbers.setdefault((tamper.__name__, why), 0)
+        numbers[tamper.__name__, why] += 1
+        # a log in a head that can't be opened is no trace's
+        is_refused = why.startswith("audit no") or tamper in OF_HEADS and why.endswith("is not a trace")
+        if status != 1 or not is_refused:
+            failed += 1
+            print("NOT REFUSED", tamper.__name__, said, errors)
+    for (name, why), times in sorted(numbers.items()):
+        print(f"{name}: {times} times {why}")
+    print(f"{count} tampered, {failed} failed")
+    return failed
+
+
 def main():
     program = os.path.abspath(sys.argv[1])
     if subprocess.run([program, "audit", "--help"], capture_output=True, check=False).returncode != 0:
@@ -186,27 +250,11 @@ def main():
     folder = tempfile.mkdtemp(prefix="kx_audit")
     traces, logs = os.path.join(folder, "traces"), os.path.join(folder, "logs")
     serve(program, traces, logs, transactions, kills)
-    status, said, errors, took = audit(program, traces, logs)
-    print(said.strip().replace("\n", ", "), errors.strip(), f"in {took:.2f} s")
-    failed = 0 if status == 0 and said.endswith("audit yes\n") else 1
-    left, numbers = Left(traces, logs), {}
-    for number in range(count):
-        tamper = TAMPERINGS[number % len(TAMPERINGS)]
-        other_traces, other_logs = os.path.join(folder, "t"), os.path.join(folder, "l")
-        for one, other in ((traces, other_traces), (logs, other_logs)):
-            shutil.rmtree(other, ignore_errors=True)
-            shutil.copytree(one, other)
-        tamper(left, other_traces, other_logs)
-        status, said, errors, _ = audit(program, other_traces, other_logs)
-        why = next((line for line in said.split("\n") if line.startswith("audit ")), errors.strip())
-        numbers.setdefault((tamper.__name__, why), 0)
-        numbers[tamper.__name__, why] += 1
-        if status != 1 or not why.startswith("audit no"):
-            failed += 1
-            print("NOT REFUSED", tamper.__name__, said, errors)
-    for (name, why), times in sorted(numbers.items()):
-        print(f"{name}: {times} times {why}")
-    print(f"{count} tampered, {failed} failed")
+    failed = tampered(program, folder, traces, logs, TAMPERINGS, count)
+    traces, logs = os.path.join(folder, "later"), os.path.join(folder, "older")
+    serve(program, None, logs, transactions // 4, 1)
+    serve(program, traces, logs, transactions // 2, kills // 2, begun=100)
+    failed += tampered(program, folder, traces, logs, TAMPERINGS + OF_HEADS, count // 2)
     shutil.rmtree(folder)
     sys.exit(1 if failed else 0)
 

@@ -186,7 +186,7 @@ def main():
     line("verdict audit left --dir left")
     out_lines.extend(["$ audit left --dir left", "audit yes", "status 0"])
     line("# No trace: another version, other bytes, nothing.")
-    for name, change, words in (("co.trace", "$co_trace,7:02", "co.trace: the trace has another version"),
+    for name, change, words in (("co.trace", "$co_trace,7:03", "co.trace: the trace has another version"),
             ("co.trace", "$co_log", "co.trace is not a trace")):
         line(f"file left/{name} {change}")
         audit("left", f"status 1\n! kx_main: {words}", 0)
@@ -194,21 +194,29 @@ def main():
     line("clear left")
     audit("left", "status 1\n! kx_main: there are no traces", 0)
     out_lines.pop()
-    line("# A server that writes traces, in two processes; and one that finds another's.")
+    line("# A server that writes traces, in two processes; one that finds another's; and one that")
+    line("# finds logs, of which its traces don't tell yet.")
     line("clear traced")
+    line("clear other")
     line("clients 1")
-    served = "serve --partitions 2 --connections 1 --dir traced --trace traced"
-    for _ in range(2):
+
+    def serves(traces):
+        served = f"serve --partitions 2 --connections 1 --dir traced --trace {traces}"
         line(f"run {served}")
         out_lines.extend([f"$ {served}", "listening PORT", "served 1", "status 0"])
-    line("verdict audit traced --dir traced")
-    out_lines.extend(["$ audit traced --dir traced", "audit yes", "status 0"])
-    for words, told in (("serve --partitions 2 --connections 1 --trace traced",
-            "co.trace: the trace is of a log that was in memory"),
-            ("serve --partitions 2 --connections 1 --dir traced --trace other",
-            "co.log: the log is older than its trace")):
-        line(f"run {words}")
-        out_lines.extend([f"$ {words}", "status 1", f"! kx_main: {told}"])
+
+    def agrees(traces):
+        line(f"verdict audit {traces} --dir traced")
+        out_lines.extend([f"$ audit {traces} --dir traced", "audit yes", "status 0"])
+
+    serves("traced")
+    serves("traced")
+    agrees("traced")
+    words = "serve --partitions 2 --connections 1 --trace traced"
+    line(f"run {words}")
+    out_lines.extend([f"$ {words}", "status 1", "! kx_main: co.trace: the trace is of a log that was in memory"])
+    serves("other")
+    agrees("other")
     with open(os.path.join(to, "audit.program"), "w", encoding="utf-8") as file:
         file.write("\n".join(program_lines) + "\n")
     with open(os.path.join(to, "audit.out"), "w", encoding="utf-8") as file:

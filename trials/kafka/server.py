@@ -16,10 +16,8 @@ class Server:
 
     def __init__(self, program, *words, folder=None):
         self.program, self.words, self.folder, self.process, self.port = program, words, folder, None, 0
-        # beside the logs, so that the next server in the folder goes on in the same traces; logs that were
-        # begun without traces get none
+        # beside the logs, so that the next server in the folder goes on in the same traces
         self.traces = os.path.join(folder, "traces") if folder else None
-        self.is_traced = not folder or os.path.isdir(self.traces) or not os.listdir(folder)
 
     def start(self):
         words = [self.program, "kafka", "--port", str(self.port), *self.words]
@@ -28,8 +26,7 @@ class Server:
         else:
             # logs in memory end with the process, and so do their traces
             self.traces = tempfile.mkdtemp(prefix="kx-traces-")
-        if self.is_traced:
-            words += ["--trace", self.traces]
+        words += ["--trace", self.traces]
         self.process = subprocess.Popen(words, stdout=subprocess.PIPE, text=True)
         line = self.process.stdout.readline().split()
         if len(line) != 2 or line[0] != "listening":
@@ -64,8 +61,7 @@ class Server:
 
     def __exit__(self, *_):
         self.kill()
-        if self.is_traced:
-            self.audit()
+        self.audit()
 
 
 class Trial:
