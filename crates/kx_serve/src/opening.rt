@@ -52,6 +52,17 @@ fn locked<S: Store, R: Eprint + Drop>(
     }
 }
 
+// Whether the coordinator's trace begins at this start.
+#[derive(Clone, Copy)]
+enum Begins {
+    // it tells of steps, or of none since the coordinator was made
+    No,
+    // it was begun before, and told nothing yet
+    Again,
+    // there was none
+    Anew,
+}
+
 /// What nodes are opened with.
 #[derive(Drop)]
 pub(crate) struct Opening<'a, F: Folder, R: Drop> {
@@ -281,20 +292,25 @@ impl<'a, F: Folder, R: Files<File = File> + AllocGlobal + Eprint + Drop + Copy> 
     }
 
     // The coordinator's machine, in a folder of whose logs these were made before; and whether its
-    // trace is new.
+    // trace begins.
     fn coordinator(
         &self,
         kept: &[PartitionId],
-    ) -> Result<(ServerMachine<F::Kept, R>, bool), ServeFault>
+    ) -> Result<(ServerMachine<F::Kept, R>, Begins), ServeFault>
         ensures { IfOk result (λ made. StandsForCoordinator made.0) }
     {
         let store = self.folder.store(self.alloc, LogFile::Coordinator)?;
         let Some(traces) = &self.traces else {
-            return Ok((self.later_coordinator(kept, store, None)?, false));
+            return Ok((self.later_coordinator(kept, store, None)?, Begins::No));
         };
+        let was_there = traces.has(&TracedNode::Coordinator)?;
         let trace = traces.open(&TracedNode::Coordinator)?;
-        let is_new = trace.is_new;
-        Ok((self.traced_coordinator(kept, store, traces, trace)?, is_new))
+        let begins = match (trace.is_new, was_there) {
+            (false, _) => Begins::No,
+            (true, true) => Begins::Again,
+            (true, false) => Begins::Anew,
+        };
+        Ok((self.traced_coordinator(kept, store, traces, trace)?, begins))
     }
 
     // The server of a data partition, as its log is opened.
@@ -330,25 +346,28 @@ impl<'a, F: Folder, R: Files<File = File> + AllocGlobal + Eprint + Drop + Copy> 
         }
     }
 
-    // The trace of a partition whose log was opened. It begins on the log if the traces of all nodes
-    // begin now, and the log was made before.
+    // The trace of a partition whose log was opened. Where the coordinator's begins it begins on the
+    // log, with the record of its opening, by which a later start knows that it was begun.
     fn trace_of(
         &self,
         traces: &Traces<'a, R>,
         file: LogFile,
         partition: PartitionId,
-        begins: bool,
+        begins: Begins,
     ) -> Result<TraceFile<R>, ServeFault> {
         let trace = traces.open(&TracedNode::Partition(partition))?;
         match (trace.has_records, begins) {
-            (false, true) => self.begin_on(traces, file, trace.file),
-            (true, false) => self.go_on(traces, file, trace.file),
             // no trace tells of the steps that the coordinator took meanwhile
-            (true, true) => Err(ServeFault::Untold {
+            (true, Begins::Anew) => Err(ServeFault::Untold {
                 file: LogFile::Coordinator,
             }),
-            (false, false) if self.folder.len(self.alloc, file)? == 0 => Ok(trace.file),
-            (false, false) => Err(ServeFault::Untold { file }),
+            (true, _) => self.go_on(traces, file, trace.file),
+            (false, Begins::No) if self.folder.len(self.alloc, file)? == 0 => Ok(trace.file),
+            (false, Begins::No) => Err(ServeFault::Untold { file }),
+            (false, _) => {
+                let trace = self.begin_on(traces, file, trace.file)?;
+                self.go_on(traces, file, trace)
+            }
         }
     }
 
@@ -357,7 +376,7 @@ impl<'a, F: Folder, R: Files<File = File> + AllocGlobal + Eprint + Drop + Copy> 
         &self,
         file: LogFile,
         partition: PartitionId,
-        begins: bool,
+        begins: Begins,
         machine: BrokerMachine<F::Kept>,
     ) -> Result<ServerMachine<F::Kept, R>, ServeFault>
         ensures { IfOk result (λ r. r.machine ≡ machine) }
@@ -374,33 +393,42 @@ impl<'a, F: Folder, R: Files<File = File> + AllocGlobal + Eprint + Drop + Copy> 
         }
     }
 
-    // The node of a data partition. `begins` says whether the traces of all nodes begin now.
+    // Whether a partition's trace begins on its log: only on one that was made before.
+    fn begins_on(&self, file: LogFile, begins: Begins) -> Result<Begins, AllocError> {
+        if self.folder.has(self.alloc, file)? {
+            Ok(begins)
+        } else {
+            Ok(Begins::No)
+        }
+    }
+
+    // The node of a data partition, by whether the coordinator's trace begins.
     fn data_node<J: Naming>(
         &self,
         opened: Opened,
-        begins: bool,
+        begins: Begins,
     ) -> Result<OpenedNode<Kept<F, R>>, ServeFault>
         requires { HasBook J.book opened }
         ensures { IfOk result (IsServing J.book) }
     {
         let file = LogFile::of(opened.partition);
-        let begins = begins && self.folder.has(self.alloc, file)?;
+        let begins = self.begins_on(file, begins)?;
         let machine = self.partition(file, opened.partition)?;
         let machine = self.traced(file, opened.partition, begins, machine)?;
         Ok(locked(opened.partition, machine, opened))
     }
 
-    // The node of the offsets partition, and the members of all its groups. `begins` says whether the
-    // traces of all nodes begin now.
+    // The node of the offsets partition, and the members of all its groups, by whether the
+    // coordinator's trace begins.
     fn offsets_node<J: Naming>(
         &self,
         opened: Opened,
-        begins: bool,
+        begins: Begins,
     ) -> Result<(OpenedNode<Kept<F, R>>, Vec<Member>), ServeFault>
         ensures { HasOffsetsBook J.book opened
             → IfOk result (λ made. IsServing J.book made.0) }
     {
-        let begins = begins && self.folder.has(self.alloc, LogFile::Offsets)?;
+        let begins = self.begins_on(LogFile::Offsets, begins)?;
         let machine = self.offsets(LogFile::Offsets)?;
         match members_of(self.alloc, &machine) {
             Ok(members) => {
@@ -420,7 +448,7 @@ impl<'a, F: Folder, R: Files<File = File> + AllocGlobal + Eprint + Drop + Copy> 
         nodes: &mut Vec<OpenedNode<Kept<F, R>>>,
         books: Vec<Opened>,
         offsets: Opened,
-        begins: bool,
+        begins: Begins,
     ) -> Result<Vec<Member>, ServeFault>
         requires books { All (HasBook J.book) books.items }
         requires offsets { HasOffsetsBook J.book offsets }

@@ -11,7 +11,8 @@ use kx_trace::TracedNode;
 use kx_trace_files::{
     OpenedTrace, TraceFile, TraceFileFault, TraceName, open_trace, write_reopened,
 };
-use std::alloc::Global;
+use std::alloc::{AllocError, Global};
+use std::fs;
 use std::fs::{File, Files};
 
 /// The machine of a node, whose steps are written to a trace, if there is one.
@@ -82,6 +83,12 @@ pub(crate) struct Traces<'a, R: Drop> {
 }
 
 impl<'a, R: Files<File = File> + AllocGlobal + Eprint + Copy + Drop> Traces<'a, R> {
+    /// Whether there is a trace of a node.
+    pub(crate) fn has(&self, node: &TracedNode) -> Result<bool, AllocError> {
+        let path = TraceName { node: *node }.path_in(self.alloc, self.dir)?;
+        Ok(fs::metadata(&self.rt, path.as_str()).is_ok())
+    }
+
     /// The trace of a node, which is made where there is none.
     pub(crate) fn open(&self, node: &TracedNode) -> Result<OpenedTrace<R>, ServeFault> {
         match open_trace(&self.rt, self.dir, *node) {
