@@ -211,6 +211,16 @@ def serve(program, traces, logs, transactions, kills, begun=0):
     server.kill()
 
 
+def begin(program, traces, logs, times):
+    """A server begins its traces on logs that are there, and is killed before anybody asks it anything."""
+    for _ in range(times):
+        server = Server(program, logs, 1024)
+        server.words += ["--trace", traces]
+        server.start()
+        time.sleep(random.random() / 3)
+        server.kill()
+
+
 def tampered(program, folder, traces, logs, tamperings, count):
     """Audits what a server left, and then changes one thing of it at a time. Says how much failed."""
     status, said, errors, took = audit(program, traces, logs)
@@ -253,6 +263,7 @@ def main():
     failed = tampered(program, folder, traces, logs, TAMPERINGS, count)
     traces, logs = os.path.join(folder, "later"), os.path.join(folder, "older")
     serve(program, None, logs, transactions // 4, 1)
+    begin(program, traces, logs, 6)
     serve(program, traces, logs, transactions // 2, kills // 2, begun=100)
     failed += tampered(program, folder, traces, logs, TAMPERINGS + OF_HEADS, count // 2)
     shutil.rmtree(folder)

@@ -42,7 +42,9 @@ class Server:
         """Whether all that the nodes of this server did was one schedule, which leads to its logs."""
         words = [self.program, "audit", self.traces, *(["--dir", self.folder] if self.folder else [])]
         ran = subprocess.run(words, capture_output=True, text=True, check=False)
-        Server.audits.append((ran.returncode, ran.stdout.strip().replace("\n", ", ") + ran.stderr))
+        # on standard error: which traces begin with logs, or why there is no audit
+        said = ran.stderr.strip().split("\n") + ran.stdout.strip().split("\n")
+        Server.audits.append((ran.returncode, ", ".join(line for line in said if line)))
         if not self.folder:
             shutil.rmtree(self.traces)
 
