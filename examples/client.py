@@ -133,4 +133,6 @@ def main(port):
 
 
 if __name__ == "__main__":
+    if len(sys.argv) != 2:
+        sys.exit(__doc__)
     main(int(sys.argv[1]))

@@ -2,6 +2,8 @@
 import sys
 from confluent_kafka import Consumer, KafkaException, Producer, TopicPartition
 
+if len(sys.argv) != 4:
+    sys.exit(__doc__)
 kafka = {"bootstrap.servers": sys.argv[1]}
 consumer = Consumer({**kafka, "group.id": "payers", "auto.offset.reset": "earliest",
                      "enable.auto.commit": False, "isolation.level": "read_committed"})

@@ -1,7 +1,7 @@
 #!/usr/bin/env python3
-"""Checks what the documents say of the sources: tools/docs.py.
+"""Checks what the documents say of the sources, and how they say it: tools/docs.py.
 
-Looks, in README.md, docs/ and examples/README.md, for
+Looks, in README.md, docs/ and the READMEs of examples/, trials/ and bench/, for
 
 - links whose file or heading is missing;
 - names of crates, files, folders and cases that don't exist, and of modules, calls and
@@ -10,32 +10,39 @@ Looks, in README.md, docs/ and examples/README.md, for
 - quotations that differ: a fenced block after a line that ends in (`PATH`): must stand in that
   file, word for word;
 - in docs/CLAIMS.md, in the table of wrong bodies, planted bugs that the gate doesn't try in the
-  crates named, and cases that don't exist; whether docs/CALLS.md is what tools/calls.py writes;
-- cells of tables that are too long, a README that is too long, documents that are so together;
+  crates named, and cases that don't exist;
+- numbers of crates and groups that aren't those of crates.txt, whose groups are the comments above
+  its lines; in docs/ARCHITECTURE.md, crates that the table has in another group;
+- synopses, `./kx COMMAND [--option VALUE]`, that aren't those of the program's command line
+  (crates/kx_program/src/usage.rt), and commands without one;
+- of running text, so not of tables, code and lists of names: sentences of more than 35 words,
+  paragraphs and bullets of more than 90;
 - copies: a script in examples/ must be the one of the cases, and worker.py the one of README.
 
-Prints a line for each finding, and ends with status 1 if there is one.
+Also, in the comments of files of cases, for documents and headings that aren't there. Prints a line
+for each finding, and ends with status 1 if there is one.
 """
 import os
 import re
 import sys
 
 sys.dont_write_bytecode = True
-import calls  # noqa: E402
+import rules  # noqa: E402
 
-# The most characters of a cell, lines of README, and words of README and docs/ together.
-LONGEST_CELL = 400
-MOST_LINES = 150
-MOST_WORDS = 31_000
+# The most words of a sentence, and of a paragraph or bullet.
+LONGEST_SENTENCE = 35
+LONGEST_PARAGRAPH = 90
 
 TOP = os.path.dirname(os.path.dirname(os.path.realpath(__file__)))
 PAGES = sorted(f"docs/{it}" for it in os.listdir(f"{TOP}/docs") if it.endswith(".md"))
-DOCS = ["README.md"] + PAGES
+READMES = ["examples/README.md", "trials/README.md", "trials/kafka/README.md", "bench/README.md"]
+DOCS = ["README.md"] + PAGES + READMES
+USAGE = "crates/kx_program/src/usage.rt"
 FOLDERS = ("crates", "docs", "bench", "trials", "tools", "examples")
 DATA = "crates/kx_cases_run/data"
 CASES = r"cases|kx|served|shown|session|program|demo|out"
 # Words in backticks that are the system's, or stand for any name.
-FOREIGN = {"BUG", "CC", "FF", "Lts", "NAME", "cN", "crc32", "fdatasync", "p15"}
+FOREIGN = {"BUG", "CC", "FF", "Lts", "NAME", "cN", "crc32", "fdatasync", "kcat", "p15"}
 found = []
 
 
@@ -58,6 +65,33 @@ def anchors(text):
         re.sub(r"[^\w\- ]", "", it.strip().lower()).replace(" ", "-")
         for it in re.findall(r"^#+ (.*)$", text, flags=re.M)
     }
+
+
+# The head of a function, as `rt fmt` lays it out.
+FUNCTION = re.compile(
+    r"( *)(?:pub |pub\(crate\) )?(?:const )?(?:unsafe )?(?:extern \"C\" )?fn (\w+)"
+)
+
+
+def functions(text):
+    """The functions of a file by their names, each with its type's. `rt fmt` gives each its own
+    indentation."""
+    found, owner, indent = [], "", None
+    for line in text.split("\n"):
+        if line in ("}", f"{indent}}}", f"{indent}{{}}"):
+            indent = None
+        if indent is None:
+            block = re.match(r"(?:pub |pub\(crate\) )?(?:impl|trait)\b(?:<.*?>)?\s+(.*)", line)
+            if block:
+                rest = block.group(1).split("{")[0]
+                owner = re.match(r"\w*", rest.split(" for ")[-1].strip()).group()
+            elif line == "}":
+                owner = ""
+        head = FUNCTION.match(line)
+        if head and (indent is None or len(head.group(1)) <= len(indent)):
+            indent = head.group(1)
+            found.append((owner if indent else "", head.group(2)))
+    return found
 
 
 class Sources:
@@ -83,9 +117,9 @@ class Sources:
             self.words |= own
 
     def add_calls(self, text):
-        for it in calls.functions(text, set()):
-            self.calls.add(it.shown())
-            self.types.add(it.owner)
+        for owner, name in functions(text):
+            self.calls.add(f"{owner}::{name}" if owner else name)
+            self.types.add(owner)
         kinds = r"^(?:pub )?(?:enum|trait) (\w+)[^{]*\{(.*?)^\}"
         for name, body in re.findall(kinds, text, re.M | re.S):
             self.types.add(name)
@@ -127,7 +161,7 @@ def check_names(name, text, sources):
             if f"{it}_*" not in line and f"{it}*" not in line:
                 say(name, number, f"no crate {it}")
         for it in re.findall(r"`((?:%s)/[\w./-]+)`" % "|".join(FOLDERS), line):
-            if not re.search("NAME|BUG", it) and not os.path.exists(f"{TOP}/{it}"):
+            if not re.search("NAME|BUG|/out/", it) and not os.path.exists(f"{TOP}/{it}"):
                 say(name, number, f"no file {it}")
         for it in re.findall(r"`([\w/]+\.(?:rt|antt))`", line):
             ends = (f"/{file}".endswith(f"/{it}") for file in sources.files)
@@ -168,12 +202,6 @@ def check_quotes(name, text):
             say(name, number, f"the quotation isn't in {path}")
 
 
-def check_cells(name, text):
-    for number, line in lines(text):
-        if line.startswith("| ") and max(map(len, line.split(" | "))) > LONGEST_CELL:
-            say(name, number, f"a cell of more than {LONGEST_CELL} characters")
-
-
 def edits():
     """The planted bugs: by name, the crates in whose gate they are, and those beside it."""
     named = {}
@@ -199,7 +227,7 @@ def check_wrong_bodies(name, text, sources):
             for crate in re.findall(r"\bkx_\w+", refused):
                 if crate not in named.get(bug, {}).get("must-fail", ()):
                     say(name, number, f"no planted bug {bug} in the gate of {crate}")
-        for case in re.findall(r"`([a-z_0-9]+(?:\.[a-z]+)?)`", refused):
+        for case in re.findall(r"`(?:\w+/)?([a-z_0-9]+(?:\.[a-z]+)?)`", refused):
             if case not in sources.cases:
                 say(name, number, f"no case {case}")
 
@@ -212,32 +240,166 @@ def check_copies():
         say("examples/worker.py", 1, "not the one of README.md")
 
 
-def check_lengths():
-    count = read("README.md").count("\n")
-    if count > MOST_LINES:
-        say("README.md", count, f"more than {MOST_LINES} lines")
-    words = sum(len(read(it).split()) for it in DOCS)
-    if words > MOST_WORDS:
-        say("docs", 0, f"{words} words with README, more than {MOST_WORDS}")
+def groups():
+    """The groups of crates.txt, each with its crates; a comment counts up to the next one."""
+    found, group = {}, ""
+    for line in read("crates.txt").split("\n")[1:]:
+        if line.startswith("# "):
+            group = line[2:]
+        elif line:
+            found.setdefault(group, set()).add(re.match(r"\w+", line).group())
+    return found
+
+
+def check_groups():
+    own = groups()
+    count = sum(map(len, own.values()))
+    for name in DOCS:
+        for number, line in lines(read(name)):
+            for crates, of in re.findall(r"(\d+) crates in (\d+) groups", line):
+                if (int(crates), int(of)) != (count, len(own)):
+                    say(name, number, f"{count} crates in {len(own)} groups")
+    name = "docs/ARCHITECTURE.md"
+    text = read(name)
+    head = text.index("| Group | Crates |")
+    first = text.count("\n", 0, head) + 3
+    for number, line in enumerate(text[head:].split("\n")[2:], first):
+        if not line.startswith("| "):
+            break
+        group, crates = line.strip("| ").split(" | ")
+        shown = set(re.findall(r"\bkx_\w+", crates))
+        if shown != own.pop(group, None):
+            say(name, number, f"{group} in crates.txt has other crates")
+    for group in own:
+        say(name, first, f"no group {group}")
+
+
+def usages():
+    """Of each command of the program its options with the names of their values, and its words."""
+    text = read(USAGE)
+    arguments, found = {}, {}
+    bodies = re.findall(r"^fn (\w+)<[^\n]*\n.*?^\{\n(.*?)^\}", text, re.M | re.S)
+    for name, body in bodies:
+        short = re.search(r'\b(?:number|required)\(alloc, "([\w-]+)", "([^"]+)"', body)
+        long = re.search(r'\.long\("([\w-]+)"\)', body)
+        value = re.search(r'\.value_name\("([^"]+)"\)', body)
+        word = re.search(r'Arg::new\(alloc, "([^"]+)"\)', body)
+        if short:
+            arguments[name] = (f"--{short[1]}", short[2])
+        elif long:
+            arguments[name] = (f"--{long[1]}", value[1] if value else "")
+        elif word:
+            arguments[name] = (word[1], "")
+    for name, body in bodies:
+        command = re.search(r'Command::new\(alloc, "(\w+)"\)', body)
+        if command and name.endswith("_usage") and command[1] != "kx_main":
+            own = dict(arguments)
+            for local, word in re.findall(r'let (\w+) = Arg::new\(alloc, "([^"]+)"\)', body):
+                own[local] = (word, "")
+            its = re.findall(r"\.arg\((\w+)", body)
+            found[command[1]] = {own[it] for it in its}
+    return found
+
+
+def check_synopses():
+    wanted, seen = usages(), set()
+    for name in DOCS:
+        for number, line in lines(read(name)):
+            for command, words in re.findall(r"`\./kx (\w+)((?: [^`]*)?\[--[^`]*)`", line):
+                options = re.findall(r"(--[\w-]+)(?: ([A-Z][^\]\s]*))?", words)
+                rest = re.sub(r"\[?--[\w-]+(?: [A-Z][^\]\s]*)?\]?", "", words)
+                shown = set(options) | {(it, "") for it in rest.split()}
+                seen.add(command)
+                for it, value in sorted(shown ^ wanted.get(command, set())):
+                    say(name, number, f"the synopsis of {command} differs in {it} {value}".rstrip())
+    for command, options in wanted.items():
+        if command not in seen and any(it.startswith("--") for it, _ in options):
+            say(USAGE, 1, f"no page has the synopsis of {command}")
+
+
+def running_text(text):
+    """The paragraphs and bullets of a page, each with the number of its first line and its heading."""
+    heading, first, parts, is_code = "", 0, [], False
+    for number, line in lines(text + "\n"):
+        line = line.strip()
+        is_fence = line.startswith("```")
+        is_code ^= is_fence
+        begins = re.match(r"(?:[-*]|\d+\.) ", line)
+        if parts and (not line or is_fence or begins or line[:1] in "|#"):
+            yield first, heading, " ".join(parts)
+            parts = []
+        if line.startswith("#") and not is_code:
+            heading = line.lstrip("# ")
+        elif line and not (is_code or is_fence or line[0] in "|#" or line.startswith("<!--")):
+            first = first if parts else number
+            parts.append(line[begins.end():] if begins else line)
+
+
+def plain(text):
+    """Running text in words: code is one word, and so is a list of names."""
+    text = re.sub(r"!?\[([^\]]*)\]\([^)]*\)", r"\1", text)
+    text = re.sub(r"`[^`]*`", "`", text)
+    text = re.sub(r"`(?:(?:,|,? and| or) (?:kx_\w+ )?`)+", "`", text)
+    name = r"\bkx_\w+(?: [\d+]+[†*]?(?: \(built \d+\))?)?"
+    text = re.sub(rf"{name}(?:(?:,|,? and) {name})+", "kx", text)
+    return text.replace("*", "").replace("`", "Name")
+
+
+def check_lengths(name, text):
+    for number, heading, part in running_text(text):
+        part = plain(part)
+        count = len(part.split())
+        # (a page of a run shows these, so a change of them is one of kx_page)
+        if count > LONGEST_PARAGRAPH and heading not in rules.TEXTS:
+            say(name, number, f"a paragraph of {count} words: {part[:40]}..")
+        for it in re.split(r"(?<=[^.][.?!])\)? +(?=[A-Z0-9(\"…]|kx)", part):
+            count = len(it.split())
+            if count > LONGEST_SENTENCE:
+                say(name, number, f"a sentence of {count} words: {it[:40]}..")
+
+
+def check_comments_of_cases():
+    """Documents that comments of cases name, with the headings in quotes after them."""
+    for crate in ("kx_cases_run", "kx_cases_kafka"):
+        for folder, _, files in os.walk(f"{TOP}/crates/{crate}/data"):
+            for it in sorted(files):
+                if it.endswith((".cases", ".session", ".program", ".served", ".shown", ".demo")):
+                    check_comments(os.path.relpath(os.path.join(folder, it), TOP))
+
+
+def check_comments(name):
+    with open(f"{TOP}/{name}", encoding="utf-8", errors="replace") as it:
+        text = it.read()
+    for found in re.finditer(r"(?:^#.*\n)+", text, re.M):
+        number = text.count("\n", 0, found.start()) + 1
+        comment = " ".join(it.lstrip("# ") for it in found[0].split("\n"))
+        for path in re.findall(r"\b(?:docs|trials|tools)/[\w./-]*\w", comment):
+            if not os.path.exists(f"{TOP}/{path}"):
+                say(name, number, f"no file {path}")
+        for page, quoted in re.findall(r'(docs/[\w-]+\.md)((?:,?(?: and)? "[^"]*")+)', comment):
+            heads = re.findall(r"^#+ (.*)$", read(page), re.M) if os.path.exists(f"{TOP}/{page}") else []
+            for it in re.findall(r'"([^"]*)"', quoted):
+                if not any(head.startswith(it) for head in heads):
+                    say(name, number, f'no heading "{it}" in {page}')
 
 
 def main():
     sources = Sources()
-    for name in DOCS + ["examples/README.md"]:
+    for name in DOCS:
         text = read(name)
         check_links(name, text)
         check_names(name, text, sources)
         check_quotes(name, text)
-        check_cells(name, text)
+        check_lengths(name, text)
         check_places(name, text, sources)
         # (GLOSSARY has Kafka's words beside ours)
-        if name not in ("docs/CALLS.md", "docs/GLOSSARY.md", "examples/README.md"):
+        if name not in ["docs/GLOSSARY.md", *READMES]:
             check_words(name, text, sources)
     check_wrong_bodies("docs/CLAIMS.md", read("docs/CLAIMS.md"), sources)
     check_copies()
-    check_lengths()
-    if read("docs/CALLS.md") != calls.page():
-        say("docs/CALLS.md", 1, "not current: run tools/calls.py")
+    check_groups()
+    check_synopses()
+    check_comments_of_cases()
     for line in found:
         print(line)
     return 1 if found else 0

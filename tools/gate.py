@@ -1,5 +1,5 @@
 #!/usr/bin/env python3
-"""Runs the gate, `rt ci`, in this checkout and tells what it cost, crate by crate.
+"""Runs the gate, `rt ci`, in this checkout and reports what it cost, crate by crate.
 
     tools/gate.py [JOBS]
 

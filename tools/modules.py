@@ -1,5 +1,5 @@
 #!/usr/bin/env python3
-"""Checks a crate from nothing by one job, and tells where the time went, module by module.
+"""Checks a crate from nothing by one job, and reports where the time went, module by module.
 
     tools/modules.py CRATE [COUNT]
 

@@ -5,14 +5,15 @@
 
 A block of README that is fenced as `console` has commands, each after `$ `, and below each what is
 printed. In a block the commands run one after the other, in a folder of the clone's own. One that
-ends in `&` goes on beside the others; its lines may stand below a later command, once that has
-printed its own. The clone has what is committed. There `./kx` proves and builds the program, in an
-hour and a half; with --program it is PROGRAM, which was built already; with --try it runs without
-any proof (`./kx try`), two minutes for each, and blocks with a server are left out. Prints a line
-for each command, and ends with status 1 if one printed anything else.
+ends in `&` goes on beside the others as a job; its lines may stand below a later command, once that
+has printed its own, and `kill %1` ends the first job of the block. The clone has what is committed.
+There `./kx` proves and builds the program, in an hour and a half, and `./kx try` compiles it without
+proof. With --program both are PROGRAM, which was built already; with --try both are `./kx try`.
+Prints a line for each command, and ends with status 1 if one printed anything else.
 """
 import os
 import re
+import shlex
 import shutil
 import subprocess
 import sys
@@ -21,8 +22,8 @@ import time
 
 TOP = os.path.dirname(os.path.dirname(os.path.realpath(__file__)))
 
-# How long a command may take beside the build, in seconds.
-PATIENCE = 60
+# How long a command may take beside the build, and a compilation without proof, in seconds.
+PATIENCE, COMPILING = 60, 1200
 
 
 def blocks(text):
@@ -74,7 +75,11 @@ def run_block(commands, folder, env, patience):
     """Runs the commands of a block. Returns how many printed something else."""
     failed, beside = 0, []
     for at, (command, wanted) in enumerate(commands):
-        if command.endswith("&"):
+        job = re.fullmatch(r"kill %(\d+)", command)
+        if job:
+            beside[int(job[1]) - 1].process.terminate()
+            printed = beside[int(job[1]) - 1].end()
+        elif command.endswith("&"):
             beside.append(Beside(command[:-1], folder, env))
             printed = beside[-1].lines(len(wanted), patience)
         else:
@@ -97,10 +102,18 @@ def run_block(commands, folder, env, patience):
     return failed
 
 
-def replaced(clone, how):
+def replaced(clone, how, torture):
     """Puts another `./kx` into the clone, where the program needn't be proved and built."""
+    os.rename(f"{clone}/kx", f"{clone}/kx.own")
     with open(f"{clone}/kx", "w", encoding="utf-8") as it:
-        it.write(f'#!/usr/bin/env bash\n{how} "$@"\n')
+        it.write(f'''#!/usr/bin/env bash
+case "$1" in
+  try) shift ;;
+  torture) shift && exec {torture} "$@" ;;
+esac
+exec {how} "$@"
+''')
+    os.chmod(f"{clone}/kx", 0o755)
 
 
 def main(words):
@@ -110,10 +123,14 @@ def main(words):
         subprocess.run(["git", "clone", "-q", TOP, clone], check=True)
         patience = 4 * 3600
         if words[:1] == ["--program"]:
-            replaced(clone, f"exec {os.path.realpath(words[1])}")
+            program = shlex.quote(os.path.realpath(words[1]))
+            replaced(clone, program, f"python3 {clone}/tools/torture --program {program}")
             patience = PATIENCE
         elif words == ["--try"]:
-            replaced(clone, 'cd "$(dirname "$0")/crates/kx_main" && exec rt try --')
+            # (the clone's own, since it looks for its sources beside itself)
+            own = shlex.quote(f"{clone}/kx.own")
+            replaced(clone, f"{own} try", f"{own} torture")
+            patience = COMPILING
         elif words:
             print(__doc__)
             return 2
@@ -121,10 +138,7 @@ def main(words):
             text = it.read()
         failed = 0
         for commands in blocks(text):
-            if words == ["--try"] and any(it.endswith("&") for it, _ in commands):
-                print("left out", commands[0][0])
-            else:
-                failed += run_block(commands, clone, dict(os.environ), patience)
+            failed += run_block(commands, clone, dict(os.environ), patience)
         print(f"{failed} failed")
         return 1 if failed else 0
     finally:

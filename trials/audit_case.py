@@ -152,9 +152,12 @@ def main():
         line(f"file left/{file} ${file.replace('.', '_')}")
     audit("left --dir left", counts + "audit yes", 0)
     audit("left", counts + "audit yes", 0)
+    for folder, why in (("nofolder", "No such file or directory (os error 2)"), ("left/co.log", "not a directory")):
+        audit(f"left --dir {folder}", f"status 1\n! kx: {folder}: {why}", 0)
+        out_lines.pop()
     audit("left --page left.html", counts + "audit yes", 0)
     audit("left --page nofolder/left.html", counts + "audit yes", 1)
-    out_lines.append("! kx_main: nofolder/left.html: No such file or directory (os error 2)")
+    out_lines.append("! kx: nofolder/left.html: No such file or directory (os error 2)")
     line('run audit left --page ""')
     out_lines.extend(['$ audit left --page ""', "status 2", "words"])
 
@@ -189,10 +192,19 @@ def main():
     for name, change, words in (("co.trace", "$co_trace,7:03", "co.trace: the trace has another version"),
             ("co.trace", "$co_log", "co.trace is not a trace")):
         line(f"file left/{name} {change}")
-        audit("left", f"status 1\n! kx_main: {words}", 0)
+        audit("left", f"status 1\n! kx: left/{words}", 0)
         out_lines.pop()
+    line("file left/co.trace $co_trace")
+    line("# A log whose trace is missing.")
+    line("folder fewer")
+    for name in ("co", "p0", "po"):
+        line(f"file fewer/{name}.trace ${name}_trace")
+    line("verdict audit fewer --dir left")
+    out_lines.extend(["$ audit fewer --dir left", "audit no 7", "p1.log: the trace leads to another log", "status 1",
+        "! kx: fewer/p1.trace: the trace is missing"])
+    line("clear fewer")
     line("clear left")
-    audit("left", "status 1\n! kx_main: there are no traces", 0)
+    audit("left", "status 1\n! kx: left: there are no traces: No such file or directory (os error 2)", 0)
     out_lines.pop()
     line("# A server that writes traces, in two processes; one that finds another's; and one that")
     line("# finds logs, of which its traces don't tell yet.")
@@ -214,9 +226,25 @@ def main():
     agrees("traced")
     words = "serve --partitions 2 --connections 1 --trace traced"
     line(f"run {words}")
-    out_lines.extend([f"$ {words}", "status 1", "! kx_main: co.trace: the trace is of a log that was in memory"])
+    out_lines.extend([f"$ {words}", "status 1", "! kx: traced/co.trace: the trace is of a log that was in memory"])
     serves("other")
     agrees("other")
+    line("# A server runs on the logs without these traces, and then with others: they go on with neither, and")
+    line("# begin anew only where that is asked for.")
+
+    def goes_not_on(words, traces):
+        line(f"run {words} --dir traced --trace {traces}")
+        out_lines.extend([f"$ {words} --dir traced --trace {traces}", "status 1", f"! kx: {traces}/co.trace: "
+            "a server ran on these logs without it; --new-traces begins the traces anew"])
+
+    words = "serve --partitions 2 --connections 1"
+    line(f"run {words} --dir traced")
+    out_lines.extend([f"$ {words} --dir traced", "listening PORT", "served 1", "status 0"])
+    goes_not_on(words, "other")
+    serves("other --new-traces")
+    agrees("other")
+    goes_not_on(words, "traced")
+    goes_not_on("kafka --port TAKEN", "traced")
     with open(os.path.join(to, "audit.program"), "w", encoding="utf-8") as file:
         file.write("\n".join(program_lines) + "\n")
     with open(os.path.join(to, "audit.out"), "w", encoding="utf-8") as file:

@@ -9,8 +9,8 @@ sends a million bytes of frames in pieces of one byte. Meanwhile one client asks
 the memory of the server is read from /proc. Then, each with a server of its own: two connections
 speak for one client in turn; pages are asked for, and bytes that are no frame follow; descriptors
 and threads run out for a while; a folder has the empty name; and what a refused batch costs where
-few or many connections may come. Ends with status 1 where one of these isn't as docs/RULES.md has
-it. Frames are written from docs/FORMATS.md.
+few or many connections may come. Ends with status 1 where one of these isn't as
+docs/SERVER.md has it. Frames are written from docs/FORMATS.md.
 """
 import os
 import resource

@@ -8,7 +8,6 @@ There the server is a function that the program of cases calls; here it is PROGR
 arguments, standard output and status, or PROGRAM kafka, which is killed at the end. The language of sessions is told in
 crates/kx_cases_server/src/session.rt. A program tells its fault in words alone, so the number of
 a fault isn't compared, and it takes a folder of the empty name for wrong arguments (status 2).
-Lines that call a function (`patience`) are passed over, with what they tell.
 """
 import os
 import re
@@ -48,7 +47,12 @@ class Session:
         if folder:
             words += ["--dir", os.path.join(self.folder, folder)]
         words += more
-        return subprocess.Popen(words, stdout=subprocess.PIPE, stderr=subprocess.PIPE, text=True)
+        return self.popen(words)
+
+    def popen(self, words):
+        server = subprocess.Popen(words, stdout=subprocess.PIPE, stderr=subprocess.PIPE, text=True)
+        server.folder = words[words.index("--dir") + 1] if "--dir" in words else ""
+        return server
 
     def serve(self, partitions, connections, folder=None, *more):
         self.server = self.start(partitions, connections, folder, *more)
@@ -64,7 +68,9 @@ class Session:
             words += ["--topics", options["with"], "--no-auto-topics"]
         if "in" in options:
             words += ["--dir", os.path.join(self.folder, options["in"])]
-        self.server = subprocess.Popen(words, stdout=subprocess.PIPE, stderr=subprocess.PIPE, text=True)
+        if "at" in options:
+            words += ["--advertise", options["at"]]
+        self.server = self.popen(words)
         words = self.server.stdout.readline().split()
         if words:
             self.told.append(words[0])
@@ -160,9 +166,11 @@ class Session:
             return
         lines, words = server.communicate()
         if server.returncode == 2:
-            self.told.append("fault the folder cannot be used")
+            self.told.append("fault the folder cannot be used: invalid input parameter")
         elif server.returncode != 0:
-            self.told.append("fault " + words.strip().split("\n")[-1].removeprefix("kx_main: "))
+            # the folder that was given stands in front of the fault's words, or of the file's name
+            said = words.strip().split("\n")[-1].removeprefix("kx: ").removeprefix(server.folder)
+            self.told.append("fault " + said.removeprefix(": ").removeprefix("/"))
         self.told += lines.split("\n")[:-1]
 
     def step(self, words):
@@ -228,8 +236,6 @@ class Session:
                 self.pages(name)
             case ["wait", millis]:
                 time.sleep(int(millis) / 1000)
-            case ["patience", _]:
-                pass
             case _:
                 sys.exit("no such line: " + " ".join(words))
 

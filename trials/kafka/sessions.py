@@ -6,7 +6,7 @@ what has to come back, beside each.
 
 Requests are those that librdkafka sent (captured), but for the length in front and, where a comment
 says so, an offset or a time. Responses are written here by the layouts of Kafka's protocol guide
-("The Messages") and the rules of docs/RULES.md: nothing of them is the program's.
+("The Messages") and the rules of docs/STOCK-CLIENTS.md: nothing of them is the program's.
 """
 import os
 import struct

@@ -1,7 +1,7 @@
-//! Why no entry stands at the front of some bytes.
+//! Why no entry is at the front of some bytes.
 use thiserror::Error;
 
-/// Why no entry stands at the front of the bytes: the first that fits. Reading changes nothing,
+/// Why no entry is at the front of the bytes: the first that fits. Reading changes nothing,
 /// whatever it answers.
 #[derive(Clone, Copy, Debug, PartialEq, Eq, Drop, Error)]
 pub enum EntryFault {

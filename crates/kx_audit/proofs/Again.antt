@@ -5,7 +5,7 @@ use Rattle.kx_machine.specs.declared.taken.Taken.{Taken}
 use Rattle.kx_model.specs.Disk.{Store}
 use Rattle.kx_model.specs.Step.{Input}
 
--- where a machine takes an input as its store allows it, and what its store allows is what a store
+-- if a machine takes an input as its store allows it, and what its store allows is what a store
 -- may meet, it takes it as such a store lets it
 pub taken_so : {E : Type 0} (answer : Result Taken E) (Stood Stands : NodeState → Type 0)
     (input : Input) (Allows : Option ℕ → Store → Type 0) (Meets : NodeState → Store → Type 0)

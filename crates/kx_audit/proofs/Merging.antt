@@ -61,7 +61,7 @@ pub at_other : (p : Passed) (ps : List Passed) (name : NodeId) → same_node p.n
     → at_node name (p ∷ ps) ≡ at_node name ps
 at_other p ps name e = ap (λ b. cond b (p ∷ at_node name ps) (at_node name ps)) e
 
--- where steps lead from the node that is there, if there is one
+-- if steps lead from the node that is there, if there is one
 abbrev pub led_in : Option NodeState → List Passed → Option NodeState
 led_in None ps = None
 led_in (Some node) ps = Some (led_to node ps)

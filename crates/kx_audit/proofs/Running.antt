@@ -164,7 +164,7 @@ again_one s p event before behind there is takes =
 
 ------ all steps
 
--- those at a node, where one of them is its own
+-- those at a node, if one of them is its own
 at_split : (name : NodeId) (before : List Passed) (p : Passed) (ps : List Passed)
     → same_node p.node name ≡ true
     → steps_in (at_node name (before ++ p ∷ ps))

@@ -30,7 +30,7 @@ pub stranger : (sent : List Message) (given : Input) → (WasHandedOut sent give
 stranger sent (input.Deliver message) unsent = (message, refl, unsent)
 stranger sent other unsent = absurd (unsent tt)
 
--- where each step may, there is none
+-- if each step may, there is none
 pub no_stranger_in : (sent : List Message) (steps : List Step)
     → ((k : ℕ) (step : Step) → slice_get steps k ≡ Some step → WasHandedOut sent step.input)
     → TakesStranger sent steps → ⊥

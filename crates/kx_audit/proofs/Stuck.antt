@@ -1,4 +1,4 @@
--- Where no node can go on and a trace isn't done, the traces are stuck.
+-- If no node can go on and a trace isn't done, the traces are stuck.
 use Rattle.std.proofs.Common.{◌≡◌, ◌++◌, ℕ, zero, suc, List, [], ◌∷◌, length, take, Some}
 use Rattle.std.proofs.Common.{sym, ap, ◌∙◌, subst, arith}
 use Rattle.std.specs.Prelude.{slice_get}

@@ -1,4 +1,4 @@
--- Steps that were put into one order are joined, where each trace that is run again answers so.
+-- Steps that were put into one order are joined, if each trace that is run again answers so.
 use Rattle.std.proofs.Common.{◌≡◌, ◌++◌, ℕ, zero, suc, Bool, true, false, cond, List, [], ◌∷◌}
 use Rattle.std.proofs.Common.{Some, refl, sym, ap, ◌∙◌, subst, arith}
 use Rattle.std.specs.Prelude.{slice_get, option_map}

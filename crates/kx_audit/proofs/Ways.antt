@@ -27,7 +27,7 @@ pub steps_push : (way : List Passed) (p : Passed)
 steps_push [] p = refl
 steps_push (q ∷ way) p = ap (λ (steps : List Step). q.step ∷ steps) (steps_push way p)
 
------- a trace leads where its steps do
+------ a trace leads if its steps do
 
 replays_from : (made node : NodeState) (steps : List Step) (way : List Passed)
     → Replays made steps node → GoesOn node way

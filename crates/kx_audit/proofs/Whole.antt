@@ -32,7 +32,7 @@ run_both (event ∷ before) after s = run_both before after (system_step s event
 few_data : data_partitions < offsets_partition
 few_data = omega arith
 
--- in range where each one is
+-- in range if each one is
 makings_fit : (cs : List ClientMaking)
     → ((c : ClientMaking) → IsIn c cs → IsSystemEvent (making_event c))
     → All IsSystemEvent (map making_event cs)

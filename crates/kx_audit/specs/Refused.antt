@@ -23,7 +23,7 @@ fault_number fault.Memory = 5
 
 ------ order
 
--- the first steps of each trace, with answers, were put into one order, where these messages had
+-- the first steps of each trace, with answers, were put into one order, if these messages had
 -- arrived from outside
 pub record ArePartlyMerged (arrived : List Message) (trails : List Trail) (told : List Told)
     : Type 0 where
@@ -148,7 +148,7 @@ pub record HaveAlike (receipts : List Receipt) : Type 0 where
   pub same_node : one.node ≡ other.node
   pub same_place : one.place ≡ other.place
 
------- each refusal comes only in its case, and where none before it fits: the origin, the order,
+------ each refusal comes only in its case, and if none before it fits: the origin, the order,
 -- the receipt, the count
 
 abbrev pub IsRefusedWith : List Message → List Trail → List Receipt → AuditFault → Type 0

@@ -19,7 +19,7 @@ use Rattle.kx_system.specs.System.{System, SystemEvent, system_step}
 abbrev pub StepIs : Type 1
 StepIs = NodeState → List Step → Step → Taken → NodeState → Type 0
 
--- it is said of each step, where the rest comes after all of them
+-- it is said of each step, if the rest comes after all of them
 abbrev pub AllAre : StepIs → List Step → NodeState → List Passed → Type 0
 AllAre Is rest before [] = Unit {0}
 AllAre Is rest before (p ∷ ps) =
@@ -45,7 +45,7 @@ behind_in (Some trace) place = drop (place + 1) trace.steps
 abbrev pub behind_at : {B : Type 0} → List (Traced B) → Turn → List Step
 behind_at traces turn = behind_in (slice_get traces turn.trace) turn.step
 
--- whichever number its message has, the step with this store leads to where the event does
+-- whichever number its message has, the step with this store leads to if the event does
 pub record IsAgain (s : System) (p : Passed) (event : SystemEvent) (store : Store) : Type 0 where
   pub leads : (other : SystemEvent) → IsEventOf s.world.sent p.node p.step.input store other
       → (system_step s other).0 ≡ (system_step s event).0

@@ -57,7 +57,7 @@ pub record StandsAt {M : Type 0} (stands : NodeState → M → Type 0) (machines
   pub there : slice_get machines number ≡ Some machine
   pub stands_so : stands node machine
 
--- what an audit finds, where these messages had arrived from outside: no two traces are of one node;
+-- what an audit finds, if these messages had arrived from outside: no two traces are of one node;
 -- the steps of the traces are a schedule of the whole system, which led to the nodes for which the
 -- machines stand, each step with the store that its trace tells; there is a receipt for each step,
 -- which is what the schedule answers
@@ -108,7 +108,7 @@ pub record IsOpenSchedule (arrived : List Message) (trails : List Trail) (merged
       ≡ run_open_system (open_events arrived trails events) (start_system data_partitions)
   pub promises : KeepsOpenPromises s.world
 
--- the yes of an audit of servers: what it finds, where all requests that the traces take in had
+-- the yes of an audit of servers: what it finds, if all requests that the traces take in had
 -- arrived from outside, is an open schedule, which so keeps the promises that need no trust in
 -- clients
 pub record AreServersYes {B M : Type 0} (making : B → NodeMaking)

@@ -62,7 +62,7 @@ AllOccur s ps events = ⊥
 
 ------ the whole schedule
 
--- a system with so many data partitions, where these messages arrived from outside
+-- a system with so many data partitions, if these messages arrived from outside
 abbrev pub start_with : List Message → ℕ → System
 start_with arrived count =
     record (start_system count) { world = record (start count) { sent = arrived } }

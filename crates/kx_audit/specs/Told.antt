@@ -53,7 +53,7 @@ abbrev pub IsToldOf : List Trail → Told → Type 0
 IsToldOf trails x =
     (k : ℕ) × (t : Trail) × (slice_get trails k ≡ Some t) × (x.node ≡ named t.made)
 
--- the steps of traces, with answers, were put into one order, where these messages had arrived from
+-- the steps of traces, with answers, were put into one order, if these messages had arrived from
 -- outside
 pub record AreMerged (arrived : List Message) (trails : List Trail) (told : List Told)
     : Type 0 where

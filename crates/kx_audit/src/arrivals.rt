@@ -39,12 +39,12 @@ fn add_requests(all: &mut Sent, steps: &[Step]) -> Result<(), AllocError>
     Ok(())
 }
 
-/// What has arrived from outside: nothing where the clients are inside, and else each request that
+/// What has arrived from outside: nothing if the clients are inside, and else each request that
 /// a trace takes in.
 ///
 /// # Errors
 ///
-/// Only where memory runs out.
+/// Only if memory runs out.
 pub(crate) fn arrived<B: Remade>(
     alloc: Global,
     clients: Clients,

@@ -58,7 +58,7 @@ fn may_go<B: Remade>(sent: &Sent, node: &Replayer<B>) -> Result<bool, AllocError
 }
 
 impl<B: Remade> Auditor<B> {
-    /// An auditor that has merged nothing, where these messages had arrived from outside.
+    /// An auditor that has merged nothing, if these messages had arrived from outside.
     pub(crate) fn start(
         alloc: Global,
         clients: Clients,
@@ -112,7 +112,7 @@ impl<B: Remade> Auditor<B> {
         })
     }
 
-    // A trace whose next step may come now: the one that went last, where it can go on.
+    // A trace whose next step may come now: the one that went last, if it can go on.
     fn pick(&self, last: usize) -> Result<Option<usize>, AllocError>
         ensures within { IfOk result (λ o. IfSome o (λ k. k < length self.now.nodes)) }
         ensures may { IfOk result (λ o. IfSome o (λ k. (p : Progress B B.Machine)
@@ -134,7 +134,7 @@ impl<B: Remade> Auditor<B> {
     ///
     /// # Errors
     ///
-    /// Only where memory runs out.
+    /// Only if memory runs out.
     pub(crate) fn run(self) -> Result<Auditor<B>, AllocError>
         ensures clients { IfOk result (λ a. a.clients ≡ self.clients) }
         ensures traces { IfOk result (λ a. traces_of a.nodes ≡ traces_of self.nodes) }

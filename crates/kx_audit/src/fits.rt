@@ -1,4 +1,4 @@
-//! Traces hold numbers, names and bytes within their ranges, as their types see to. What stands
+//! Traces hold numbers, names and bytes within their ranges, as their types see to. What is
 //! here changes nothing when it runs.
 ghost use Rattle.std.specs.Prelude.{All};
 ghost use Rattle.kx_audit.specs.Making.{making_of, processor_making, trail_of};

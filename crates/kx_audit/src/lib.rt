@@ -12,7 +12,7 @@
 //! - All steps: `Merging` (they are events, one after the other), `Ordering` (clients in the order
 //!   of their numbers), `Beginning` (the system in which they are made), `Ways` (the steps of one
 //!   trace), `Whole`, `Answering` (the event of a receipt).
-//! - What an auditor finds: `Telling` (steps in one order are joined where runs of the traces
+//! - What an auditor finds: `Telling` (steps in one order are joined if runs of the traces
 //!   answer so), `Auditing` (a run goes on by one step, and so does the order of all), `Audited`.
 //! - How it finds it: `Indexing` (messages by their frames), `Rerunning` (a trace that is run again
 //!   takes one more step), `Storing` (with the store that its trace tells), `Begun` (one trace after the other is run again), `Lines` (what a trace
@@ -69,10 +69,10 @@ pub use run::Run;
 pub use turn::Turn;
 pub use verdict::{audit, audit_servers};
 
-/// Traces whose steps are merged so are what happens in a schedule of the whole system, where some
+/// Traces whose steps are merged so are what happens in a schedule of the whole system, if some
 /// messages had arrived from outside: after the making of the clients, in the order of their
 /// numbers, each step is an event at its node, in the merged order. In the system to which this
-/// leads each node stands where its trace led, any other is as it was in the beginning, and all
+/// leads each node is where its trace led, any other is as it was in the beginning, and all
 /// that was sent is what had arrived and the messages of the steps. This does nothing when it runs.
 pub fn joined_traces_are_a_schedule()
     ensures { (arrived : List Message) (trails : List Trail) (merged : List Passed)
@@ -90,7 +90,7 @@ pub fn receipts_are_answers()
         → IsAnswered (made_system arrived trails) events receipt }
 {}
 
-/// Steps that were put into one order, with their answers, are joined where each trace that is run
+/// Steps that were put into one order, with their answers, are joined if each trace that is run
 /// again answers so; and the node of each trace is then the one to which its run led. This does
 /// nothing when it runs.
 pub fn told_steps_are_joined()

@@ -75,7 +75,7 @@ fn takes_stranger<B: Remade>(all: &Sent, node: &Replayer<B>) -> Result<bool, All
 ///
 /// # Errors
 ///
-/// Only where memory runs out.
+/// Only if memory runs out.
 pub(crate) fn have_stranger<B: Remade>(
     arrived: Sent,
     nodes: &[Replayer<B>],

@@ -74,7 +74,7 @@ fn is_named<B: Remade>(
 ///
 /// # Errors
 ///
-/// Only where memory runs out.
+/// Only if memory runs out.
 pub(crate) fn are_named<B: Remade>(
     alloc: Global,
     nodes: &[Replayer<B>],
@@ -98,7 +98,7 @@ pub(crate) fn are_named<B: Remade>(
 ///
 /// # Errors
 ///
-/// Only where memory runs out.
+/// Only if memory runs out.
 pub(crate) fn are_distinct(alloc: Global, receipts: &[Receipt]) -> Result<bool, AllocError>
     ensures distinct { IfOk result (λ b. IsTrue b → AreDistinct receipts.now) }
     ensures alike { IfOk result (λ b. IsFalse b → HaveAlike receipts.now) }

@@ -18,7 +18,7 @@ pub trait Remade: Tells {
     ///
     /// # Errors
     ///
-    /// Only where memory runs out.
+    /// Only if memory runs out.
     fn make(&self, alloc: Global) -> Result<Self::Machine, AllocError>
         ensures { IfOk result (λ machine. Self.Machine.stands (Self.state self.now) machine) };
 

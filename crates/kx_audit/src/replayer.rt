@@ -74,7 +74,7 @@ impl<B: Remade> Replayer<B> {
     ///
     /// # Errors
     ///
-    /// Only where memory runs out.
+    /// Only if memory runs out.
     pub(crate) fn new(alloc: Global, trace: Trace<B>) -> Result<Replayer<B>, AllocError>
         ensures { IfOk result (IsBegun B.making B.Machine.stands trace) }
     {
@@ -196,7 +196,7 @@ impl<B: Remade> Replayer<B> {
 ///
 /// # Errors
 ///
-/// Only where memory runs out.
+/// Only if memory runs out.
 pub(crate) fn replay_all<B: Remade>(
     alloc: Global,
     traces: Vec<Trace<B>>,

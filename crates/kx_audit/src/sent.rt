@@ -63,7 +63,7 @@ impl Sent {
     ///
     /// # Errors
     ///
-    /// Only where memory runs out.
+    /// Only if memory runs out.
     pub(crate) fn add(&mut self, message: Message) -> Result<(), AllocError>
         ensures { OnOk result (self.new ≡ self.old ++ message ∷ []) }
     {
@@ -78,7 +78,7 @@ impl Sent {
     ///
     /// # Errors
     ///
-    /// Only where memory runs out.
+    /// Only if memory runs out.
     pub(crate) fn add_all(&mut self, messages: &[Message]) -> Result<(), AllocError>
         ensures { OnOk result (self.new ≡ self.old ++ messages.now) }
     {
@@ -104,7 +104,7 @@ impl Sent {
     ///
     /// # Errors
     ///
-    /// Only where memory runs out.
+    /// Only if memory runs out.
     pub(crate) fn has(&self, message: &Message) -> Result<bool, AllocError>
         ensures { IfOk result (λ found. Decides found (Contains self.now message.now)) }
     {
@@ -119,7 +119,7 @@ impl Sent {
     ///
     /// # Errors
     ///
-    /// Only where memory runs out.
+    /// Only if memory runs out.
     pub(crate) fn may_take(&self, input: &Input) -> Result<bool, AllocError>
         ensures { IfOk result (λ b. Decides b (WasHandedOut self.now input.now)) }
     {

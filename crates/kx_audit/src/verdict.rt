@@ -167,7 +167,7 @@ fn find<B: Remade>(
 /// The first of these that fits: `Origin` if two traces are of one node, or a step takes in a
 /// message that no step of any trace sent; `Order` if the steps can't be put into one order;
 /// `Receipt` if a receipt is of no step; `Count` if there are not as many receipts as steps, or two
-/// are of one step. `Memory` where memory is refused, which may come in place of any of them.
+/// are of one step. `Memory` if memory is refused, which may come in place of any of them.
 pub fn audit<B: Remade>(
     alloc: Global,
     traces: Vec<Trace<B>>,
@@ -183,7 +183,7 @@ pub fn audit<B: Remade>(
 }
 
 /// Audits the traces of servers (the coordinator, partitions, the offsets partition) and the
-/// receipts of their steps, where the clients are outside: a client's request needs no step that
+/// receipts of their steps, if the clients are outside: a client's request needs no step that
 /// sent it, so long as a frame can bring it, and any other message does.
 ///
 /// The traces are run again and put into one order, as by [`audit`]; each request that a trace

@@ -3,7 +3,7 @@ use Rattle.std.specs.Prelude.{◌≡◌, ℕ, ℤ, pos, negsuc, List, length}
 use Rattle.kx_model.specs.Log.{Stored, end, entries}
 use Rattle.kx_laws.specs.Grown.{IsGrown}
 
--- -1 where a batch isn't appended; else the end of a log of so many batches, each of which was
+-- -1 if a batch isn't appended; else the end of a log of so many batches, each of which was
 -- the one to come next
 pub data IsEndOf (count : ℕ) : ℤ → Type 0 where
   Breaks : IsEndOf count (negsuc 0)

@@ -12,7 +12,7 @@ value_size (Some value) = length value
 abbrev pub values_size : List Record → ℕ
 values_size records = sum_by (λ r. value_size r.value) records
 
--- the same of a batch that was read; 0 where there is none
+-- the same of a batch that was read; 0 if there is none
 abbrev pub read_size : Result (Spelled × List ℕ) BatchFault → ℕ
 read_size (Ok found) = values_size found.0.batch.records
 read_size (Err fault) = 0

@@ -31,7 +31,7 @@ fn empty(alloc: Global) -> Option<Coordinator<MemStore>> {
     Some(coordinator)
 }
 
-// How many messages are sent, where the first is a reply of code 0.
+// How many messages are sent, if the first is a reply of code 0.
 fn count_of(messages: &[Message]) -> Option<i64> {
     let code = match messages.first()? {
         Message::InitReply(reply) => reply.code,
@@ -151,7 +151,7 @@ fn handed_out(alloc: Global, txns: u64, turns: u64) -> Option<i64> {
 
 /// Begins a transaction of each of this many transactional ids, and so often commits one of them,
 /// of an id anywhere among them, takes the answer to its marker, and begins the next: how many
-/// messages were sent, or -1 where a request was refused.
+/// messages were sent, or -1 if a request was refused.
 #[unsafe(no_mangle)]
 pub extern "C" fn kx_bench_transactions(alloc: Global, txns: u64, turns: u64) -> i64
     ensures { negsuc 0 ≤ℤ result }

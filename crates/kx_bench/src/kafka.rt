@@ -42,7 +42,7 @@ fn replied(alloc: Global, text: &[u8]) -> Option<usize>
 }
 
 /// Reads a request to Produce so often, and writes the response to it each time: how many bytes the
-/// frames of the responses have, or 0 where the text is no such request.
+/// frames of the responses have, or 0 if the text is no such request.
 #[unsafe(no_mangle)]
 pub extern "C" fn kx_bench_kafka_produce(alloc: Global, text: &[u8], count: u64) -> usize
     ensures { result ≢ 0 → (x : Header × Body) × (request_at text.now ≡ Ok x) }

@@ -37,7 +37,7 @@ fn repeated(alloc: Global, text: &[u8], count: u64) -> Option<Partition<MemStore
 }
 
 /// Appends a plain batch so often to the log of a new partition in memory: the end of that log, or
-/// -1 where the batch isn't appended.
+/// -1 if the batch isn't appended.
 #[unsafe(no_mangle)]
 pub extern "C" fn kx_bench_produce(alloc: Global, text: &[u8], count: u64) -> i64
     ensures { IsEndOf count result }
@@ -130,7 +130,7 @@ fn page_records(alloc: Global, partition: &Partition<MemStore>, pages: u64) -> O
 
 /// Makes a log of this many transactions, each a batch and its marker, and reads this many
 /// committed pages of 64 KiB of it, from offsets all over it: how many records they have, or -1
-/// where something isn't appended or read.
+/// if something isn't appended or read.
 #[unsafe(no_mangle)]
 pub extern "C" fn kx_bench_pages(alloc: Global, transactions_count: u64, pages: u64) -> i64
     ensures { negsuc 0 ≤ℤ result }

@@ -34,8 +34,8 @@ fn values_size(records: Records<'_>) -> usize
     total
 }
 
-/// Reads the batch at the front and all its records: how many bytes their values have, or 0 where
-/// no batch stands there.
+/// Reads the batch at the front and all its records: how many bytes their values have, or 0 if
+/// no batch is there.
 #[unsafe(no_mangle)]
 pub extern "C" fn kx_bench_read(bytes: &[u8]) -> usize
     ensures { result ≡ min (read_size (batch_at bytes.now)) usize.MAX }
@@ -62,7 +62,7 @@ fn built_size(alloc: Global, records: u64) -> Result<usize, BuildFault>
 }
 
 /// Builds a plain batch of this many records of 100 bytes so often: how many bytes it has, or 0
-/// where it isn't built.
+/// if it isn't built.
 #[unsafe(no_mangle)]
 pub extern "C" fn kx_bench_build(alloc: Global, records: u64, count: u64) -> usize
     ensures { result ≤ batch_limit }

@@ -67,7 +67,7 @@ fn served(alloc: Global, text: &[u8], count: u64, pages: u64) -> Option<i64> {
 }
 
 /// Appends a plain batch `count` times to a log and both its copies, and after each takes `pages`
-/// of 64 KiB from the middle of a copy: the end of the second copy, or -1 where memory runs out.
+/// of 64 KiB from the middle of a copy: the end of the second copy, or -1 if memory runs out.
 #[unsafe(no_mangle)]
 pub extern "C" fn kx_bench_served(alloc: Global, text: &[u8], count: u64, pages: u64) -> i64
     ensures { negsuc 0 ≤ℤ result }

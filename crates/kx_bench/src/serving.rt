@@ -38,7 +38,7 @@ fn replies(alloc: Global, stream: &[u8]) -> Option<u64> {
 }
 
 /// Serves a stream of frames with the server of partition 0, whose log is empty and in memory: how
-/// many bytes of replies it writes, or -1 where the stream isn't served to its end.
+/// many bytes of replies it writes, or -1 if the stream isn't served to its end.
 #[unsafe(no_mangle)]
 pub extern "C" fn kx_bench_serve(alloc: Global, stream: &[u8]) -> i64
     ensures { negsuc 0 ≤ℤ result }

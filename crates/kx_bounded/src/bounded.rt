@@ -22,7 +22,7 @@ impl<const LEAST: u16, const MOST: u16> Model for Bounded<LEAST, MOST> {
 }
 
 impl<const LEAST: u16, const MOST: u16> Bounded<LEAST, MOST> {
-    /// This number, or None where it is out of bounds.
+    /// This number, or None if it is out of bounds.
     pub fn new(number: u16) -> Option<Bounded<LEAST, MOST>>
         ensures { MatchOption result (IsWithin LEAST MOST number → ⊥)
             (λ it. (it ≡ number) × IsWithin LEAST MOST number) }

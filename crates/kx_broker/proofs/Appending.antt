@@ -78,7 +78,7 @@ same_failures old new same =
 
 module _ (Fits : List Stored → Type 0) (p : Partition) (old new : LogState)
     (is : IsDisk Fits p.disk old) where
-  -- where nothing changes, whatever the store does
+  -- if nothing changes, whatever the store does
   pub stays : (step : Store → Taken) (code : ErrorCode) (offset : ℤ) → new ≡ old
       → ((store : Store) → (step store).partition ≡ p)
       → ((store : Store) → code ≡ (step store).code)

@@ -79,7 +79,7 @@ more log text h bytes batch room =
       );
     }
 
--- with a batch that was to come next, where it is a log that such a server grows
+-- with a batch that was to come next, if it is a log that such a server grows
 pub batch_grows : (Fits : List Stored → Type 0) (log : List Stored) (verified : Bool)
     (text : List ℕ) → IsLog log → IsBytes text → judge_text (entries log) verified text ≡ Next
     → Fits (with_next text log) → Grows Fits log text

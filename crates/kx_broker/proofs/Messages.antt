@@ -82,7 +82,7 @@ asks_by closed (Duplicate offset) e = absurd cc
 asks_by closed Unverified e = refl
 asks_by closed (Refused code) e = absurd cc
 
--- where a batch isn't verified, that is its verdict, and nothing is changed
+-- if a batch isn't verified, that is its verdict, and nothing is changed
 pub asks : (closed : Bool) (v : Verdict) (text : List ℕ) (old new : LogState) (answer : Produced)
     → FollowsVerdict (unless_closed closed v) text old new answer → answer ≡ produced.Unverified
     → (v ≡ Unverified) × (new ≡ old)
@@ -634,7 +634,7 @@ module _ (number : ℕ) (p : Partition) (old : Serving) (is : IsServed number p 
 
 ------ a batch of no producer
 
--- the plain batch of some values comes next, where there is an offset for it
+-- the plain batch of some values comes next, if there is an offset for it
 plain_verdict : (log : List Entry) (values : List (List ℕ)) (text : List ℕ) → IsBytes text
     → SpellsBatch (plain_batch values) text
     → judge_text log true text ≡ if_room log (length (value_records values))
@@ -684,7 +684,7 @@ has_room false n some =
     let room : nat_lt greatest_offset n ≡ false = grind (arith, nat_tests, some) in
     ap (λ b. unless_closed false (cond b (Refused code.KafkaStorageError) Next)) room
 
--- the batch of values that fit is to be appended, where there is room
+-- the batch of values that fit is to be appended, if there is room
 pub put_next : (log : LogState) (values : List (List ℕ)) → IsPlain values
     → (not log.closed && nat_le (end (entries log.batches) + length (value_records values))
     greatest_offset) ≡ true → verdict_at log true (plain_text values) ≡ Next

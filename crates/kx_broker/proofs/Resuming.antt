@@ -88,7 +88,7 @@ request_verified log text (ToGroup group member named) e =
     text_verified log text
     (refused_else other code.IllegalGeneration verdict Unverified (λ c h. cc) member_is.1).1
 
--- where nothing is to be asked for, a request is answered as a batch is
+-- if nothing is to be asked for, a request is answered as a batch is
 pub answered : (number : ℕ) (p : Partition) (store : Store) (r : Request) (v : Verdict)
     → (v ≡ Unverified → ⊥) → answers_request number p store r v ≡ replied r (taken p store r.text v)
 answered number p store r Next other = refl
@@ -111,7 +111,7 @@ module _ (log : List Entry) (held : Held) (text : List ℕ) (begins : BeginsBy l
   abbrev batch : Sequenced
   batch = begins.batch
 
-  -- a batch that comes next begins where its id and epoch have come to
+  -- a batch that comes next begins if its id and epoch have come to
   comes_next : (now : List Entry) → judge_text now true text ≡ Next
       → batch.first ≡ expected now held.id held.epoch
   comes_next now next =
@@ -197,7 +197,7 @@ module _ (Here : Request → Type 0) (held : Held) (requests : List Parked) (sta
       pub waits_here : Wait parked
       waits_here = subst Wait (sym at) (All-get_or Wait requests count parked within all)
 
-      -- where it comes next, all is as at the start
+      -- if it comes next, all is as at the start
       pub at_start : verdict_again now parked ≡ Next → now ≡ start
       at_start next =
           ⊎_elim (λ same. same)
@@ -396,7 +396,7 @@ module _ (Fits : List Stored → Type 0) (Here : Request → Type 0) (number : �
         verdict_comes Fits p old new is q.request.text verdict a (λ e. grows) holds
         (subst (λ (v : Verdict). FollowsVerdict v q.request.text old new a) same_verdict follows)
 
-  -- where none comes next, nothing changes
+  -- if none comes next, nothing changes
   record Rests (p : Partition) (old new : LogState) (requests : List Parked)
       (answers : List Produced) : Type 0 where
     same : new ≡ old

@@ -94,7 +94,7 @@ any_allowed (FailsBehind ahead keep) AnyLoadMayFail size none =
     record { store = Works; allowed = tt; is = tt }
 any_allowed AnyMayFail loads size none = record { store = Works; allowed = tt; is = tt }
 
--- where an append worked, one is in which appends work
+-- if an append worked, one is in which appends work
 pub working : (appends : AppendPlan) (loads : LoadPlan) (size : Option ℕ) → MayAppend appends
     → Allowed appends loads size (λ store. works store ≡ true)
 working AppendsWork LoadsWork size h = record { store = Works; allowed = refl; is = refl }
@@ -111,7 +111,7 @@ working AnyMayFail loads size h = record { store = Works; allowed = tt; is = ref
 same_fit : (keep size kept : ℕ) → kept ≡ min keep size → nat_le size kept ≡ nat_le size keep
 same_fit keep size kept is = grind (arith, nat_tests)
 
--- where an append failed, the store is that failed with these bytes behind
+-- if an append failed, the store is that failed with these bytes behind
 pub failing : (appends : AppendPlan) (loads : LoadPlan) (z : Option ℕ) (size kept : ℕ)
     → z ≡ Some size → 1 ≤ size → size ≤ batch_limit → MayLeave appends size kept
     → Allows appends loads z (Fails (nat_le size kept))
@@ -127,7 +127,7 @@ failing (FailsBehind ahead keep) NextLoadFails z size kept is some short h = tt
 failing (FailsBehind ahead keep) AnyLoadMayFail z size kept is some short h = tt
 failing AnyMayFail loads z size kept is some short h = tt
 
--- where a log couldn't be loaded, it is that which can't
+-- if a log couldn't be loaded, it is that which can't
 pub unloaded : (appends : AppendPlan) (loads : LoadPlan) (z : Option ℕ)
     → MayFailToLoad loads ⊎ MayFailToCut appends → Allows appends loads z CannotLoad
 unloaded AppendsWork LoadsWork z (inl h) = absurd h

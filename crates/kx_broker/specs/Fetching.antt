@@ -25,7 +25,7 @@ AnswersFetch it (Err (fault.Refused code)) message =
     message ≡ fetch_reply it.caller it.partition (Err code)
 AnswersFetch it (Err fault.Memory) message = ⊥
 
--- memory may run out for the reply that carries batches, and had where fetching says so
+-- memory may run out for the reply that carries batches, and had if fetching says so
 abbrev pub MayWantMemory : Result Fetched FetchFault → Type 0
 MayWantMemory (Ok page) = page.batches ≢ []
 MayWantMemory (Err (fault.Refused code)) = ⊥

@@ -1,5 +1,5 @@
--- Where memory may be lacking for what comes to the server of a partition: only where the table
--- appends or parks one more request, where parked requests are answered, and for a page that isn't
+-- Where memory may be lacking for what comes to the server of a partition: only if the table
+-- appends or parks one more request, if parked requests are answered, and for a page that isn't
 -- empty. Whatever the tables refuse, answer again or leave as it is needs none.
 use Rattle.std.specs.Prelude.{◌≡◌, ◌<◌, ◌+◌, ◌++◌, ◌∷◌, [], ℕ, List, length, min, Bool, true, false}
 use Rattle.std.specs.Prelude.{Option, Some, None, Result, Ok, Err}

@@ -159,7 +159,7 @@ Restarts Stands p old new restarted.Unread =
 
 ------ replies
 
--- the offset of an answer, -1 where there is none
+-- the offset of an answer, -1 if there is none
 abbrev pub offset_of : Produced → ℤ
 offset_of (produced.Appended offset) = offset
 offset_of (produced.Duplicate offset) = offset

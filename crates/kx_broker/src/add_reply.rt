@@ -77,7 +77,7 @@ impl<S: Store> PartitionMachine<S> {
             → OnErr result (self.new ≡ self.old) }
         ensures memory { IsErr result → 0 < length (parked_for self.old.parked held.now) }
     {
-        // Each batch stands in its place.
+        // Each batch is in its place.
         let _end = self.partition.end();
         let requests = self.guard.parked(*held);
         let room = Vec::with_capacity(self.alloc, requests.len())?;
@@ -107,7 +107,7 @@ impl<S: Store> PartitionMachine<S> {
     ///
     /// # Errors
     ///
-    /// Out of memory, only where some are parked; then all is as before.
+    /// Out of memory, only if some are parked; then all is as before.
     pub(crate) fn add_reply(&mut self, it: &AddReply) -> Result<Messages, AllocError>
         ensures ok { (number : ℕ) (p : node.Partition) → IsServed number p self.old
             → IfOk result (Serves (IsServed number) p self.old self.new

@@ -82,7 +82,7 @@ impl<S: Store> OffsetsMachine<S> {
         let held = it.held;
         // Its id and epoch fit the fields of a marker.
         let _ended = held.get();
-        // Each batch stands in its place.
+        // Each batch is in its place.
         let _end = end_of(&self.groups);
         let code = self.groups.marker(held, it.coordinator_epoch, it.outcome)?;
         Ok(Messages::one(Message::MarkerReply(MarkerReply {
@@ -97,7 +97,7 @@ impl<S: Store> OffsetsMachine<S> {
     ///
     /// # Errors
     ///
-    /// Out of memory, only where the marker is to be appended; then all is as before.
+    /// Out of memory, only if the marker is to be appended; then all is as before.
     pub(crate) fn marker(&mut self, it: &WriteMarker) -> Result<Messages, AllocError>
         ensures ok { (p : Partition) → KeepsOffsets p self.old
             → IfOk result (Serves KeepsOffsets p self.old self.new

@@ -67,7 +67,7 @@ impl<S: Store> OffsetsMachine<S> {
     ///
     /// # Errors
     ///
-    /// Out of memory, only where its batch is to be appended, or the commit to be parked as
+    /// Out of memory, only if its batch is to be appended, or the commit to be parked as
     /// one more; then all is as before.
     pub(crate) fn commit(&mut self, it: &TxnOffsetCommit) -> Result<Messages, AllocError>
         ensures ok { (p : Partition) → KeepsOffsets p self.old
@@ -76,7 +76,7 @@ impl<S: Store> OffsetsMachine<S> {
         ensures err { OnErr result (self.new ≡ self.old) }
         ensures memory { IsErr result → GroupsMayLack self.old (msg.TxnOffsetCommit it.now) }
     {
-        // Each batch stands in its place, and what the commit holds fits its fields.
+        // Each batch is in its place, and what the commit holds fits its fields.
         let _end = end_of(&self.groups);
         commits_fit(it);
         let answer = self.groups.txn_offset_commit(it, false)?;

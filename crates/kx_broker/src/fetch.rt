@@ -89,7 +89,7 @@ pub fn page_room(it: &Fetch) -> u32
 ///
 /// # Errors
 ///
-/// Only out of memory, as it was already where `page` is [`FetchFault::Memory`]. The reply to a
+/// Only out of memory, as it was already if `page` is [`FetchFault::Memory`]. The reply to a
 /// refusal takes none, nor does a page without batches.
 pub fn answer_fetch(
     alloc: Global,
@@ -98,7 +98,7 @@ pub fn answer_fetch(
 ) -> Result<Message, AllocError>
     ensures answer { MatchResult result (AnswersFetch it.now page.entry)
         (λ refused. MayWantMemory page.entry) }
-    // Where fetching gave what the definitions do, it is their reply.
+    // If fetching gave what the definitions do, it is their reply.
     ensures defined { (answer : Result Page refusal.ErrorCode) → IsFetched answer page.entry
         → IfOk result (λ message.
         message ≡ fetch_reply it.now.caller it.now.partition answer) }

@@ -60,7 +60,7 @@ impl<S: Store> PartitionMachine<S> {
         ensures made { (S.state store).bytes ≡ [] → IfOk result (IsServed number empty_partition) }
     {
         let partition = Partition::rebuild(alloc, store)?;
-        // Each batch stands in its place.
+        // Each batch is in its place.
         let _end = partition.end();
         Ok(PartitionMachine {
             alloc,
@@ -149,7 +149,7 @@ impl<S: Store> PartitionMachine<S> {
     ///
     /// # Errors
     ///
-    /// Out of memory, only where the message appends to the log, parks a batch as one more, is
+    /// Out of memory, only if the message appends to the log, parks a batch as one more, is
     /// the answer on parked batches, or gets a page that isn't empty; then it is as before.
     pub fn deliver(&mut self, message: &Message) -> Result<Taken, AllocError>
         ensures taken { (state : NodeState) → StandsFor state self.old → MatchResult result
@@ -171,7 +171,7 @@ impl<S: Store> PartitionMachine<S> {
     ///
     /// # Errors
     ///
-    /// Out of memory, only at a message as [`deliver`](PartitionMachine::deliver) has it, where
+    /// Out of memory, only at a message as [`deliver`](PartitionMachine::deliver) has it, if
     /// a batch of no producer is appended, or at a restart; then it stands for what it stood for.
     pub fn take(&mut self, input: &Input) -> Result<Taken, AllocError>
         ensures taken { (state : NodeState) → StandsFor state self.old → MatchResult result

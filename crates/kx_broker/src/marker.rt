@@ -27,7 +27,7 @@ impl<S: Store> PartitionMachine<S> {
         let held = it.held;
         // Its id and epoch fit the fields of a marker.
         let _ended = held.get();
-        // Each batch stands in its place.
+        // Each batch is in its place.
         let _end = self.partition.end();
         let code = self
             .partition
@@ -44,7 +44,7 @@ impl<S: Store> PartitionMachine<S> {
     ///
     /// # Errors
     ///
-    /// Out of memory, only where the marker is to be appended; then all is as before.
+    /// Out of memory, only if the marker is to be appended; then all is as before.
     pub(crate) fn marker(&mut self, it: &WriteMarker) -> Result<Messages, AllocError>
         ensures ok { (number : ℕ) (p : Partition) → IsServed number p self.old
             → IfOk result (Serves (IsServed number) p self.old self.new

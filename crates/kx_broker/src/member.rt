@@ -33,7 +33,7 @@ impl<S: Store> OffsetsMachine<S> {
     ///
     /// # Errors
     ///
-    /// Out of memory, only where the group's members change; then all is as before.
+    /// Out of memory, only if the group's members change; then all is as before.
     pub(crate) fn join(&mut self, it: &Join) -> Result<Messages, AllocError>
         ensures ok { (p : Partition) → KeepsOffsets p self.old
             → IfOk result (Serves KeepsOffsets p self.old self.new
@@ -41,7 +41,7 @@ impl<S: Store> OffsetsMachine<S> {
         ensures err { OnErr result (self.new ≡ self.old) }
         ensures memory { IsErr result → GroupsMayLack self.old (msg.Join it.now) }
     {
-        // Each batch stands in its place.
+        // Each batch is in its place.
         let _end = end_of(&self.groups);
         member_fits(it.group, it.caller.client);
         let reply = self.groups.join(it)?;
@@ -52,7 +52,7 @@ impl<S: Store> OffsetsMachine<S> {
     ///
     /// # Errors
     ///
-    /// Out of memory, only where the group's members change; then all is as before.
+    /// Out of memory, only if the group's members change; then all is as before.
     pub(crate) fn leave(&mut self, it: &Leave) -> Result<Messages, AllocError>
         ensures ok { (p : Partition) → KeepsOffsets p self.old
             → IfOk result (Serves KeepsOffsets p self.old self.new
@@ -61,7 +61,7 @@ impl<S: Store> OffsetsMachine<S> {
         ensures memory { IsErr result → GroupsMayLack self.old (msg.Leave it.now) }
     {
         let Leave { caller, group } = *it;
-        // Each batch stands in its place.
+        // Each batch is in its place.
         let _end = end_of(&self.groups);
         member_fits(group, caller.client);
         let code = self.groups.leave(group, caller.client)?;
@@ -72,7 +72,7 @@ impl<S: Store> OffsetsMachine<S> {
     ///
     /// # Errors
     ///
-    /// Out of memory, only where the group's members change; then all is as before.
+    /// Out of memory, only if the group's members change; then all is as before.
     pub(crate) fn drop_member(
         &mut self,
         group: GroupId,
@@ -85,7 +85,7 @@ impl<S: Store> OffsetsMachine<S> {
         ensures memory { IsErr result
             → WantsMemory (judge_drop (entries self.old.log.batches) group member) self.old.log }
     {
-        // Each batch stands in its place.
+        // Each batch is in its place.
         let _end = end_of(&self.groups);
         member_fits(group, member);
         self.groups.drop_member(group, member)

@@ -45,7 +45,7 @@ impl<S: Store> Model for OffsetsMachine<S> {
 /// The end of the groups' log, the offset of the next record to be appended.
 pub(crate) fn end_of<S: Store>(groups: &Groups<S>) -> i64
     ensures value { result ≡ pos (end (entries groups.now.batches)) }
-    // Each batch stands in its place, was the one to come next, and one that groups append.
+    // Each batch is in its place, was the one to come next, and one that groups append.
     ensures kept { IsKept groups.now }
 {
     groups.partition().end()
@@ -78,7 +78,7 @@ impl<S: Store> OffsetsMachine<S> {
         };
         match Groups::open(alloc, partition) {
             Ok(groups) => {
-                // Each batch stands in its place.
+                // Each batch is in its place.
                 let _end = end_of(&groups);
                 Ok(OffsetsMachine {
                     alloc,
@@ -150,7 +150,7 @@ impl<S: Store> OffsetsMachine<S> {
     ///
     /// # Errors
     ///
-    /// Out of memory, only where the message appends to the log, parks a commit as one more, is
+    /// Out of memory, only if the message appends to the log, parks a commit as one more, is
     /// the answer on parked commits, or gets a page that isn't empty; then it is as before.
     pub fn deliver(&mut self, message: &Message) -> Result<Taken, AllocError>
         ensures taken { (state : NodeState) → StandsForGroups state self.old → MatchResult result
@@ -173,7 +173,7 @@ impl<S: Store> OffsetsMachine<S> {
     ///
     /// # Errors
     ///
-    /// Out of memory, only at a message as [`deliver`](OffsetsMachine::deliver) has it, where a
+    /// Out of memory, only at a message as [`deliver`](OffsetsMachine::deliver) has it, if a
     /// member is dropped, or at a restart; then it stands for what it stood for.
     pub fn take(&mut self, input: &Input) -> Result<Taken, AllocError>
         ensures taken { (state : NodeState) → StandsForGroups state self.old → MatchResult result

@@ -45,7 +45,7 @@ fn is_commit(request: &Request, it: &TxnOffsetCommit) -> bool
     match request.message() {
         Append::Produce(_) => false,
         Append::Offsets(commit) => {
-            // What both hold fits its fields, so they differ in their texts where they differ.
+            // What both hold fits its fields, so they differ in their texts if they differ.
             commits_fit(commit);
             commits_fit(it);
             commit == it

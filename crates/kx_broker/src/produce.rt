@@ -47,7 +47,7 @@ fn reply(it: &Produce, code: ErrorCode, offset: i64) -> Message
     })
 }
 
-// Parks a batch of this id and epoch, as [`Guard::ask`] does; it is copied only where it is parked
+// Parks a batch of this id and epoch, as [`Guard::ask`] does; it is copied only if it is parked
 // as one more.
 fn ask(guard: &mut Guard, held: &Held, it: &Produce) -> Result<Asked, AllocError>
     requires { is_one_sequenced (batch_at it.now.batch) ≡ true }
@@ -116,7 +116,7 @@ impl<S: Store> PartitionMachine<S> {
         ensures memory { IsErr result
             → RequestMayLack self.old (request_of (msg.Produce it.now)) }
     {
-        // Each batch stands in its place.
+        // Each batch is in its place.
         let _end = self.partition.end();
         let text = it.batch.as_slice();
         bytes_fit(text);
@@ -132,7 +132,7 @@ impl<S: Store> PartitionMachine<S> {
     ///
     /// # Errors
     ///
-    /// Out of memory, only where the batch is to be appended, or to be parked as one more; then
+    /// Out of memory, only if the batch is to be appended, or to be parked as one more; then
     /// all is as before.
     pub(crate) fn produce(&mut self, it: &Produce) -> Result<Messages, AllocError>
         ensures ok { (number : ℕ) (p : Partition) → IsServed number p self.old

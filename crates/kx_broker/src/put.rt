@@ -54,7 +54,7 @@ impl<S: Store> PartitionMachine<S> {
     ///
     /// # Errors
     ///
-    /// Out of memory, only where the batch is to be appended; then all is as before.
+    /// Out of memory, only if the batch is to be appended; then all is as before.
     pub(crate) fn put(&mut self, values: &Values) -> Result<Produced, AllocError>
         ensures ok { (number : ℕ) (p : Partition) → IsServed number p self.old
             → IfOk result (Puts (IsServed number) p self.old self.new
@@ -63,7 +63,7 @@ impl<S: Store> PartitionMachine<S> {
         ensures memory { IsErr result → verdict_at self.old.log true
             (plain_text (values.now.first ∷ values.now.more)) ≡ Next }
     {
-        // Each batch stands in its place, and the values are bytes.
+        // Each batch is in its place, and the values are bytes.
         let _end = self.partition.end();
         values_fit(values);
         if !values.fit() {

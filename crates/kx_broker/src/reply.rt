@@ -7,7 +7,7 @@ use kx_message::{ErrorCode, Message, OffsetsReply, ProduceReply};
 use kx_partition::Produced;
 use kx_verify::{Append, Request};
 
-/// The offset of an answer, -1 where there is none.
+/// The offset of an answer, -1 if there is none.
 pub(crate) fn offset_of(answer: Produced) -> i64
     ensures { result ≡ offset_of answer }
 {

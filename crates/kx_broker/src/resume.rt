@@ -42,7 +42,7 @@ impl<S: Store> OffsetsMachine<S> {
         ensures err { OnErr result (self.new ≡ self.old) }
         ensures memory { IsErr result → 0 < length (parked_for self.old.parked held.now) }
     {
-        // Each batch stands in its place.
+        // Each batch is in its place.
         let _end = end_of(&self.groups);
         let requests = self.parked.of_held(*held);
         let room = Vec::with_capacity(self.alloc, requests.len())?;
@@ -73,7 +73,7 @@ impl<S: Store> OffsetsMachine<S> {
     ///
     /// # Errors
     ///
-    /// Out of memory, only where some are parked; then all is as before.
+    /// Out of memory, only if some are parked; then all is as before.
     pub(crate) fn add_reply(&mut self, it: &AddReply) -> Result<Messages, AllocError>
         ensures ok { (p : Partition) → KeepsOffsets p self.old
             → IfOk result (Serves KeepsOffsets p self.old self.new

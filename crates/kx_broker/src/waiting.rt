@@ -46,11 +46,11 @@ impl ParkedCommits {
         }
     }
 
-    /// Parks a commit, as [`Guard::ask`] does; it is copied only where it is parked as one more.
+    /// Parks a commit, as [`Guard::ask`] does; it is copied only if it is parked as one more.
     ///
     /// # Errors
     ///
-    /// Out of memory, only where it is parked as one more; then all is as before.
+    /// Out of memory, only if it is parked as one more; then all is as before.
     pub(crate) fn ask(&mut self, it: &TxnOffsetCommit) -> Result<Asked, AllocError>
         requires above { pos 0 ≤ℤ it.now.first_sequence }
         requires at_0 { (p : Parked) → IsParked (msg.TxnOffsetCommit it.now) p

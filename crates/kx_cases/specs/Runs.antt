@@ -35,7 +35,7 @@ written text (Some run) = (text ++ parted text) ++ run_text run
 abbrev pub single : ℕ → List ℕ → Run
 single number answer = record { first = number; last = number; answer = answer }
 
--- one more answer: where it's that of the number before, that run goes on, else a new one begins
+-- one more answer: if it's that of the number before, that run goes on, else a new one begins
 abbrev pub pushed : List ℕ → Option Run → ℕ → List ℕ → Runs
 pushed text None number answer = record { text = text; run = Some (single number answer) }
 pushed text (Some run) number answer =

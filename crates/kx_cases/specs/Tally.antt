@@ -6,7 +6,7 @@ use Rattle.kx_cases.specs.declared.fault.StepFault.{StepFault}
 use Rattle.kx_cases.specs.declared.tally.Tally.{Tally}
 use Rattle.kx_cases.specs.declared.tally.Running.{Running}
 
--- one more, or as many where no more fit
+-- one more, or as many if no more fit
 abbrev pub counted : ℕ → ℕ
 counted n = min (n + 1) (2 ^ 64 - 1)
 
@@ -17,7 +17,7 @@ with_case is_right tally = record {
   failed = if is_right then tally.failed else counted tally.failed;
 }
 
--- the same where a case was being tried
+-- the same if a case was being tried
 abbrev pub ended : Option Bool → Tally → Tally
 ended None tally = tally
 ended (Some is_right) tally = with_case is_right tally
@@ -33,12 +33,12 @@ IsWrong case = IsSomeAnd case (λ c. c.is_right ≡ false)
 abbrev pub IsRight : Option Running → Type 0
 IsRight case = IsSomeAnd case (λ c. c.is_right ≡ true)
 
--- the bytes that a step was answered, where it was
+-- the bytes that a step was answered, if it was
 abbrev pub answer_of : {A : Type 0} → Result (String A) StepFault → Option (List ℕ)
 answer_of (Ok answer) = Some (string_bytes answer)
 answer_of (Err fault) = None
 
--- a case goes on as it was where the answer that is wanted came, else it's wrong
+-- a case goes on as it was if the answer that is wanted came, else it's wrong
 abbrev pub Judged : List ℕ → Option (List ℕ) → Option Running → Option Running → Type 0
 Judged want given old new =
     ((given ≡ Some want) × (new ≡ old)) ⊎ ((given ≢ Some want) × IsWrong new)

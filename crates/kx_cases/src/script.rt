@@ -22,7 +22,7 @@ impl Script {
     ///
     /// # Errors
     ///
-    /// Where one of the files can't be read, or where memory runs out.
+    /// If one of the files can't be read, or where memory runs out.
     pub fn read(rt: &(impl Files + AllocGlobal), name: &str, kind: &str) -> io::Result<Script> {
         let alloc = rt.alloc();
         let text = fs::read_to_string(rt, format!(in alloc; "{name}.{kind}")?)?;
@@ -35,7 +35,7 @@ impl Script {
 ///
 /// # Errors
 ///
-/// Where it can't be printed.
+/// If it can't be printed.
 pub fn tell(rt: &impl Print, name: &str, is_right: bool) -> io::Result<Tally>
     ensures tried { IfOk result (λ tally. tally.tried ≡ 1) }
     ensures failed { IfOk result (λ tally. tally.failed ≡ if is_right then 0 else 1) }
@@ -48,12 +48,12 @@ pub fn tell(rt: &impl Print, name: &str, is_right: bool) -> io::Result<Tally>
     })
 }
 
-/// Prints `ok NAME` where a script told what it had to, else `FAILED NAME` and what it told, or why
+/// Prints `ok NAME` if a script told what it had to, else `FAILED NAME` and what it told, or why
 /// it has nothing to tell.
 ///
 /// # Errors
 ///
-/// Where it can't be printed.
+/// If it can't be printed.
 pub fn judge_script(
     rt: &impl Print,
     name: &str,

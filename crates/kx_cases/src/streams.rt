@@ -3,7 +3,7 @@ use std::io;
 use std::io::{BufRead, ErrorKind, Read, Write};
 
 /// A reader that gives at most this many bytes at once, and fails after this many reads. It reads
-/// where what the last read gave is used up.
+/// if what the last read gave is used up.
 #[derive(Drop)]
 pub struct Giving<'a> {
     rest: &'a [u8],

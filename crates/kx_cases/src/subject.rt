@@ -8,7 +8,7 @@ use std::alloc::Global;
 
 /// What the steps of a file of cases are taken on.
 pub trait Subject: Drop {
-    // The bytes that it may answer as it stands, or None where it may give no answer: any, where
+    // The bytes that it may answer as it stands, or None if it may give no answer: any, if
     // nothing is said of it. So that a step is judged by such an answer is proved for all subjects.
     ghost answers: { Self → Option (List ℕ) → Type 0 } = { λ _ _. ⊤ };
 

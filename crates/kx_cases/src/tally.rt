@@ -46,7 +46,7 @@ impl Tally {
         }
     }
 
-    /// How a program ends that tried them: with status 1 where a case failed, else 0.
+    /// How a program ends that tried them: with status 1 if a case failed, else 0.
     pub fn exit_code(self) -> ExitCode
         ensures passed { self.failed ≡ 0 → exit_status result ≡ 0 }
         ensures failed { 1 ≤ self.failed → exit_status result ≡ 1 }
@@ -75,7 +75,7 @@ struct Trial<'a> {
     tally: Tally,
 }
 
-// The answer, where it isn't the one that is wanted.
+// The answer, if it isn't the one that is wanted.
 fn differing(answer: String, want: &str) -> Option<String>
     ensures alike { IfNone result (string_bytes answer ≡ want.now) }
     ensures differs { IfSome result (λ given.
@@ -87,7 +87,7 @@ fn differing(answer: String, want: &str) -> Option<String>
     Some(answer)
 }
 
-// The answer, or why there is none, where it isn't the one that is wanted.
+// The answer, or why there is none, if it isn't the one that is wanted.
 fn other_answer(
     alloc: Global,
     given: Result<String, StepFault>,
@@ -132,7 +132,7 @@ impl<'a> Trial<'a> {
         println!(rt; "FAILED {}", case.name)
     }
 
-    // Takes a step: its answer, or why it has none, where that isn't the one that is wanted.
+    // Takes a step: its answer, or why it has none, if that isn't the one that is wanted.
     fn differs<S: Subject>(
         &self,
         subject: &mut S,
@@ -172,7 +172,7 @@ impl<'a> Trial<'a> {
         self.judge(rt, step, other)
     }
 
-    // The case goes on where the step gave no other answer than the one that is wanted.
+    // The case goes on if the step gave no other answer than the one that is wanted.
     fn judge(&mut self, rt: &impl Print, step: &str, other: Option<String>) -> io::Result<()>
         ensures tally { self.new.tally ≡ self.old.tally }
         ensures alike { IfNone other (self.new.case ≡ self.old.case) }

@@ -9,7 +9,7 @@ use std::alloc::{AllocError, Global};
 use std::fmt::{Debug, Display};
 use std::str::FromStr;
 
-/// What was read, where a step may write it so.
+/// What was read, if a step may write it so.
 pub fn known<T, E: Drop>(read: Result<T, E>) -> Result<T, StepFault>
     ensures { MatchResult read (λ value. result ≡ Ok value) (λ _. result ≡ Err fault.Unknown) }
 {
@@ -72,7 +72,7 @@ pub fn told_done<E: Debug + Drop>(alloc: Global, done: Result<(), E>) -> Result<
     }
 }
 
-/// A value as it is printed, `none` where there is none.
+/// A value as it is printed, `none` if there is none.
 pub fn told_option<T: Display + Drop>(alloc: Global, option: Option<T>) -> Result<String, StepFault>
     ensures value { IfSome option (λ value. IfSome (T.output value)
         (λ bytes. IfOk result (λ text. string_bytes text ≡ bytes))) }
@@ -84,7 +84,7 @@ pub fn told_option<T: Display + Drop>(alloc: Global, option: Option<T>) -> Resul
     }
 }
 
-/// `same` where the bytes are those that are wanted, else what they are.
+/// `same` if the bytes are those that are wanted, else what they are.
 pub fn told_same(alloc: Global, bytes: &[u8], want: &[u8]) -> Result<String, AllocError>
     ensures { IfOk result (λ text. string_bytes text ≡
         (if bytes_eq bytes.now want.now then codes "same" else bytes_text bytes.now)) }
@@ -95,7 +95,7 @@ pub fn told_same(alloc: Global, bytes: &[u8], want: &[u8]) -> Result<String, All
     told_bytes(alloc, bytes)
 }
 
-/// Bytes in hexadecimal digits, `-` where there are none.
+/// Bytes in hexadecimal digits, `-` if there are none.
 pub fn told_bytes(alloc: Global, bytes: &[u8]) -> Result<String, AllocError>
     ensures { IfOk result (λ text. string_bytes text ≡ bytes_text bytes.now) }
 {

@@ -35,7 +35,7 @@ impl Texts {
         }
     }
 
-    /// The bytes have this name from here on. Where they are refused, or there is no memory, the
+    /// The bytes have this name from here on. If they are refused, or there is no memory, the
     /// names are as they were.
     pub fn name(&mut self, name: &str, bytes: &str) -> Result<(), StepFault>
         ensures refused { OnErr result (self.new ≡ self.old) }
@@ -87,7 +87,7 @@ impl Texts {
         }
     }
 
-    // Makes one of the changes that stand after a part.
+    // Makes one of the changes that are after a part.
     fn change(&self, bytes: &mut Vec<u8>, change: &str) -> Result<(), StepFault> {
         if let Some(len) = change.strip_prefix("..") {
             bytes.truncate(number(len)?);

@@ -1,4 +1,4 @@
--- What commands are answered where a client's numbers and sequences come to their last value, by
+-- What commands are answered if a client's numbers and sequences come to their last value, by
 -- computation: no run of public calls is long enough to get there.
 use Rattle.std.proofs.Common.{◌≡◌, ℕ, pos, true, false, List, [], ◌∷◌, Some, None, refl}
 use Rattle.kx_message.specs.Messages as the

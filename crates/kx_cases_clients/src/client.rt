@@ -1,4 +1,4 @@
-//! A client, its commands and the replies that come. What each step means stands at the head of
+//! A client, its commands and the replies that come. What each step means is at the head of
 //! `clients.cases`.
 use kx_batch::BatchView;
 use kx_cases::{StepFault, Subject, Texts, known, told_bytes, told_name, told_value, value};
@@ -58,7 +58,7 @@ fn told_request(alloc: Global, request: &Message) -> Result<String, StepFault> {
     Ok(text)
 }
 
-// The requests that are sent, `-` where there are none.
+// The requests that are sent, `-` if there are none.
 fn told_all(alloc: Global, requests: &[Message]) -> Result<String, StepFault> {
     let mut text = String::new(alloc);
     for request in requests {

@@ -1,4 +1,4 @@
-//! Steps of the example: one transactional id and one partition. What each step means stands at the
+//! Steps of the example: one transactional id and one partition. What each step means is at the
 //! head of `example.cases`.
 use kx_cases::{StepFault, Subject, Texts, known, told_name, told_value, value};
 use kx_coord::Coordinator;
@@ -59,7 +59,7 @@ impl Nodes {
         })
     }
 
-    // Writes the marker of a message that is one, and tells the message.
+    // Writes the marker of a message that is one, and reports the message.
     fn tell(&mut self, told: &mut String, message: &Message) -> Result<(), AllocError> {
         if !told.is_empty() {
             told.push_str("; ")?;
@@ -72,7 +72,7 @@ impl Nodes {
         Ok(())
     }
 
-    // Tells what the coordinator sent, and writes its markers.
+    // Reports what the coordinator sent, and writes its markers.
     fn sent(&mut self, messages: &[Message]) -> Result<String, StepFault> {
         let mut told = String::new(self.alloc);
         for message in messages {

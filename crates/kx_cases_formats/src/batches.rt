@@ -204,7 +204,7 @@ fn nullable(texts: &Texts, word: &str) -> Result<Option<Vec<u8>>, StepFault> {
     Ok(Some(texts.bytes(word)?))
 }
 
-// What steps tell of a batch that stands in bytes.
+// What steps tell of a batch that is in bytes.
 fn batch_step(alloc: Global, name: &str, bytes: &[u8]) -> Result<String, StepFault> {
     match name {
         "header" => header(alloc, &view(bytes)?),
@@ -276,7 +276,7 @@ impl BatchCases {
         Ok(text)
     }
 
-    // What was made, where it isn't what is wanted, or the fault.
+    // What was made, if it isn't what is wanted, or the fault.
     fn told_made(
         &self,
         made: Result<Vec<u8>, BuildFault>,

@@ -82,21 +82,21 @@ pub fn is_same(a: TxnId, b: TxnId) -> bool
     a == b
 }
 
-/// What is kept of a transactional id, 0 where nothing is.
+/// What is kept of a transactional id, 0 if nothing is.
 pub fn count_in(counts: &BTreeMap<TxnId, u64>, id: TxnId) -> u64
     ensures { result ≡ unwrap_or (tree.get (slice_cmp nat_cmp) counts.now id) 0 }
 {
     counts.get(&id).copied().unwrap_or(0)
 }
 
-/// What is kept of a producer, 0 where nothing is.
+/// What is kept of a producer, 0 if nothing is.
 pub fn last_in(lasts: &BTreeMap<ProducerId, u64>, id: ProducerId) -> u64
     ensures { result ≡ unwrap_or (tree.get nat_cmp lasts.now id) 0 }
 {
     lasts.get(&id).copied().unwrap_or(0)
 }
 
-/// What is kept of a group, 0 where nothing is.
+/// What is kept of a group, 0 if nothing is.
 pub fn members_in(members: &HashMap<GroupId, u64>, group: GroupId) -> u64
     ensures { result ≡ unwrap_or (table.get (pointwise nat_eq) members.now group) 0 }
 {

@@ -10,11 +10,11 @@ use std::alloc::Global;
 use std::io;
 
 /// Tries the cases of a file whose name begins so, up to its first `_`: `numbers`, `values`,
-/// `frames`, `messages` or `batches`. None where they are of anything else.
+/// `frames`, `messages` or `batches`. None if they are of anything else.
 ///
 /// # Errors
 ///
-/// Where what came can't be printed, or where memory runs out.
+/// If what came can't be printed, or where memory runs out.
 pub fn try_formats(
     rt: &(impl Print + AllocGlobal),
     front: &str,

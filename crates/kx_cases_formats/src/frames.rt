@@ -1,6 +1,6 @@
 //! Messages and the frames in which they go. `feed BYTES` gives a piece to the case's stream and
-//! tells the frames of the messages that come of it, or the fault; `singly BYTES` gives each byte
-//! by itself. `message FRAME` tells the one message of a frame, `fields FRAME` its fields,
+//! reports the frames of the messages that come of it, or the fault; `singly BYTES` gives each byte
+//! by itself. `message FRAME` reports the one message of a frame, `fields FRAME` its fields,
 //! `receiver FRAME` where it goes. `random SEED COUNT BYTES` feeds random pieces of the bytes.
 ghost use Rattle.std.specs.Prelude.{◌∷◌, [], IfOk, Ok};
 ghost use Rattle.kx_wire.specs.Frames.{Fed, Reads, Stream};
@@ -17,7 +17,7 @@ pub(crate) struct FrameCases {
     frames: Frames,
 }
 
-// The frame of a message, where it fits.
+// The frame of a message, if it fits.
 fn frame(alloc: Global, message: &Message) -> Result<Vec<u8>, StepFault> {
     let mut out = Vec::new(alloc);
     if message.fits() {
@@ -26,7 +26,7 @@ fn frame(alloc: Global, message: &Message) -> Result<Vec<u8>, StepFault> {
     Ok(out)
 }
 
-// The frames of the messages, `-` where none came.
+// The frames of the messages, `-` if none came.
 fn told_frames(alloc: Global, messages: &[Message]) -> Result<String, StepFault> {
     let mut frames = Vec::new(alloc);
     for message in messages {
@@ -63,7 +63,7 @@ fn is_copied(alloc: Global, message: &Message, bytes: &[u8]) -> Result<bool, Ste
     Ok(copy == *message && is_written(alloc, &copy, bytes)?)
 }
 
-// A message as it is printed, where it is written, and its copy, as it was read.
+// A message as it is printed, if it is written, and its copy, as it was read.
 fn printed(alloc: Global, message: &Message, bytes: &[u8]) -> Result<String, StepFault> {
     if !is_written(alloc, message, bytes)? {
         return told_value(alloc, "written otherwise");

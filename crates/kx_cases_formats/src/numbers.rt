@@ -120,7 +120,7 @@ fn laws(alloc: Global) -> Result<String, StepFault> {
 }
 
 impl NumberCases {
-    // Appends a number, and tells its bytes.
+    // Appends a number, and reports its bytes.
     fn put(&mut self, kind: &str, number: &str) -> Result<String, StepFault> {
         let before = self.written.len();
         match kind {

@@ -1,4 +1,4 @@
-//! The small values of the wire: their conversions, which tell the name of a fault where they
+//! The small values of the wire: their conversions, which tell the name of a fault if they
 //! refuse, how they are printed, compared and kept as keys.
 use crate::conversions::{
     count_in, data_partition, is_newer, is_same, last_in, members_in, millis_of, offsets,

@@ -9,11 +9,11 @@ use std::alloc::Global;
 use std::io;
 
 /// Tries the cases of a file whose name begins so, up to its first `_`: `offsets`, `guard` or
-/// `groups`. None where they are of anything else.
+/// `groups`. None if they are of anything else.
 ///
 /// # Errors
 ///
-/// Where what came can't be printed, or where memory runs out.
+/// If what came can't be printed, or where memory runs out.
 pub fn try_groups(
     rt: &(impl Print + AllocGlobal),
     front: &str,

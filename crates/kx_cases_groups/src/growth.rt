@@ -34,7 +34,7 @@ fn told_of(groups: &Kept, commit: &TxnOffsetCommit) -> Told {
     }
 }
 
-// Makes a call: whether it was answered as it is where nothing stands in its way.
+// Makes a call: whether it was answered as it is where nothing is in its way.
 fn made(groups: &mut Kept, commit: &TxnOffsetCommit, call: &Call<'_>) -> Result<bool, AllocError> {
     match call {
         Call::Join => {
@@ -65,7 +65,7 @@ fn made(groups: &mut Kept, commit: &TxnOffsetCommit, call: &Call<'_>) -> Result<
     }
 }
 
-// Whether a call is answered, if need be when it is made again, and leaves all as it was where it
+// Whether a call is answered, if need be when it is made again, and leaves all as it was if it
 // is refused since memory ran out.
 fn goes(groups: &mut Kept, commit: &TxnOffsetCommit, call: &Call<'_>) -> bool {
     let before = told_of(groups, commit);
@@ -81,7 +81,7 @@ fn goes(groups: &mut Kept, commit: &TxnOffsetCommit, call: &Call<'_>) -> bool {
 }
 
 /// Whether a member joins, commits these offsets, ends its transaction by this marker, and the
-/// store is read again, where any growth may be refused once.
+/// store is read again, if any growth may be refused once.
 pub fn grows(groups: &mut Kept, commit: &TxnOffsetCommit, marker: &WriteMarker) -> bool {
     let calls = [Call::Join, Call::Commit, Call::Marker(marker), Call::Reload];
     for call in &calls {

@@ -24,7 +24,7 @@ fn append_of(alloc: Global, frame: &[u8]) -> Result<Append, StepFault> {
     }
 }
 
-// The same where it can be parked.
+// The same if it can be parked.
 fn request_of(alloc: Global, frame: &[u8]) -> Result<Option<Request>, StepFault> {
     Ok(match append_of(alloc, frame)? {
         Append::Produce(produce) => Request::of_produce(produce).ok(),
@@ -88,7 +88,7 @@ impl GuardCases {
         told_parked(self.alloc, self.guard.parked(held), wanted.as_slice())
     }
 
-    // Takes out those that are parked, and tells whether they are these.
+    // Takes out those that are parked, and reports whether they are these.
     fn reply(&mut self, texts: &Texts, of: &str, frames: &[&str]) -> Result<String, StepFault> {
         let held = known_request(self.alloc, texts, of)?.held();
         let wanted = requests(self.alloc, texts, frames)?;

@@ -1,4 +1,4 @@
-//! The records of the offsets partition and their batches. `says KEY VALUE` tells what a record
+//! The records of the offsets partition and their batches. `says KEY VALUE` reports what a record
 //! says; `commit FRAME BATCH` whether the commit of offsets in a frame becomes that batch, and
 //! `joined`, `left` and `dropped GROUP MEMBER BATCH` whether that change of a group's members does.
 use kx_batch::{BatchBuilder, BatchView};
@@ -14,7 +14,7 @@ pub(crate) struct OffsetCases {
     alloc: Global,
 }
 
-// The batch of one record with this key and this value, `null` where it has none.
+// The batch of one record with this key and this value, `null` if it has none.
 fn batch_with(alloc: Global, texts: &Texts, key: &str, value: &str) -> Result<Vec<u8>, StepFault> {
     let key_text = texts.bytes(if key == "null" { "-" } else { key })?;
     let value_text = texts.bytes(if value == "null" { "-" } else { value })?;

@@ -14,7 +14,7 @@ use std::alloc::Global;
 use std::fmt::{self, Write};
 use std::str;
 
-// A string, or null: its text, or `x` and its bytes in hexadecimal where they are no UTF-8.
+// A string, or null: its text, or `x` and its bytes in hexadecimal if they are no UTF-8.
 #[derive(Clone, Copy)]
 struct Shown<'a>(Option<&'a [u8]>);
 
@@ -338,7 +338,7 @@ pub(crate) fn told_request(alloc: Global, bytes: &[u8]) -> Result<String, StepFa
     }
 }
 
-// What stands in front of a request is read alike in any version.
+// What is in front of a request is read alike in any version.
 const ANY_VERSION: Version = Version {
     number: 0,
     flexible: false,
@@ -388,7 +388,7 @@ const REFUSALS: [KafkaFault; 6] = [
 ];
 
 impl Changes {
-    // Counts a changed request, where the unchanged one tells this.
+    // Counts a changed request, if the unchanged one tells this.
     fn count(&mut self, alloc: Global, changed: &[u8], unchanged: &str) -> Result<(), StepFault> {
         match read_request(changed) {
             Err(fault) => {

@@ -1,5 +1,5 @@
-//! Responses as cases write them: `response API VERSION CORRELATION WORD.. BYTES` tells the frame
-//! of a response whose values are the words; those that no word says stand here.
+//! Responses as cases write them: `response API VERSION CORRELATION WORD.. BYTES` reports the frame
+//! of a response whose values are the words; those that no word says are here.
 //!
 //! - ApiVersions: the error; the versions are those that all clients work with.
 //! - Metadata: none, or a topic and how many partitions it has.
@@ -111,7 +111,7 @@ fn api_versions(said: Said<'_>) -> Written {
     frame(said, ApiKey::ApiVersions, &response)
 }
 
-// One broker, which leads the partitions of the topic, where there is one.
+// One broker, which leads the partitions of the topic, if there is one.
 fn metadata(said: Said<'_>) -> Written {
     let (name, count, shown) = match said.words {
         [name, count] => (*name, value(count)?, 1),

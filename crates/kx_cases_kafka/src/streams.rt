@@ -1,5 +1,5 @@
-//! Streams of frames: `feed BYTES` gives a piece to the case's stream and tells the texts of the
-//! frames that come of it, `-` for none, and after them the fault where one comes; `sizes BYTES`
+//! Streams of frames: `feed BYTES` gives a piece to the case's stream and reports the texts of the
+//! frames that come of it, `-` for none, and after them the fault if one comes; `sizes BYTES`
 //! the same by the lengths of the texts; `singly BYTES` gives each byte by itself.
 use kx_cases::{Runs, StepFault, known, told_bytes};
 use kx_kafka::{Frames, KafkaFault};

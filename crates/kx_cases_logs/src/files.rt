@@ -12,11 +12,11 @@ use std::alloc::Global;
 use std::io;
 
 /// Tries the cases of a file whose name begins so, up to its first `_`: `open`, `aborted`,
-/// `producers`, `logs`, `entries` or `txnlogs`. None where they are of anything else.
+/// `producers`, `logs`, `entries` or `txnlogs`. None if they are of anything else.
 ///
 /// # Errors
 ///
-/// Where what came can't be printed, or where memory runs out.
+/// If what came can't be printed, or where memory runs out.
 pub fn try_logs(
     rt: &(impl Print + AllocGlobal),
     front: &str,

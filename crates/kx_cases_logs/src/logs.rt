@@ -2,7 +2,7 @@
 //! hold, on a store whose NTH append fails and leaves KEEP bytes (0: none fails); `append BATCH`,
 //! `appends COUNT BATCH`, `arm KEEP`, `disarm`, `arm-load`, `disarm-load` and `reopen` go on with
 //! it; `end`, `failures`, `takes COUNT`, `first` and `slice FROM UPPER MAX` tell of it; `stored`
-//! tells how many bytes its store has, and opens it anew. The other steps are sweeps, each over
+//! reports how many bytes its store has, and opens it anew. The other steps are sweeps, each over
 //! logs of its own.
 use crate::stores::{FailingStore, failing};
 use crate::sweeps::{bits, cuts, failures, flips, grow};
@@ -150,7 +150,7 @@ fn log_step(
 }
 
 impl LogCases {
-    // Opens a log, and tells its end.
+    // Opens a log, and reports its end.
     fn open(&mut self, bytes: Vec<u8>, nth: u64, keep: u64) -> Result<String, StepFault> {
         match opened(self.alloc, failing(bytes, nth, keep)) {
             Ok(log) => {

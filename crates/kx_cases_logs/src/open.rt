@@ -24,7 +24,7 @@ fn told_txn(alloc: Global, txn: Option<OpenTxn>) -> Result<String, StepFault> {
 }
 
 impl OpenCases {
-    // Begins a transaction, where none of its id is open.
+    // Begins a transaction, if none of its id is open.
     fn begin_txn(&mut self, id: ProducerId, epoch: Epoch, first: i64) -> Result<String, StepFault> {
         if self.open.epoch_of(id).is_some() {
             return told_value(self.alloc, "already open");

@@ -1,6 +1,6 @@
 //! What a partition keeps of producers. `rebuild ID EPOCH FIRST LAST OFFSET` makes it of a log with
 //! that batch; `data` with the same numbers and `marker ID EPOCH COORDINATOR` note what was
-//! appended, `reserve ID` makes room. `check ID EPOCH FIRST LAST` tells the verdict on a batch,
+//! appended, `reserve ID` makes room. `check ID EPOCH FIRST LAST` reports the verdict on a batch,
 //! `epoch ID` and `marked ID` what is known of a producer.
 use crate::words::{epoch_of, id_of};
 use kx_cases::{StepFault, Subject, Texts, told_done, told_name, told_option, told_value, value};

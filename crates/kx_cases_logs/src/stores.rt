@@ -1,7 +1,7 @@
 //! Bytes as stores hold them: in memory, and in memory that is made to fail.
 use kx_log::{FaultStore, MemStore};
 
-/// A store in memory that fails where it is told to.
+/// A store in memory that fails if it is told to.
 pub type FailingStore = FaultStore<MemStore>;
 
 /// A store that holds these bytes, and whose `nth` append fails and leaves `keep` bytes; none for

@@ -86,7 +86,7 @@ fn fails_third<S: Store>(log: &mut PartitionLog<S>, texts: [&[u8]; 3]) -> Result
     Ok(log.failures() == 1)
 }
 
-// The end after reopening, where the third append fails.
+// The end after reopening, if the third append fails.
 fn told_failed<S: Store>(
     alloc: Global,
     log: &mut PartitionLog<S>,
@@ -119,7 +119,7 @@ fn after_failures(alloc: Global, keeps: u16, texts: [&[u8]; 3]) -> Result<String
     Ok(runs.finish()?)
 }
 
-/// The ends after reopening, where the third of three appends fails and leaves each number of bytes
+/// The ends after reopening, if the third of three appends fails and leaves each number of bytes
 /// below `keeps`.
 pub fn failures(
     alloc: Global,
@@ -166,7 +166,7 @@ fn rereads<S: Store>(log: &mut PartitionLog<S>) -> bool {
     is_read && log.end() == end && log.can_take(1) && log.failures() == 0
 }
 
-// Appends a batch so often and reads the log again, where any growth may be refused: the log is
+// Appends a batch so often and reads the log again, if any growth may be refused: the log is
 // then as before.
 fn grows_on<S: Store>(
     log: &mut PartitionLog<S>,
@@ -180,7 +180,7 @@ fn grows_on<S: Store>(
     Ok(rereads(log) && grown)
 }
 
-/// Whether a log of its own grows so, or `ok` where it can't be made.
+/// Whether a log of its own grows so, or `ok` if it can't be made.
 pub fn grow(alloc: Global, count: u32, text: &[u8]) -> Result<String, StepFault> {
     let Ok(mut log) = opened(alloc, MemStore::new(Vec::new(alloc))) else {
         return told_value(alloc, "ok");

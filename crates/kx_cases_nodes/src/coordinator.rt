@@ -36,7 +36,7 @@ fn state_number(state: State) -> u8 {
     }
 }
 
-// Tells a row as `TXN ID EPOCH STATE PARTITIONS`.
+// Reports a row as `TXN ID EPOCH STATE PARTITIONS`.
 fn tell_row(told: &mut String, row: &Row) -> Result<(), AllocError> {
     let state = state_number(row.state);
     write!(told, "{} {} {} {state}", row.txn, row.id, row.epoch)?;

@@ -1,4 +1,4 @@
-//! Events that happen in a world, and what its readers tell. What each step means stands at the
+//! Events that happen in a world, and what its readers tell. What each step means is at the
 //! head of `events.cases`.
 use crate::lines::tell_on_one_line;
 use crate::parts::{last_message, nothing, or_dash, tell_message};
@@ -135,7 +135,7 @@ fn hand(alloc: Global, to: &str, given: &[&str]) -> Result<Event<Prefixed>, Step
     })
 }
 
-// A request arrives from outside, in this frame; none where no client may send the message.
+// A request arrives from outside, in this frame; none if no client may send the message.
 fn arrive(alloc: Global, frame: &[u8]) -> Result<Option<Event<Prefixed>>, StepFault> {
     match OutsideRequest::new(last_message(alloc, frame)?) {
         Some(request) => Ok(Some(Event::Arrive { request })),
@@ -200,7 +200,7 @@ fn tell_flag(told: &mut String, flag: bool) -> Result<(), AllocError> {
     told.push_str(if flag { "true" } else { "false" })
 }
 
-// Tells what a reader of the world tells of its size.
+// Reports what a reader of the world tells of its size.
 fn read_size(told: &mut String, world: &Local, words: &[&str]) -> Result<(), StepFault> {
     let done = match words {
         ["clock"] => tell_number(told, world.clock()),
@@ -215,7 +215,7 @@ fn read_size(told: &mut String, world: &Local, words: &[&str]) -> Result<(), Ste
     done.map_err(StepFault::Memory)
 }
 
-// Tells what a reader of the world tells.
+// Reports what a reader of the world tells.
 fn read(alloc: Global, told: &mut String, world: &Local, words: &[&str]) -> Result<(), StepFault> {
     let done = match words {
         ["sent", first] => tell_sent(told, world.sent(), value(first)?),
@@ -244,7 +244,7 @@ fn show(
     }
 }
 
-// Tells how events ended that happened all at once.
+// Reports how events ended that happened all at once.
 fn tell_done(told: &mut String, done: Result<(), RunFault>) -> Result<(), AllocError> {
     match done {
         Ok(()) => told.push_str("ok"),
@@ -252,7 +252,7 @@ fn tell_done(told: &mut String, done: Result<(), RunFault>) -> Result<(), AllocE
     }
 }
 
-// The events happen, one by one. Tells what each was answered.
+// The events happen, one by one. Reports what each was answered.
 fn tell_each(
     told: &mut String,
     world: &mut Local,
@@ -292,7 +292,7 @@ impl WorldEvents {
     }
 
     // Adds the event that the request in this frame arrives from outside, or tells `no request`
-    // where the frame brings none that can.
+    // if the frame brings none that can.
     fn await_request(&mut self, texts: &Texts, frame: &str) -> Result<String, StepFault> {
         let frame = texts.bytes(frame)?;
         let Some(event) = arrive(self.alloc, frame.as_slice())? else {
@@ -308,7 +308,7 @@ impl WorldEvents {
         }
     }
 
-    // Tells a step of a world that is made.
+    // Reports a step of a world that is made.
     fn tell(&mut self, told: &mut String, words: &[&str]) -> Result<(), StepFault> {
         let Some(world) = &mut self.world else {
             return Err(StepFault::Unknown);

@@ -13,11 +13,11 @@ use std::alloc::Global;
 use std::io;
 
 /// Tries the cases of a file whose name begins so, up to its first `_`: `coordinator`, `partition`,
-/// `reply`, `events`, `images`, `script` or `dump`. None where they are of anything else.
+/// `reply`, `events`, `images`, `script` or `dump`. None if they are of anything else.
 ///
 /// # Errors
 ///
-/// Where what came can't be printed, or where memory runs out.
+/// If what came can't be printed, or where memory runs out.
 pub fn try_nodes(
     rt: &(impl Print + AllocGlobal),
     front: &str,

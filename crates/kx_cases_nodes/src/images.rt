@@ -1,4 +1,4 @@
-//! A processor whose images may be too large for a batch. What each step means stands at the head
+//! A processor whose images may be too large for a batch. What each step means is at the head
 //! of `images.cases`.
 use crate::parts::{last_message, nothing, told_messages};
 use crate::words::client;

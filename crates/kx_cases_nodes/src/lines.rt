@@ -2,7 +2,7 @@
 use std::alloc::{AllocError, Global};
 use std::str;
 
-// Tells a text with another end of each line.
+// Reports a text with another end of each line.
 fn tell_lines(told: &mut String, text: &str, end: char, new: &str) -> Result<(), AllocError> {
     for (at, part) in text.split(end).enumerate() {
         let parted = if at == 0 { "" } else { new };
@@ -21,7 +21,7 @@ fn tell_script(told: &mut String, words: &[&str]) -> Result<(), AllocError> {
     Ok(())
 }
 
-/// A script that stands on one line, where each `|` is the end of a line.
+/// A script that stands on one line, if each `|` is the end of a line.
 pub fn script_of(alloc: Global, words: &[&str]) -> Result<String, AllocError> {
     let mut script = String::new(alloc);
     tell_script(&mut script, words)?;

@@ -14,7 +14,7 @@ fn ends_badly(alloc: Global, wanted: &str, number: u64) -> Result<bool, AllocErr
     Ok(wanted.strip_suffix(line.as_str()).is_some())
 }
 
-// Whether the script writes what it has to, and ends there: at its end, or at a bad line where that
+// Whether the script writes what it has to, and ends there: at its end, or at a bad line if that
 // is the last that it has to write.
 fn is_right(alloc: Global, script: &str, wanted: &str) -> Result<bool, AllocError> {
     let mut reader = script.as_bytes();

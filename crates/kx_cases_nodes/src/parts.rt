@@ -10,7 +10,7 @@ pub fn nothing(alloc: Global) -> Result<String, StepFault> {
     told_value(alloc, "-")
 }
 
-/// Tells `-` where nothing was told.
+/// Tells `-` if nothing was told.
 pub fn or_dash(told: &mut String) -> Result<(), AllocError> {
     if told.is_empty() {
         return told.push_str("-");
@@ -18,7 +18,7 @@ pub fn or_dash(told: &mut String) -> Result<(), AllocError> {
     Ok(())
 }
 
-/// How something ended that wrote a text, where what was taken of it is a front of the whole.
+/// How something ended that wrote a text, if what was taken of it is a front of the whole.
 pub fn ended_in_front<E: Debug + Drop>(
     alloc: Global,
     ended: Result<(), E>,

@@ -40,7 +40,7 @@ fn whole(alloc: Global, script: &str) -> Vec<u8> {
     written
 }
 
-// How the script ends where its writer has room for this many bytes, and the front of what it
+// How the script ends if its writer has room for this many bytes, and the front of what it
 // writes is written.
 fn with_room(alloc: Global, room: usize, script: &str, whole: &[u8]) -> Result<String, StepFault> {
     let mut reader = script.as_bytes();
@@ -52,7 +52,7 @@ fn with_room(alloc: Global, room: usize, script: &str, whole: &[u8]) -> Result<S
     ended_in_front(alloc, ended, writer.taken.as_slice(), whole)
 }
 
-// How the script ends where its writer has room for no byte, for one, and so on up to this many.
+// How the script ends if its writer has room for no byte, for one, and so on up to this many.
 fn full(alloc: Global, runs: &mut Runs, most: usize, script: &str) -> Result<(), StepFault> {
     let whole = whole(alloc, script);
     for room in 0..=most {
@@ -62,7 +62,7 @@ fn full(alloc: Global, runs: &mut Runs, most: usize, script: &str) -> Result<(),
     Ok(())
 }
 
-// How the script ends, and how many bytes it writes, where its reader gives this many bytes at once
+// How the script ends, and how many bytes it writes, if its reader gives this many bytes at once
 // and fails after this many reads.
 fn read_in(alloc: Global, once: usize, reads: usize, script: &str) -> Result<String, StepFault> {
     let mut reader = Giving::new(script.as_bytes(), once, reads);
@@ -72,7 +72,7 @@ fn read_in(alloc: Global, once: usize, reads: usize, script: &str) -> Result<Str
     format!(in alloc; "{ended:?} {count}").map_err(StepFault::Memory)
 }
 
-// The same where it fails at the first read, at the second, and so on.
+// The same if it fails at the first read, at the second, and so on.
 fn reads(
     alloc: Global,
     runs: &mut Runs,
@@ -137,7 +137,7 @@ fn far_down(alloc: Global, lines: usize, script: &str) -> Result<String, StepFau
     run(alloc, &mut text.as_bytes())
 }
 
-// The number at the front of a text, and what stands after it.
+// The number at the front of a text, and what is after it.
 fn numbered(text: &str) -> Result<(usize, &str), StepFault> {
     let Some((number, rest)) = text.split_once(' ') else {
         return Err(StepFault::Unknown);

@@ -19,7 +19,7 @@ fn produced(
     told_name(alloc, kept.produce(batch, is_verified)?)
 }
 
-// The answer to the batch of this number, where its offset may be that number.
+// The answer to the batch of this number, if its offset may be that number.
 fn numbered(
     alloc: Global,
     kept: &mut Kept,

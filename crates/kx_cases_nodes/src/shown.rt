@@ -33,7 +33,7 @@ fn tell_numbers(told: &mut String, page: &FetchPage<'_>) -> Result<(), AllocErro
     tell_aborted(told, page.aborted())
 }
 
-// Tells the base offsets of the page's batches, or `-` for none.
+// Reports the base offsets of the page's batches, or `-` for none.
 fn tell_bases(told: &mut String, page: &FetchPage<'_>) -> Result<(), AllocError> {
     for (at, batch) in page.batches().enumerate() {
         let parted = if at == 0 { "" } else { " " };
@@ -56,7 +56,7 @@ fn tell_record(
     write!(told, "{parted}{offset} {value}")
 }
 
-// Tells the records that a reader of committed records gets of the page, or `-` for none.
+// Reports the records that a reader of committed records gets of the page, or `-` for none.
 fn tell_records(alloc: Global, told: &mut String, page: FetchPage<'_>) -> Result<(), AllocError> {
     for (offset, record) in Committed::new(alloc, page)? {
         let parted = if told.is_empty() { "" } else { "; " };
@@ -65,7 +65,7 @@ fn tell_records(alloc: Global, told: &mut String, page: FetchPage<'_>) -> Result
     or_dash(told)
 }
 
-// Tells what a step of this name asks of a page.
+// Reports what a step of this name asks of a page.
 fn tell(
     alloc: Global,
     told: &mut String,

@@ -47,7 +47,7 @@ fn write_from(
     Ok(())
 }
 
-// A message comes to its node, where an append that fails leaves this many bytes. Whether one
+// A message comes to its node, if an append that fails leaves this many bytes. Whether one
 // failed.
 fn fails(world: &mut ScriptWorld, number: usize, to: NodeId, keep: u64) -> Result<bool, StepFault> {
     let store = StoreMode::Fails { keep };
@@ -97,7 +97,7 @@ fn tear_in<'a>(
     Ok(())
 }
 
-// Writes what a script writes from its line `tear K` on, where that leaves this many bytes.
+// Writes what a script writes from its line `tear K` on, if that leaves this many bytes.
 fn torn(alloc: Global, script: &str, keep: u64, writer: &mut Vec<u8>) -> Result<(), StepFault> {
     let mut lines = script.split('\n');
     let mut running = world_of(alloc, lines.next().unwrap_or(""))?;
@@ -106,7 +106,7 @@ fn torn(alloc: Global, script: &str, keep: u64, writer: &mut Vec<u8>) -> Result<
     torn
 }
 
-// Tells the same on one line.
+// Reports the same on one line.
 fn tell_torn(alloc: Global, told: &mut String, script: &str, keep: u64) -> Result<(), StepFault> {
     let mut written = Vec::new(alloc);
     torn(alloc, script, keep, &mut written)?;

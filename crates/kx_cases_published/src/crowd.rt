@@ -42,7 +42,7 @@ impl<R: Threads + Wait + Copy> Crowd<R> {
     ///
     /// # Errors
     ///
-    /// Only where memory runs out; then the threads have ended as well.
+    /// Only if memory runs out; then the threads have ended as well.
     pub(crate) fn end(self, alloc: Global) -> Result<Vec<Seen>, AllocError> {
         let Crowd { rt, over, handles } = self;
         over.store(true, Ordering::SeqCst);

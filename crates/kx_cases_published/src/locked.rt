@@ -1,4 +1,4 @@
-//! Pages of a log that stands under a lock alone, to compare with pages of a published one.
+//! Pages of a log that is under a lock alone, to compare with pages of a published one.
 use crate::crowd::Crowd;
 use crate::puts::{VALUE, values_of};
 use crate::seen::{Look, Pace, Source, tell_pages};
@@ -83,7 +83,7 @@ fn grow<M: Machine, B: Made, R: Wait>(
 }
 
 /// Has threads take pages under a node's lock, while batches are put under it, and
-/// tells how many they took.
+/// reports how many they took.
 pub(crate) fn compare<
     M: Paged + Send + Sync + 'static,
     B: Made + Send + Sync + 'static,

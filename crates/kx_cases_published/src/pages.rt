@@ -55,7 +55,7 @@ pub(crate) fn tell_gone(told: &mut String) -> Result<(), StepFault> {
     Ok(writeln!(told, "gone")?)
 }
 
-/// Has a reader enter, and tells the page that it gets. It stays in the log.
+/// Has a reader enter, and reports the page that it gets. It stays in the log.
 pub(crate) fn tell_entered<J: Naming>(
     alloc: Global,
     told: &mut String,

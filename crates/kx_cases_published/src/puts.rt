@@ -7,7 +7,7 @@ use kx_nodes::Receipt;
 use kx_partition::Produced;
 use std::alloc::{AllocError, Global};
 
-/// What is put where it doesn't matter: 64 bytes.
+/// What is put if it doesn't matter: 64 bytes.
 pub(crate) const VALUE: &str = "abcdefghijklmnopqrstuvwxyzabcdefghijklmnopqrstuvwxyzabcdefghijkl";
 
 // A word as a value.

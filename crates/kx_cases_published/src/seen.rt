@@ -21,7 +21,7 @@ pub(crate) enum Wrong {
     Number,
     /// The log's end fell.
     End,
-    /// The page from 0 didn't end where the log does.
+    /// The page from 0 didn't end if the log does.
     Page,
     /// There was no log.
     Gone,
@@ -97,7 +97,7 @@ impl Seen {
         }
     }
 
-    // What is wrong with a look that comes next. A page of a whole log ends where the log does, and
+    // What is wrong with a look that comes next. A page of a whole log ends if the log does, and
     // none ends after it.
     fn judge(&self, look: Look, pace: Pace) -> Option<Wrong> {
         if look.number < self.number {
@@ -147,7 +147,7 @@ pub(crate) fn watch<S: Source>(mut source: S, over: &AtomicBool, pace: Pace) -> 
     seen
 }
 
-/// Tells whether each thread saw a log that grew up to the publish of this number.
+/// Reports whether each thread saw a log that grew up to the publish of this number.
 pub(crate) fn tell_race(told: &mut String, seen: &[Seen], last: u64) -> Result<(), StepFault> {
     for one in seen {
         if let Some(wrong) = one.wrong {
@@ -160,7 +160,7 @@ pub(crate) fn tell_race(told: &mut String, seen: &[Seen], last: u64) -> Result<(
     Ok(writeln!(told, "{} readers saw growing logs", seen.len())?)
 }
 
-/// Tells how many pages were taken in all, if nothing was wrong.
+/// Reports how many pages were taken in all, if nothing was wrong.
 pub(crate) fn tell_pages(told: &mut String, seen: &[Seen]) -> Result<(), StepFault> {
     let mut pages: u64 = 0;
     for one in seen {

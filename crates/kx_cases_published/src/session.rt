@@ -1,7 +1,7 @@
 //! A node whose log is published, and what the lines of a script do with it:
 //!
 //! - `put WORD..` puts a batch of these values: `offset N`; `bring BYTES` delivers the messages of
-//!   frames, and tells what each step sends as `NODE MESSAGE`, `-` where nothing; `bytes NAME =
+//!   frames, and tells what each step sends as `NODE MESSAGE`, `-` if nothing; `bytes NAME =
 //!   BYTES` gives bytes a name;
 //! - `publish` publishes the log: `published K`; `finish` ends the node: `finished N`, with the
 //!   count of its steps;
@@ -132,7 +132,7 @@ impl<
         node.reader(&self.rt).ok()
     }
 
-    // Takes a step, and tells its receipt.
+    // Takes a step, and reports its receipt.
     fn step(&mut self, input: Input) -> Result<(), StepFault> {
         let receipt = self.take(input)?;
         tell_receipt(&mut self.told, &receipt)

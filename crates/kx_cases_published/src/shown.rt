@@ -1,8 +1,8 @@
 //! A script over one node whose log is published, and what it has to tell. A line that begins with
 //! `#` says nothing. The first other line is `node N`, which makes the node, of partition 0, with
-//! places for N readers, and `session` has the lines after it; or `locked R N`, which stands alone:
+//! places for N readers, and `session` has the lines after it; or `locked R N`, which is alone:
 //! R threads take pages of 64 KiB under a node's lock while N batches are put under it, and it
-//! tells how many.
+//! reports how many.
 ghost use Rattle.std.specs.Prelude.{◌≡◌, ◌≤◌, IfOk};
 ghost use Rattle.kx_broker.specs.Serving.{StandsFor};
 ghost use Rattle.kx_machine.specs.Meaning.{AtPartition};

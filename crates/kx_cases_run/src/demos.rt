@@ -42,7 +42,7 @@ fn options_in(alloc: Global, line: &str) -> Result<PlayOptions, StepFault> {
     }
 }
 
-// Tells what happened, by the trace: the facts that are asked for.
+// Reports what happened, by the trace: the facts that are asked for.
 fn tell_trace(
     alloc: Global,
     trace: &[u8],

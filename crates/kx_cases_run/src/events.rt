@@ -25,7 +25,7 @@ pub(crate) struct Arrived<'a> {
 pub(crate) struct Event<'a> {
     /// The node.
     pub(crate) node: &'a str,
-    /// What it was told to do; the whole text where it took a message.
+    /// What it was told to do; the whole text if it took a message.
     pub(crate) action: &'a str,
     /// The message that it took, if it took one.
     pub(crate) arrived: Option<Arrived<'a>>,

@@ -3,7 +3,7 @@ use std::io::{ErrorKind, Write};
 use std::net::{Net, TcpStream};
 use std::{io, str};
 
-/// What was written, with room for n bytes more. Once a server tells its port, clients
+/// What was written, with room for n bytes more. Once a server reports its port, clients
 /// connect to it, and close their connections.
 #[derive(Drop)]
 pub(crate) struct Output<R: Drop> {
@@ -21,7 +21,7 @@ fn port_in(taken: &[u8]) -> Option<u16> {
 }
 
 impl<R: Drop> Output<R> {
-    /// An output to which nothing is written yet, with room for `room` bytes. Once a server tells
+    /// An output to which nothing is written yet, with room for `room` bytes. Once a server reports
     /// its port, `clients` clients connect.
     pub(crate) fn new(rt: R, taken: Vec<u8>, room: usize, clients: usize) -> Self {
         Output {

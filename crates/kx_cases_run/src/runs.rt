@@ -6,7 +6,7 @@
 //! - `same PATH WANTED` tells whether two files have the same bytes;
 //! - `there PATH` tells whether there is a file of this path, and `trace PATH` of how many
 //!   partitions the logs are shown in the trace of a demonstration that it holds;
-//! - `input FILE` is what standard input has from here on, and `input FILE N` the same, where a
+//! - `input FILE` is what standard input has from here on, and `input FILE N` the same, if a
 //!   read fails after N reads; without such a line it has nothing;
 //! - `room N` is how many bytes standard output has room for from here on, `errors N` the same of
 //!   standard error; without such a line there is room for all;
@@ -19,8 +19,8 @@
 //! - `help WORDS` is the same, but of standard output it tells only that there are words,
 //!   `verdict WORDS` the same, but it tells only its lines from the one that begins with `audit `
 //!   on, and `count WORDS` the same, but of standard error it tells only how many lines there are;
-//! - `no_words KIND` runs it where its words can't be had: `text` where one isn't text, `memory`
-//!   where memory ran out.
+//! - `no_words KIND` runs it if its words can't be had: `text` if one isn't text, `memory`
+//!   if memory ran out.
 use crate::happened::Happened;
 use crate::output::Output;
 use kx_cases::{Giving, StepFault, Texts, value};
@@ -62,7 +62,7 @@ enum Telling {
     Lines,
 }
 
-// Tells that there are words, if there are.
+// Reports that there are words, if there are.
 fn tell_words(told: &mut String, text: &str) -> Result<(), AllocError> {
     if text.is_empty() {
         return Ok(());
@@ -70,7 +70,7 @@ fn tell_words(told: &mut String, text: &str) -> Result<(), AllocError> {
     writeln!(told, "words")
 }
 
-// Tells the verdict of an audit, which ends what was written.
+// Reports the verdict of an audit, which ends what was written.
 fn tell_verdict(told: &mut String, text: &str) -> Result<(), AllocError> {
     let mut is_there = false;
     for line in text.lines() {
@@ -82,7 +82,7 @@ fn tell_verdict(told: &mut String, text: &str) -> Result<(), AllocError> {
     Ok(())
 }
 
-// Tells what was written on standard output; a port may be any.
+// Reports what was written on standard output; a port may be any.
 fn tell_output(told: &mut String, text: &str, telling: Telling) -> Result<(), AllocError> {
     if telling == Telling::Words {
         return tell_words(told, text);
@@ -100,7 +100,7 @@ fn tell_output(told: &mut String, text: &str, telling: Telling) -> Result<(), Al
     Ok(())
 }
 
-// Tells what was written on standard error.
+// Reports what was written on standard error.
 fn tell_errors(
     told: &mut String,
     text: &str,
@@ -240,7 +240,7 @@ impl<
         Ok(writeln!(self.told, "{path} {word}")?)
     }
 
-    // Tells whether a file has the bytes of another one.
+    // Reports whether a file has the bytes of another one.
     fn tell_same(&mut self, path: &str, wanted: &str) -> Result<(), StepFault> {
         let Ok(found) = fs::read(&self.rt, path) else {
             return Err(StepFault::Unknown);

@@ -25,7 +25,7 @@ pub(crate) struct Client {
 // The most frames that are read until a connection is closed.
 const MOST_FRAMES: usize = 10_000;
 
-// Where the kind of a frame stands, and that of a page.
+// If the kind of a frame stands, and that of a page.
 const KIND_PLACE: usize = 4;
 
 const FETCH_REPLY: u8 = 12;
@@ -76,7 +76,7 @@ impl Client {
         let _is_finished = self.stream.shutdown(Shutdown::Write);
     }
 
-    /// The next frame, its length in front. None where no whole frame comes in time.
+    /// The next frame, its length in front. None if no whole frame comes in time.
     pub(crate) fn receive(&self, alloc: Global) -> Result<Option<Vec<u8>>, StepFault> {
         let mut front = [0u8; 4];
         if (&mut &self.stream).read_exact(&mut front).is_err() {
@@ -101,7 +101,7 @@ impl Client {
     }
 
     /// Reads frames until the other end closes the connection, and gives how many of them are
-    /// pages. Answers None where the connection doesn't close in time.
+    /// pages. Answers None if the connection doesn't close in time.
     pub(crate) fn pages(&self, alloc: Global) -> Result<Option<usize>, StepFault> {
         let mut pages = 0usize;
         for _ in 0..MOST_FRAMES {

@@ -4,7 +4,7 @@ use kx_cases::{StepFault, told_bytes};
 use std::alloc::Global;
 use std::net::{Net, TcpStream};
 
-// A request as the client of this number sends it, which stands after the frame's length and kind.
+// A request as the client of this number sends it, which is after the frame's length and kind.
 fn of_client(alloc: Global, request: &[u8], number: u32) -> Result<Vec<u8>, StepFault> {
     let front = request.get(..5).ok_or(StepFault::Unknown)?;
     let back = request.get(9..).ok_or(StepFault::Unknown)?;
@@ -14,7 +14,7 @@ fn of_client(alloc: Global, request: &[u8], number: u32) -> Result<Vec<u8>, Step
     Ok(whole)
 }
 
-// A frame with zeros in the place of each port that stands after the server's address.
+// A frame with zeros in the place of each port that is after the server's address.
 fn without_port(alloc: Global, frame: &[u8], port: u16) -> Result<Vec<u8>, StepFault> {
     let mut named = Vec::from_slice(alloc, b"127.0.0.1".as_slice())?;
     named.extend_from_slice(u32::from(port).to_be_bytes().as_slice())?;
@@ -129,7 +129,7 @@ impl Clients {
         Ok(answered)
     }
 
-    /// Tells how many pages come over a connection until the server closes it.
+    /// Reports how many pages come over a connection until the server closes it.
     pub(crate) fn tell_pages(&self, name: &str, told: &mut String) -> Result<(), StepFault> {
         match self.named(name)?.pages(self.alloc)? {
             Some(count) => Ok(writeln!(told, "{name} {count} pages")?),
@@ -155,7 +155,7 @@ impl Clients {
         self.clients.clear();
     }
 
-    /// Tells the next frame that comes over a connection.
+    /// Reports the next frame that comes over a connection.
     pub(crate) fn tell_next(&self, name: &str, told: &mut String) -> Result<(), StepFault> {
         let frame = match self.named(name)?.receive(self.alloc)? {
             Some(frame) => told_bytes(self.alloc, frame.as_slice())?,
@@ -164,7 +164,7 @@ impl Clients {
         Ok(writeln!(told, "{name} {frame}")?)
     }
 
-    /// Tells the next frame that comes over a connection, with zeros where the server names its own
+    /// Reports the next frame that comes over a connection, with zeros if the server names its own
     /// port after its address.
     pub(crate) fn tell_portless(
         &self,
@@ -182,7 +182,7 @@ impl Clients {
         Ok(writeln!(told, "{name} {frame}")?)
     }
 
-    /// Tells whether the server closes a connection.
+    /// Reports whether the server closes a connection.
     pub(crate) fn tell_closed(&self, name: &str, told: &mut String) -> Result<(), StepFault> {
         let word = if self.named(name)?.is_closed() {
             "closed"

@@ -43,7 +43,7 @@ pub(crate) fn rename<R: Files<File = File>>(rt: &R, from: &str, to: &str) -> Res
     fs::rename(rt, from, to).map_err(|_| StepFault::Unknown)
 }
 
-/// Tells whether a file is there.
+/// Reports whether a file is there.
 pub(crate) fn tell_there<R: Files<File = File>>(
     rt: &R,
     file: &str,

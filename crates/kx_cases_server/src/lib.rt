@@ -11,4 +11,3 @@ mod lines;
 mod running;
 mod session;
 mod trial;
-mod waiting;

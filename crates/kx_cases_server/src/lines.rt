@@ -58,7 +58,7 @@ impl<R: Wait + Drop> Write for Lines<R> {
     }
 }
 
-/// The next line. None where no more comes.
+/// The next line. None if no more comes.
 pub(crate) fn next_line<R: Wait>(
     rt: &R,
     alloc: Global,

@@ -2,7 +2,7 @@
 use crate::lines::{Lines, next_line};
 use crossbeam_channel::Receiver;
 use kx_cases::{StepFault, value};
-use kx_kafka_server::{Topics, topics_asked};
+use kx_kafka_server::{Advertised, Topics, advertised_in, topics_asked};
 use kx_serve::{KafkaOptions, ServeFault, ServeOptions, serve, serve_kafka};
 use kx_server::{Connections, Partitions, Until};
 use std::alloc::{AllocError, Global};
@@ -51,6 +51,7 @@ impl Wanted {
             port: 0,
             dir: self.dir.as_deref(),
             traces: None,
+            new_traces: false,
             expires: self.expires,
             session_timeout: None,
             tells_progress: false,
@@ -65,10 +66,11 @@ pub(crate) struct Stock {
     pub(crate) makes_topics: bool,
     pub(crate) connections: Connections,
     pub(crate) dir: Option<String>,
+    pub(crate) advertise: Option<String>,
 }
 
 impl Stock {
-    /// What these words ask for; topics are made where none are given.
+    /// What these words ask for; topics are made if none are given.
     pub(crate) fn new(
         alloc: Global,
         connections: &str,
@@ -87,7 +89,25 @@ impl Stock {
             makes_topics: topics.is_none(),
             connections: Connections::new(value(connections)?).ok_or(StepFault::Unknown)?,
             dir,
+            advertise: None,
         })
+    }
+
+    /// The same, if clients are told to find it at this `HOST:PORT`.
+    pub(crate) fn at(mut self, alloc: Global, address: &str) -> Result<Stock, StepFault> {
+        if advertised_in(address).is_none() {
+            return Err(StepFault::Unknown);
+        }
+        self.advertise = Some(String::from_str(alloc, address)?);
+        Ok(self)
+    }
+
+    // If clients are told to find it, if anywhere else.
+    fn address(&self) -> Option<Advertised<'_>> {
+        match &self.advertise {
+            Some(address) => advertised_in(address.as_str()),
+            None => None,
+        }
     }
 
     /// These as options, on any port that is free.
@@ -95,9 +115,11 @@ impl Stock {
         KafkaOptions {
             topics: &self.topics,
             makes_topics: self.makes_topics,
+            advertise: self.address(),
             port: 0,
             dir: self.dir.as_deref(),
             traces: None,
+            new_traces: false,
             connections: self.connections,
             until: Until::Served,
             tells_progress: false,
@@ -115,7 +137,7 @@ pub(crate) struct Running {
     server: JoinHandle<Ended>,
 }
 
-// The port that the first line names. None where no line comes.
+// The port that the first line names. None if no line comes.
 fn port_in(line: Option<String>) -> Result<Option<u16>, StepFault> {
     match line {
         Some(line) => {
@@ -205,7 +227,7 @@ impl Running {
     }
 }
 
-/// Tells the number and the words of the fault of a server, if there is one.
+/// Reports the number and the words of the fault of a server, if there is one.
 pub(crate) fn tell_end(told: &mut String, ended: Ended) -> Result<(), AllocError> {
     match ended {
         Ok(()) => Ok(()),

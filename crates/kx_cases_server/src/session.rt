@@ -7,11 +7,11 @@
 //!   transactions that last too long;
 //! - `kafka N` starts a server of stock clients for N connections, with its logs in memory, which
 //!   makes topics; `kafka N with TOPICS` has these, and makes none; `in FOLDER` after either has its
-//!   files in a folder;
+//!   files in a folder; `kafka N at HOST:PORT` tells clients to find it there;
 //! - `open A` connects, under the name A; `crowd A N BYTES` connects N times, each under the name A
 //!   and with this request, and tells how many of them are answered;
 //! - `send A BYTES` writes bytes, and `bytewise A BYTES` writes them in pieces of one byte;
-//! - `portless A` tells the next frame, with zeros where the server names its own port;
+//! - `portless A` tells the next frame, with zeros if the server names its own port;
 //! - `receive A` tells the next frame; `closed A` tells whether the server closes the connection;
 //!   `pages A` tells how many pages come until it does;
 //! - `until A REQUEST REPLY` sends a request again and again, and tells whether that reply came;
@@ -24,13 +24,10 @@
 //! - `clear FOLDER` removes a folder and what is in it; `append FILE BYTES` puts bytes after those
 //!   of a file, and `shorten FILE N` takes N off its end; `move FILE FILE` gives a file another
 //!   name, and `there FILE` tells whether it is there;
-//! - `wait N` waits for N milliseconds;
-//! - `patience N` has something tried that works after N tries, and tells how often it was tried
-//!   and how often it was told that it waits.
+//! - `wait N` waits for N milliseconds.
 use crate::clients::Clients;
 use crate::folder::{append, clear, rename, shorten, tell_there};
 use crate::running::{Running, Stock, Wanted, tell_end};
-use crate::waiting::tell_patience;
 use kx_cases::{StepFault, Texts, value};
 use kx_serve::serve;
 use std::alloc::{AllocError, Global};
@@ -111,6 +108,18 @@ where
         dir: Option<&str>,
     ) -> Result<(), StepFault> {
         let wanted = Stock::new(self.alloc, connections, topics, dir)?;
+        self.run_stock(wanted)
+    }
+
+    // Starts a server that tells clients to find it at this address.
+    fn start_at(&mut self, connections: &str, address: &str) -> Result<(), StepFault> {
+        let wanted = Stock::new(self.alloc, connections, None, None)?;
+        let wanted = wanted.at(self.alloc, address)?;
+        self.run_stock(wanted)
+    }
+
+    // Runs a server of stock clients.
+    fn run_stock(&mut self, wanted: Stock) -> Result<(), StepFault> {
         let running = Running::start_stock(self.rt, self.alloc, wanted)?;
         if let Some(port) = running.port(&self.rt, self.alloc)? {
             self.port = port;
@@ -135,7 +144,7 @@ where
         running.end(&self.rt, self.alloc, &mut self.told)
     }
 
-    // Connects so often, and tells how many are answered.
+    // Connects so often, and reports how many are answered.
     fn crowd(&mut self, name: &str, count: usize, request: &str) -> Result<(), StepFault> {
         let request = self.texts.bytes(request)?;
         let request = request.as_slice();
@@ -229,6 +238,7 @@ where
                 self.start(partitions, connections, Some(*dir), false)
             }
             ["kafka", connections] => self.start_stock(connections, None, None),
+            ["kafka", connections, "at", address] => self.start_at(connections, address),
             ["kafka", connections, "in", dir] => self.start_stock(connections, None, Some(*dir)),
             ["kafka", connections, "with", topics] => {
                 self.start_stock(connections, Some(*topics), None)
@@ -242,7 +252,6 @@ where
                 thread::sleep(&self.rt, Duration::from_millis(value(millis)?));
                 Ok(())
             }
-            ["patience", count] => tell_patience(&self.rt, value(count)?, &mut self.told),
             _ => self.take_files(words),
         }
     }

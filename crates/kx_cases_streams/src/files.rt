@@ -6,12 +6,12 @@ use kx_cases::{Tally, try_cases};
 use std::alloc::Global;
 use std::io;
 
-/// Tries the cases of a file whose name begins so, up to its first `_`: `streams`. None where they
+/// Tries the cases of a file whose name begins so, up to its first `_`: `streams`. None if they
 /// are of anything else.
 ///
 /// # Errors
 ///
-/// Where what came can't be printed, or where memory runs out.
+/// If what came can't be printed, or where memory runs out.
 pub fn try_streams(
     rt: &(impl Print + AllocGlobal),
     front: &str,

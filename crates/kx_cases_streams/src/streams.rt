@@ -111,7 +111,7 @@ fn pieces(alloc: Global, bytes: &[u8]) -> Result<String, StepFault> {
     Ok(runs.finish()?)
 }
 
-// What stands at the end of a step's words.
+// What is at the end of a step's words.
 fn ends_at(fails: &str, once: usize, calls: usize) -> Option<Ends> {
     match fails {
         "reads" => Some(Ends {

@@ -119,7 +119,7 @@ fn found<B: Remade>(
     }
 }
 
-// Tells what an audit found.
+// Reports what an audit found.
 fn tell_found<B: Remade>(
     told: &mut String,
     found: &Result<Run<B>, AuditFault>,

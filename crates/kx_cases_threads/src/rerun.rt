@@ -98,7 +98,7 @@ fn tell_nodes(
     Ok(())
 }
 
-/// Tells how many events the run is, and of each node the end of its log and whether the world in
+/// Reports how many events the run is, and of each node the end of its log and whether the world in
 /// which they happen again has that log, the coordinator's rows or the client.
 pub(crate) fn tell_rerun(alloc: Global, told: &mut String, run: &Found) -> Result<(), StepFault> {
     writeln!(told, "events {}", event_count(alloc, run)?)?;

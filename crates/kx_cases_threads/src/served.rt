@@ -99,7 +99,7 @@ impl Session {
         judge(self.alloc, told, found, audited, &mut self.nodes, receipts)
     }
 
-    // Tells the steps in the order of the audit.
+    // Reports the steps in the order of the audit.
     fn tell_turns(&mut self) -> Result<(), StepFault> {
         let Some(run) = &self.found else {
             return Err(StepFault::Unknown);
@@ -115,7 +115,7 @@ impl Session {
         tell_rerun(self.alloc, &mut self.told, run)
     }
 
-    // Tells how many committed records a partition has.
+    // Reports how many committed records a partition has.
     fn tell_committed(&mut self, partition: &str) -> Result<(), StepFault> {
         let number: u16 = value(partition)?;
         let number = PartitionId::try_from(number).map_err(|_| StepFault::Unknown)?;
@@ -149,7 +149,7 @@ impl Session {
         }
     }
 
-    // Carries out a line that stands after the steps.
+    // Carries out a line that is after the steps.
     fn look(&mut self, line: &str) -> Result<(), StepFault> {
         let words: Vec<&str> = line.split(' ').collect(self.alloc)?;
         match words.as_slice() {

@@ -32,7 +32,7 @@ fn input_word(input: &Input) -> &'static str {
     }
 }
 
-// Tells what a node was handed: a message by its text, all else by a word.
+// Reports what a node was handed: a message by its text, all else by a word.
 fn tell_input(told: &mut String, input: &Input) -> Result<(), AllocError> {
     match input {
         Input::Deliver(message) => write!(told, " {message}"),
@@ -40,7 +40,7 @@ fn tell_input(told: &mut String, input: &Input) -> Result<(), AllocError> {
     }
 }
 
-// Tells what a node answered: each message after its receiver, and what it answered beside them.
+// Reports what a node answered: each message after its receiver, and what it answered beside them.
 fn tell_taken(told: &mut String, taken: &Taken) -> Result<(), AllocError> {
     for message in taken.messages.as_slice() {
         write!(told, " > {} {message}", message.receiver())?;
@@ -51,7 +51,7 @@ fn tell_taken(told: &mut String, taken: &Taken) -> Result<(), AllocError> {
     }
 }
 
-// Tells a step: the node, its place in the node's trace, the input and the answer.
+// Reports a step: the node, its place in the node's trace, the input and the answer.
 fn tell_turn<B: Remade>(told: &mut String, run: &Run<B>, turn: Turn) -> Result<(), StepFault> {
     let Some(trace) = run.trace(turn.trace) else {
         return Err(StepFault::Unknown);

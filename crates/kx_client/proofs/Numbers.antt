@@ -176,7 +176,7 @@ module _ (reply : Message) where
         others = ap (filter stays) (sym split) ∙ settled front m back 0 next numbered e;
       }
 
-  -- where none answers, all stay
+  -- if none answers, all stay
   pub unawaited : (ms : List Message)
       → ((k : ℕ) (d : Message) → k < length ms → is_answer_to reply (get_or ms k d) ≡ false)
       → IsUnawaited reply ms
@@ -189,7 +189,7 @@ module _ (reply : Message) where
         all = kept x ms (ap not first) rest.all;
       }
 
-  -- none answers where the one at the place of its number, if there is one, doesn't
+  -- none answers if the one at the place of its number, if there is one, doesn't
   pub none_at : (ms : List Message) (next place : ℕ) → AreNumbered 0 ms next
       → ((k : ℕ) (d : Message) → k < place → k < length ms
       → correlation_of (get_or ms k d) < correlation_of reply)

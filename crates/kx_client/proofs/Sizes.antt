@@ -198,7 +198,7 @@ within xs h = elim (cases_lt batch_limit (61 + size xs)) [
   | inr le ↦ le
 ]
 
--- one more value is pushed where all that come are within the limit
+-- one more value is pushed if all that come are within the limit
 pub one_pushed : (xs : List (List ℕ)) (x : List ℕ) (ys : List (List ℕ))
     → is_some (within_limit (value_records ((xs ++ x ∷ []) ++ ys))) ≡ true
     → with_pushed (Some (value_records xs)) None (Some x) []
@@ -217,7 +217,7 @@ more_pass xs ys over = elim (cases_lt batch_limit (61 + size xs)) [
   | inr le ↦ absurd (let fit = keeps_limit xs le in cc)
 ]
 
--- one more value fits where its record does
+-- one more value fits if its record does
 module _ (xs : List (List ℕ)) (x : List ℕ) (len at : ℕ) (h : IsBatchLen len xs)
     (behind : at ≡ length xs) where
   grown_size : len + length (record_text (record_at at x)) ≡ 61 + size (xs ++ x ∷ [])

@@ -1,4 +1,4 @@
--- What a client answers where it refuses a command.
+-- What a client answers if it refuses a command.
 use Rattle.std.specs.Prelude.{◌≡◌, ◌<◌, ℕ, ℤ, pos, negsuc, List, [], ◌∷◌, length}
 use Rattle.std.specs.Prelude.{if◌then◌else◌}
 use Rattle.kx_client.specs.declared.fault.ClientFault.{ClientFault}
@@ -24,7 +24,7 @@ abbrev pub HandsOut : Commanded → Type 0
 HandsOut (Declines fault) = ⊥
 HandsOut (Does client sent) = 0 < length sent
 
--- the fault is the one that the rules have; memory is refused only where they have none, and only
+-- the fault is the one that the rules have; memory is refused only if they have none, and only
 -- for what is to be handed out
 abbrev pub IsRefused : ClientFault → Commanded → Type 0
 IsRefused fault.NotReady answer = answer ≡ Declines model.NotReady

@@ -44,7 +44,7 @@ slot_of partition = if partition == offsets_partition then data_partitions else 
 abbrev pub count_in : List ℕ → ℕ → ℕ
 count_in counts partition = slice_index counts (slot_of partition)
 
--- 1 where the request carries a batch to the partition, or offsets that become one
+-- 1 if the request carries a batch to the partition, or offsets that become one
 abbrev pub carried_to : ℕ → Message → ℕ
 carried_to partition request = if carries_to partition request then 1 else 0
 

@@ -47,7 +47,7 @@ impl ProducerClient {
         Ok(before)
     }
 
-    // Where what came after the beginning was refused, all is as before it.
+    // If what came after the beginning was refused, all is as before it.
     fn both_or_neither(
         &mut self,
         before: Before,
@@ -71,12 +71,12 @@ impl ProducerClient {
     ///
     /// # Errors
     ///
-    /// The first that fits: [`Failed`](ClientFault::Failed) where the client has failed;
-    /// [`NotTransactional`](ClientFault::NotTransactional) where it has no transactional id;
-    /// [`NotReady`](ClientFault::NotReady) where it holds no id, is in a transaction, or the end of
-    /// one is unanswered; [`WindowFull`](ClientFault::WindowFull) where five batches to the
-    /// partition are unanswered; [`UsedUp`](ClientFault::UsedUp) where no number is left for the
-    /// request, or no sequence for each value; [`TooLarge`](ClientFault::TooLarge) where the batch
+    /// The first that fits: [`Failed`](ClientFault::Failed) if the client has failed;
+    /// [`NotTransactional`](ClientFault::NotTransactional) if it has no transactional id;
+    /// [`NotReady`](ClientFault::NotReady) if it holds no id, is in a transaction, or the end of
+    /// one is unanswered; [`WindowFull`](ClientFault::WindowFull) if five batches to the
+    /// partition are unanswered; [`UsedUp`](ClientFault::UsedUp) if no number is left for the
+    /// request, or no sequence for each value; [`TooLarge`](ClientFault::TooLarge) if the batch
     /// would pass its limit; [`Memory`](ClientFault::Memory). Nothing is changed then.
     pub fn begin_and_send(
         &mut self,
@@ -100,11 +100,11 @@ impl ProducerClient {
     ///
     /// # Errors
     ///
-    /// The first that fits: [`Failed`](ClientFault::Failed) where the client has failed;
-    /// [`NotTransactional`](ClientFault::NotTransactional) where it has no transactional id;
-    /// [`NotReady`](ClientFault::NotReady) where it holds no id, is in a transaction, the end of
-    /// one is unanswered, or no join was answered 0; [`WindowFull`](ClientFault::WindowFull) where
-    /// five commits of offsets are unanswered; [`UsedUp`](ClientFault::UsedUp) where no number is
+    /// The first that fits: [`Failed`](ClientFault::Failed) if the client has failed;
+    /// [`NotTransactional`](ClientFault::NotTransactional) if it has no transactional id;
+    /// [`NotReady`](ClientFault::NotReady) if it holds no id, is in a transaction, the end of
+    /// one is unanswered, or no join was answered 0; [`WindowFull`](ClientFault::WindowFull) if
+    /// five commits of offsets are unanswered; [`UsedUp`](ClientFault::UsedUp) if no number is
     /// left for the request, or no sequence for the offset; [`Memory`](ClientFault::Memory).
     /// Nothing is changed then.
     pub fn begin_and_offset(&mut self, offset: PartitionOffset) -> Result<Message, ClientFault>
@@ -125,10 +125,10 @@ impl ProducerClient {
     ///
     /// # Errors
     ///
-    /// The first that fits: [`Failed`](ClientFault::Failed) where the client has failed;
-    /// [`NotTransactional`](ClientFault::NotTransactional) where it has no transactional id;
-    /// [`NotReady`](ClientFault::NotReady) where it holds no id, is in a transaction, or the end of
-    /// one is unanswered; [`UsedUp`](ClientFault::UsedUp) where no number is left for the request;
+    /// The first that fits: [`Failed`](ClientFault::Failed) if the client has failed;
+    /// [`NotTransactional`](ClientFault::NotTransactional) if it has no transactional id;
+    /// [`NotReady`](ClientFault::NotReady) if it holds no id, is in a transaction, or the end of
+    /// one is unanswered; [`UsedUp`](ClientFault::UsedUp) if no number is left for the request;
     /// [`Memory`](ClientFault::Memory). Nothing is changed then.
     pub fn begin_and_abort(&mut self) -> Result<Message, ClientFault>
         ensures { MatchResult result

@@ -82,7 +82,7 @@ impl Model for ProducerClient {
 }
 
 impl ProducerClient {
-    /// A client of this number, with a transactional id where it is to have transactions, each of
+    /// A client of this number, with a transactional id if it is to have transactions, each of
     /// which may stay open for so long. It has sent nothing yet, and takes memory from `alloc` as
     /// requests come.
     pub fn new(alloc: Global, number: ClientId, txn: Option<TxnId>, timeout: Timeout) -> Self
@@ -207,7 +207,7 @@ impl ProducerClient {
         self.held
     }
 
-    // Keeps a copy of a new request, and hands it out. Where memory is refused, all is as before.
+    // Keeps a copy of a new request, and hands it out. If memory is refused, all is as before.
     pub(crate) fn ask(&mut self, request: Message) -> Result<Message, AllocError>
         requires left { self.old.correlation < 2 ^ 32 }
         requires number { correlation_of request ≡ self.old.correlation }

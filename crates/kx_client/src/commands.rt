@@ -30,9 +30,9 @@ impl ProducerClient {
     ///
     /// # Errors
     ///
-    /// The first that fits: [`Failed`](ClientFault::Failed) where the client has failed;
-    /// [`NotReady`](ClientFault::NotReady) where it holds an id, or the end of a transaction is
-    /// unanswered; [`UsedUp`](ClientFault::UsedUp) where no number is left for a new request;
+    /// The first that fits: [`Failed`](ClientFault::Failed) if the client has failed;
+    /// [`NotReady`](ClientFault::NotReady) if it holds an id, or the end of a transaction is
+    /// unanswered; [`UsedUp`](ClientFault::UsedUp) if no number is left for a new request;
     /// [`Memory`](ClientFault::Memory). Nothing is changed then.
     #[tactic(auto, unfolding(kx_model::specs::Client::command))]
     pub fn init(&mut self) -> Result<Message, ClientFault>
@@ -63,9 +63,9 @@ impl ProducerClient {
     ///
     /// # Errors
     ///
-    /// The first that fits: [`Failed`](ClientFault::Failed) where the client has failed;
-    /// [`NotTransactional`](ClientFault::NotTransactional) where it has no transactional id;
-    /// [`NotReady`](ClientFault::NotReady) where it holds no id, is in a transaction, or the end of
+    /// The first that fits: [`Failed`](ClientFault::Failed) if the client has failed;
+    /// [`NotTransactional`](ClientFault::NotTransactional) if it has no transactional id;
+    /// [`NotReady`](ClientFault::NotReady) if it holds no id, is in a transaction, or the end of
     /// one is unanswered. Nothing is changed then.
     pub fn begin(&mut self) -> Result<(), ClientFault>
         ensures { MatchResult result (λ _. command self.old Begin ≡ Does self.new [])
@@ -81,13 +81,13 @@ impl ProducerClient {
     ///
     /// # Errors
     ///
-    /// The first that fits: [`Failed`](ClientFault::Failed) where the client has failed;
-    /// [`NotReady`](ClientFault::NotReady) where it holds no id, the end of a transaction is
+    /// The first that fits: [`Failed`](ClientFault::Failed) if the client has failed;
+    /// [`NotReady`](ClientFault::NotReady) if it holds no id, the end of a transaction is
     /// unanswered, or it has a transactional id and is in no transaction;
-    /// [`MustAbort`](ClientFault::MustAbort) where offsets were refused by the group;
-    /// [`WindowFull`](ClientFault::WindowFull) where five batches to the partition are unanswered;
-    /// [`UsedUp`](ClientFault::UsedUp) where no number is left for the request, or no sequence for
-    /// each value; [`TooLarge`](ClientFault::TooLarge) where the batch would pass its limit;
+    /// [`MustAbort`](ClientFault::MustAbort) if offsets were refused by the group;
+    /// [`WindowFull`](ClientFault::WindowFull) if five batches to the partition are unanswered;
+    /// [`UsedUp`](ClientFault::UsedUp) if no number is left for the request, or no sequence for
+    /// each value; [`TooLarge`](ClientFault::TooLarge) if the batch would pass its limit;
     /// [`Memory`](ClientFault::Memory). Nothing is changed then.
     #[tactic(auto, unfolding(kx_model::specs::Client::command))]
     pub fn send(&mut self, partition: PartitionId, values: &Values) -> Result<Message, ClientFault>
@@ -127,10 +127,10 @@ impl ProducerClient {
     ///
     /// # Errors
     ///
-    /// The first that fits: [`Failed`](ClientFault::Failed) where the client has failed;
-    /// [`NotReady`](ClientFault::NotReady) where it has asked to join another group;
-    /// [`InFlight`](ClientFault::InFlight) where a join or a leave is unanswered;
-    /// [`UsedUp`](ClientFault::UsedUp) where no number is left for the request;
+    /// The first that fits: [`Failed`](ClientFault::Failed) if the client has failed;
+    /// [`NotReady`](ClientFault::NotReady) if it has asked to join another group;
+    /// [`InFlight`](ClientFault::InFlight) if a join or a leave is unanswered;
+    /// [`UsedUp`](ClientFault::UsedUp) if no number is left for the request;
     /// [`Memory`](ClientFault::Memory). Nothing is changed then.
     #[tactic(auto, unfolding(kx_model::specs::Client::command))]
     pub fn join(&mut self, group: GroupId) -> Result<Message, ClientFault>
@@ -160,10 +160,10 @@ impl ProducerClient {
     ///
     /// # Errors
     ///
-    /// The first that fits: [`Failed`](ClientFault::Failed) where the client has failed;
-    /// [`NotReady`](ClientFault::NotReady) where no join was answered 0;
-    /// [`InFlight`](ClientFault::InFlight) where a join or a leave is unanswered;
-    /// [`UsedUp`](ClientFault::UsedUp) where no number is left for the request;
+    /// The first that fits: [`Failed`](ClientFault::Failed) if the client has failed;
+    /// [`NotReady`](ClientFault::NotReady) if no join was answered 0;
+    /// [`InFlight`](ClientFault::InFlight) if a join or a leave is unanswered;
+    /// [`UsedUp`](ClientFault::UsedUp) if no number is left for the request;
     /// [`Memory`](ClientFault::Memory). Nothing is changed then.
     // Allowed once a join was answered 0, also while it asks to join again: it may not know that it
     // was dropped, and the group refuses it by its generation.
@@ -257,12 +257,12 @@ impl ProducerClient {
     ///
     /// # Errors
     ///
-    /// The first that fits: [`Failed`](ClientFault::Failed) where the client has failed;
-    /// [`NotTransactional`](ClientFault::NotTransactional) where it has no transactional id;
+    /// The first that fits: [`Failed`](ClientFault::Failed) if the client has failed;
+    /// [`NotTransactional`](ClientFault::NotTransactional) if it has no transactional id;
     /// [`NotReady`](ClientFault::NotReady) outside a transaction, while its end is unanswered, or
-    /// where no join was answered 0; [`MustAbort`](ClientFault::MustAbort) where offsets were
-    /// refused by the group; [`WindowFull`](ClientFault::WindowFull) where five commits of offsets
-    /// are unanswered; [`UsedUp`](ClientFault::UsedUp) where no number is left for the request, or
+    /// if no join was answered 0; [`MustAbort`](ClientFault::MustAbort) if offsets were
+    /// refused by the group; [`WindowFull`](ClientFault::WindowFull) if five commits of offsets
+    /// are unanswered; [`UsedUp`](ClientFault::UsedUp) if no number is left for the request, or
     /// no sequence for each offset; [`Memory`](ClientFault::Memory). Nothing is changed then.
     pub fn offsets(&mut self, offsets: Offsets) -> Result<Message, ClientFault>
         ensures { MatchResult result
@@ -274,18 +274,35 @@ impl ProducerClient {
         self.commit_offsets(parts, offsets)
     }
 
+    /// Sends offsets as [`offsets`](ProducerClient::offsets) does, of which the caller keeps its
+    /// own. They are copied once nothing is against the request.
+    ///
+    /// # Errors
+    ///
+    /// Those of [`offsets`](ProducerClient::offsets), in the same order.
+    pub fn copied_offsets(&mut self, offsets: &Offsets) -> Result<Message, ClientFault>
+        ensures { MatchResult result
+            (λ sent. commanded_offsets self.old offsets.now ≡ Does self.new (sent ∷ []))
+            (λ fault. IsRefused fault (commanded_offsets self.old offsets.now)
+            × (self.new ≡ self.old)) }
+    {
+        let parts = self.commit_parts(offsets.as_slice())?;
+        let offsets = offsets.clone()?;
+        self.commit_offsets(parts, offsets)
+    }
+
     /// Sends the offset of one partition that the group reads with the transaction, so that it is
     /// committed exactly when the transaction is (KIP-447's sendOffsetsToTransaction). Memory is
     /// asked for last.
     ///
     /// # Errors
     ///
-    /// The first that fits: [`Failed`](ClientFault::Failed) where the client has failed;
-    /// [`NotTransactional`](ClientFault::NotTransactional) where it has no transactional id;
+    /// The first that fits: [`Failed`](ClientFault::Failed) if the client has failed;
+    /// [`NotTransactional`](ClientFault::NotTransactional) if it has no transactional id;
     /// [`NotReady`](ClientFault::NotReady) outside a transaction, while its end is unanswered, or
-    /// where no join was answered 0; [`MustAbort`](ClientFault::MustAbort) where offsets were
-    /// refused by the group; [`WindowFull`](ClientFault::WindowFull) where five commits of offsets
-    /// are unanswered; [`UsedUp`](ClientFault::UsedUp) where no number is left for the request, or
+    /// if no join was answered 0; [`MustAbort`](ClientFault::MustAbort) if offsets were
+    /// refused by the group; [`WindowFull`](ClientFault::WindowFull) if five commits of offsets
+    /// are unanswered; [`UsedUp`](ClientFault::UsedUp) if no number is left for the request, or
     /// no sequence for the offset; [`Memory`](ClientFault::Memory). Nothing is changed then.
     pub fn offset(&mut self, offset: PartitionOffset) -> Result<Message, ClientFault>
         ensures { MatchResult result
@@ -298,17 +315,17 @@ impl ProducerClient {
         self.commit_offsets(parts, offsets)
     }
 
-    /// Ends the transaction as a commit: asks the coordinator (KIP-98's EndTxn). Where nothing was
+    /// Ends the transaction as a commit: asks the coordinator (KIP-98's EndTxn). If nothing was
     /// sent in the transaction, it ends here, and nothing is sent.
     ///
     /// # Errors
     ///
-    /// The first that fits: [`Failed`](ClientFault::Failed) where the client has failed;
-    /// [`NotTransactional`](ClientFault::NotTransactional) where it has no transactional id;
+    /// The first that fits: [`Failed`](ClientFault::Failed) if the client has failed;
+    /// [`NotTransactional`](ClientFault::NotTransactional) if it has no transactional id;
     /// [`NotReady`](ClientFault::NotReady) outside a transaction, or while its end is unanswered;
-    /// [`MustAbort`](ClientFault::MustAbort) where offsets were refused by the group;
-    /// [`InFlight`](ClientFault::InFlight) where anything is unanswered;
-    /// [`UsedUp`](ClientFault::UsedUp) where no number is left for the request;
+    /// [`MustAbort`](ClientFault::MustAbort) if offsets were refused by the group;
+    /// [`InFlight`](ClientFault::InFlight) if anything is unanswered;
+    /// [`UsedUp`](ClientFault::UsedUp) if no number is left for the request;
     /// [`Memory`](ClientFault::Memory), never where the transaction ends here. Nothing is changed
     /// then.
     #[tactic(auto, unfolding(kx_model::specs::Client::command))]
@@ -354,10 +371,10 @@ impl ProducerClient {
     ///
     /// # Errors
     ///
-    /// The first that fits: [`Failed`](ClientFault::Failed) where the client has failed;
-    /// [`NotTransactional`](ClientFault::NotTransactional) where it has no transactional id;
+    /// The first that fits: [`Failed`](ClientFault::Failed) if the client has failed;
+    /// [`NotTransactional`](ClientFault::NotTransactional) if it has no transactional id;
     /// [`NotReady`](ClientFault::NotReady) outside a transaction, or while its end is unanswered;
-    /// [`UsedUp`](ClientFault::UsedUp) where no number is left for the request;
+    /// [`UsedUp`](ClientFault::UsedUp) if no number is left for the request;
     /// [`Memory`](ClientFault::Memory). Nothing is changed then.
     #[tactic(auto, unfolding(kx_model::specs::Client::command))]
     pub fn abort(&mut self) -> Result<Message, ClientFault>
@@ -392,8 +409,8 @@ impl ProducerClient {
     ///
     /// # Errors
     ///
-    /// [`Failed`](ClientFault::Failed) where the client has failed, and then
-    /// [`Memory`](ClientFault::Memory), never where nothing is unanswered.
+    /// [`Failed`](ClientFault::Failed) if the client has failed, and then
+    /// [`Memory`](ClientFault::Memory), never if nothing is unanswered.
     #[tactic(auto, unfolding(kx_model::specs::Client::command))]
     pub fn resend(&self) -> Result<Vec<Message>, ClientFault>
         ensures { MatchResult result

@@ -18,9 +18,9 @@ impl ProducerClient {
     ///
     /// # Errors
     ///
-    /// The first that fits: [`Failed`](ClientFault::Failed) where the client has failed;
-    /// [`NotReady`](ClientFault::NotReady) where the offset is below 0;
-    /// [`UsedUp`](ClientFault::UsedUp) where no number is left for the request;
+    /// The first that fits: [`Failed`](ClientFault::Failed) if the client has failed;
+    /// [`NotReady`](ClientFault::NotReady) if the offset is below 0;
+    /// [`UsedUp`](ClientFault::UsedUp) if no number is left for the request;
     /// [`Memory`](ClientFault::Memory). Nothing is changed then.
     #[tactic(auto, unfolding(kx_model::specs::Client::command))]
     pub fn fetch_page(&mut self, partition: PartitionId, from: i64) -> Result<Message, ClientFault>
@@ -54,8 +54,8 @@ impl ProducerClient {
     ///
     /// # Errors
     ///
-    /// The first that fits: [`Failed`](ClientFault::Failed) where the client has failed;
-    /// [`UsedUp`](ClientFault::UsedUp) where no number is left for the request;
+    /// The first that fits: [`Failed`](ClientFault::Failed) if the client has failed;
+    /// [`UsedUp`](ClientFault::UsedUp) if no number is left for the request;
     /// [`Memory`](ClientFault::Memory). Nothing is changed then.
     #[tactic(auto, unfolding(kx_model::specs::Client::command))]
     pub fn fetch_offset(

@@ -125,7 +125,7 @@ impl ProducerClient {
         });
     }
 
-    /// Takes a message that has come, and asks for no memory. It changes something only where it is
+    /// Takes a message that has come, and asks for no memory. It changes something only if it is
     /// a reply to this client and a request of its kind and number waits.
     ///
     /// [`NoError`](ErrorCode::NoError) answers the request, and what the reply says counts.

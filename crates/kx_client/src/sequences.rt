@@ -35,14 +35,14 @@ impl Sequences {
         }
     }
 
-    /// The next sequence of a partition, 0 where nothing was sent to it.
+    /// The next sequence of a partition, 0 if nothing was sent to it.
     pub(crate) fn next(&self, partition: PartitionId) -> u32
         ensures { result ≡ sequence_of self.now partition }
     {
         self.by_partition.get(&partition).copied().unwrap_or(0)
     }
 
-    /// Sets the next sequence of a partition. Where memory is refused, all is as before.
+    /// Sets the next sequence of a partition. If memory is refused, all is as before.
     pub(crate) fn set(&mut self, partition: PartitionId, next: u32) -> Result<(), AllocError>
         ensures ok { OnOk result (self.new ≡ with_sequence self.old partition next) }
         ensures err { OnErr result (self.new ≡ self.old) }

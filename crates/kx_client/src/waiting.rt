@@ -248,7 +248,7 @@ impl Waiting {
     ///
     /// # Errors
     ///
-    /// Only where memory is refused, which is asked for only where a request waits.
+    /// Only if memory is refused, which is asked for only if a request waits.
     pub(crate) fn copies(&self, alloc: Global) -> Result<Vec<Message>, AllocError>
         ensures ok { IfOk result (λ copies. copies.items ≡ self.now.messages) }
         ensures err { OnErr result (0 < length self.now.messages) }

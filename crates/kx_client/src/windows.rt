@@ -1,6 +1,6 @@
 //! How many batches to each partition are unanswered.
 //!
-//! The counts stand in an array, since they outlive an epoch and need no memory; sequences don't
+//! The counts are in an array, since they outlive an epoch and need no memory; sequences don't
 //! outlive it.
 ghost use Rattle.std.specs.Prelude.{◌≡◌, ◌+◌, ◌<◌, ◌==◌, ℕ, true, false, nat_le, if◌then◌else◌};
 ghost use Rattle.std.specs.Prelude.{MatchOption};

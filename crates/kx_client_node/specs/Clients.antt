@@ -1,6 +1,7 @@
 -- What a client as a machine answers, and the node that it is.
 use Rattle.std.specs.Prelude.{◌≡◌, ◌⊎◌, ◌&&◌, ℕ, Bool, List, [], ◌∷◌, Option, is_none}
 use Rattle.std.specs.Prelude.{if◌then◌else◌}
+use Rattle.kx_client.specs.Calls.{HandsOut}
 use Rattle.kx_client.specs.declared.fault.ClientFault.{ClientFault}
 use Rattle.kx_client.specs.declared.fault.ClientFault.TheVariants.{Failed, Memory, NotReady}
 use Rattle.kx_client.specs.declared.fault.ClientFault.TheVariants.{NotTransactional}
@@ -12,9 +13,10 @@ use Rattle.kx_model.specs.Disk.{Store}
 use Rattle.kx_processor.specs.Running.{processing_of, processor_of}
 use Rattle.kx_system.specs.Processor.{Images, Processing, Processor, has_failed}
 
--- the fault is the one that the rules have; out of memory may come in its place
+-- the fault is the one that the rules have; memory is lacking only if they have none, and something
+-- is sent
 abbrev pub IsDeclined : ClientFault → Commanded → Type 0
-IsDeclined fault answer = (fault ≡ Memory)
+IsDeclined fault answer = ((fault ≡ Memory) × HandsOut answer)
     ⊎ ((refusal : Fault) × (answer ≡ Declines refusal) × (fault ≡ fault_of refusal))
 
 -- a client has no store
@@ -25,7 +27,7 @@ abbrev pub client_of : {F : Type 0} → AnyClient F → Client
 client_of (any.Plain client) = client
 client_of (any.Processor running) = running.client
 
--- what it is beside its client, where it is a processor
+-- what it is beside its client, if it is a processor
 abbrev pub processing_in : {F : Type 0} → (F → Images) → AnyClient F → List Processing
 processing_in image_of (any.Plain client) = []
 processing_in image_of (any.Processor running) = processing_of image_of running ∷ []

@@ -1,6 +1,7 @@
 //! A client as a machine.
-ghost use Rattle.std.specs.Prelude.{◌≡◌, MatchResult, false};
+ghost use Rattle.std.specs.Prelude.{◌≡◌, ◌<◌, IsErr, MatchResult, false, length};
 ghost use Rattle.kx_client_node.specs.Clients.{IsDeclined, any_store};
+ghost use Rattle.kx_client_node.specs.Memory.{InputMayLack};
 ghost use Rattle.kx_machine.specs.Meaning.{AtClient, IsTaken, command_of, input_of};
 ghost use Rattle.kx_model.specs.Client.{Does, command, new_client};
 ghost use Rattle.kx_model.specs.Replies.{take_reply};
@@ -8,7 +9,7 @@ ghost use Rattle.kx_model.specs.Replies.{take_reply};
 use kx_client::{ClientFault, ProducerClient};
 use kx_log::LogSlices;
 use kx_machine::{Command, Input, Machine, Messages, Note, Taken};
-use kx_message::{ClientId, Message, Outcome, Timeout, TxnId};
+use kx_message::{ClientId, Message, Offsets, Outcome, Timeout, TxnId};
 use std::alloc::{AllocError, Global};
 use std::marker::Model;
 
@@ -27,8 +28,15 @@ impl Model for ClientMachine {
     ghost view = { λ m. m.client };
 }
 
+// A law: a commit of offsets has at least one.
+fn there_is_one(offsets: &Offsets)
+    ensures { 0 < length offsets.now }
+{
+    offsets.as_slice();
+}
+
 impl ClientMachine {
-    /// A client of this number, with a transactional id where it is to have transactions, each of
+    /// A client of this number, with a transactional id if it is to have transactions, each of
     /// which may stay open for so long. It has sent nothing yet. It takes memory from `alloc` as
     /// requests come.
     pub fn new(alloc: Global, number: ClientId, txn: Option<TxnId>, timeout: Timeout) -> Self
@@ -56,7 +64,7 @@ impl ClientMachine {
     }
 
     // Does what it is told, and sends its requests.
-    #[tactic(auto, using(crate::proofs::Declining::declined))]
+    #[tactic(auto, using(crate::proofs::Declining::declined, crate::proofs::Declining::offsets_declined))]
     fn ask(&mut self, told: &Command) -> Result<Messages, ClientFault>
         ensures { MatchResult result
             (λ sent. command self.old (command_of told.now) ≡ Does self.new sent)
@@ -75,8 +83,8 @@ impl ClientMachine {
             Command::Join(group) => Ok(Messages::one(self.client.join(*group)?)),
             Command::Leave => Ok(Messages::one(self.client.leave()?)),
             Command::Offsets(offsets) => {
-                let offsets = offsets.clone()?;
-                Ok(Messages::one(self.client.offsets(offsets)?))
+                there_is_one(offsets);
+                Ok(Messages::one(self.client.copied_offsets(offsets)?))
             }
             Command::End(Outcome::Commit) => match self.client.commit()? {
                 Some(request) => Ok(Messages::one(request)),
@@ -118,13 +126,15 @@ impl ClientMachine {
     ///
     /// # Errors
     ///
-    /// Only where memory runs out, which may come in place of a refusal; the client is then as
+    /// Only if memory runs out, which is asked for only for what is sent; the client is then as
     /// before.
     pub fn take(&mut self, input: &Input) -> Result<Taken, AllocError>
-        ensures { MatchResult result
+        ensures answer { MatchResult result
             (IsTaken (AtClient self.old) (input_of input.now) any_store
             (λ state. state ≡ AtClient self.new))
             (λ refused. self.new ≡ self.old) }
+        // Every refusal comes before out of memory.
+        ensures memory { IsErr result → InputMayLack self.old (input_of input.now) }
     {
         match input {
             Input::Command(command) => match self.ask(command) {

@@ -1,11 +1,13 @@
 //! The machine of a processor.
-ghost use Rattle.std.specs.Prelude.{◌≡◌, MatchResult, true, false};
+ghost use Rattle.std.specs.Prelude.{◌≡◌, Err, IsErr, MatchResult, OnErr, true, false};
 ghost use Rattle.kx_machine.specs.Meaning.{AtProcessor, IsTaken, command_of, input_of};
 ghost use Rattle.kx_model.specs.Client.{new_client};
 ghost use Rattle.kx_model.specs.Step.{Commands, serves};
-ghost use Rattle.kx_processor.specs.Calls.{IsRefused};
+ghost use Rattle.kx_model.specs.Replies.{is_awaited};
+ghost use Rattle.kx_processor.specs.Calls.{HasPage, IsRefused};
 ghost use Rattle.kx_processor.specs.Running.{processor_of};
 ghost use Rattle.kx_client_node.specs.Clients.{any_store, foreign_fault};
+ghost use Rattle.kx_client_node.specs.Memory.{ProcessorInputMayLack, TurnMayLack};
 ghost use Rattle.kx_system.specs.Processor.{new_processing, processor_step, takes};
 
 use kx_client::{ClientFault, ProducerClient};
@@ -33,7 +35,7 @@ impl<P: Process> Model for ProcessorMachine<P> {
 
 impl<P: Process> ProcessorMachine<P> {
     /// A processor of this number in a group, with its input partitions and its process; it has a
-    /// transactional id where it is to write anything, and each of its transactions may stay open
+    /// transactional id if it is to write anything, and each of its transactions may stay open
     /// for so long. It has sent nothing yet. It takes memory from `alloc` as requests come.
     pub fn new(
         alloc: Global,
@@ -85,11 +87,13 @@ impl<P: Process> ProcessorMachine<P> {
 
     // Does what it is told, and sends its requests.
     fn obey(&mut self, told: &Command) -> Result<Messages, ClientFault>
-        ensures { MatchResult result
+        ensures answer { MatchResult result
             (λ sent. processor_step (processor_of P.image_of self.old)
             (Commands (command_of told.now)) ≡ serves (processor_of P.image_of self.new) sent)
             (λ fault. IsRefused (processor_of P.image_of self.old) (command_of told.now) fault
             (processor_of P.image_of self.new)) }
+        ensures memory { result ≡ Err ClientFault.Memory
+            → TurnMayLack (processor_of P.image_of self.old) (command_of told.now) }
     {
         match told {
             Command::Init => Ok(Messages::one(self.processor.init()?)),
@@ -123,13 +127,15 @@ impl<P: Process> ProcessorMachine<P> {
     ///
     /// # Errors
     ///
-    /// Only where memory runs out; it is asked for only for a page of records; the processor is
-    /// then as before.
+    /// Only if memory runs out; it is asked for only for an awaited page of records; the processor
+    /// is then as before.
     pub fn deliver(&mut self, message: &Message) -> Result<(), AllocError>
-        ensures { MatchResult result
+        ensures answer { MatchResult result
             (λ _. processor_of P.image_of self.new
             ≡ takes (processor_of P.image_of self.old) message.now)
             (λ _. self.new ≡ self.old) }
+        ensures memory { OnErr result ((is_awaited self.old.client message.now ≡ true)
+            × HasPage message.now) }
     {
         self.processor.take(message)
     }
@@ -138,14 +144,17 @@ impl<P: Process> ProcessorMachine<P> {
     ///
     /// # Errors
     ///
-    /// Only where memory runs out, which may come in place of a refusal; the processor is then as
-    /// before.
+    /// Only if memory runs out, which is asked for only for what is sent, or for an awaited page;
+    /// the processor is then as before.
     pub fn take(&mut self, input: &Input) -> Result<Taken, AllocError>
-        ensures { MatchResult result
+        ensures answer { MatchResult result
             (IsTaken (AtProcessor (processor_of P.image_of self.old)) (input_of input.now)
             any_store (λ state. state ≡ AtProcessor (processor_of P.image_of self.new)))
             (λ refused. processor_of P.image_of self.new
             ≡ processor_of P.image_of self.old) }
+        // Every refusal comes before out of memory.
+        ensures memory { IsErr result
+            → ProcessorInputMayLack (processor_of P.image_of self.old) (input_of input.now) }
     {
         match input {
             Input::Command(command) => match self.obey(command) {

@@ -1,5 +1,5 @@
 //! The nodes of a core as they are served together: a node of any kind is one type of machine,
-//! which begins with one type of value, so that nodes of all kinds stand in one list, under locks,
+//! which begins with one type of value, so that nodes of all kinds are in one list, under locks,
 //! and their traces are audited together.
 #![tactic(auto)]
 

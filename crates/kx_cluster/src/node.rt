@@ -16,7 +16,7 @@ pub type LocalNode<F> = Node<LocalMachine<F>>;
 ///
 /// # Errors
 ///
-/// Only where memory runs out.
+/// Only if memory runs out.
 pub fn local_machine<F: Process + Copy>(
     alloc: Global,
     making: AnyMaking<F>,
@@ -29,7 +29,7 @@ pub fn local_machine<F: Process + Copy>(
 ///
 /// # Errors
 ///
-/// Only where memory runs out.
+/// Only if memory runs out.
 pub fn local_node<F: Process + Copy>(
     alloc: Global,
     making: AnyMaking<F>,

@@ -62,7 +62,7 @@ impl Commits {
     ///
     /// # Errors
     ///
-    /// Only where memory runs out.
+    /// Only if memory runs out.
     pub fn reserve(&mut self, id: ProducerId, count: usize) -> Result<(), AllocError>
         ensures same { SameKept (kept_of self.new) (kept_of self.old) }
         ensures room { OnOk result (count ≤ room_for self.new id) }

@@ -15,7 +15,7 @@ ghost use Rattle.kx_model.specs.Produce.{Appends, Next, judge, judge_marker};
 /// What is kept stands for the log of the offsets partition: nothing for the empty log, the same
 /// for the log with a batch without a producer, what a transactional batch that is to come next
 /// says noted for the log with it, and the transaction of a marker that is appended ended for the
-/// log with that, where each batch of a producer with an id is one of a transaction. It gives the
+/// log with that, if each batch of a producer with an id is one of a transaction. It gives the
 /// committed offset by the log's markers, and whether an open transaction has an offset; and of no
 /// group and input partition are more offsets pending than the log has offsets. What is noted and
 /// ended of the same is the same.

@@ -100,7 +100,7 @@ impl Slots {
             .settle(said, outcome);
     }
 
-    /// The transaction of these offsets ended, which stand in order of the log.
+    /// The transaction of these offsets ended, which are in order of the log.
     pub(crate) fn settle_all(&mut self, all: &[SaidOffset], outcome: Outcome)
         requires { All (λ s. has_slot self.old (key_of s) ≡ true) all.now }
         ensures slots { (key : Key) → slot_in self.new key

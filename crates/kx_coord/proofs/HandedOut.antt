@@ -44,7 +44,7 @@ missing_are epoch answered r held outcome h is =
       partitions = filter (λ p. not (is_answered answered r p)) r.partitions;
     }) held outcome h is
 
--- where no marker was answered, none is left out
+-- if no marker was answered, none is left out
 all_pass : (ps : List ℕ) → filter (λ p. true) ps ≡ ps
 all_pass [] = refl
 all_pass (p ∷ ps) = ap (λ qs. p ∷ qs) (all_pass ps)

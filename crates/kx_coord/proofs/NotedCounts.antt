@@ -37,7 +37,7 @@ count_append test [] ys = omega arith
 count_append test (x ∷ xs) ys =
     omega (arith, count_cons test x (xs ++ ys), count_cons test x xs, count_append test xs ys)
 
--- none passes where none is among them
+-- none passes if none is among them
 no_count : {A : Type 0} (test : A → Bool) (xs : List A) → list_any test xs ≡ false
     → count test xs ≡ 0
 no_count test [] e = refl

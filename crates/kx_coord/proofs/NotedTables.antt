@@ -58,7 +58,7 @@ module _ {V : Type 0} (items : V → List AnsweredMarker) where
       ∙ list_any-append (same_answered a) (map (answered_by e.0) (items e.1)) (shown es)
       ∙ ap (λ c. c || list_any (same_answered a) (shown es)) (among a e.0 (items e.1))
 
-  -- none where no entry is of its transactional id
+  -- none if no entry is of its transactional id
   none_shown : (a : Answered) (es : List (List ℕ × V))
       → AllByRecursion (λ t. bytes_eq a.txn t ≡ false) (keys_of es)
       → list_any (same_answered a) (shown es) ≡ false

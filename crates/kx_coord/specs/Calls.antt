@@ -42,12 +42,12 @@ IsWritten old new note true = (has_no_id note ≡ false) × Appends old new note
 IsWritten old new note false = ((old.log.closed ≡ true) × (new ≡ old))
     ⊎ ((has_no_id note ≡ false) × Breaks old new note)
 
--- these messages go out and the markers that the entry owes, where it was appended; else those
+-- these messages go out and the markers that the entry owes, if it was appended; else those
 abbrev pub handed_out : Bool → ℤ → TxnEntry → List Message → List Message → List Message
 handed_out appended epoch note done failed =
     if appended then done ++ markers_after epoch note else failed
 
--- a call that appends an entry first; where an id is missing for it, it is not appended
+-- a call that appends an entry first; if an id is missing for it, it is not appended
 pub data Hands (old new : CoordinatorState) (note : TxnEntry) (done failed handed : List Message)
     : Type 0 where
   HasNoId : has_no_id note ≡ true → new ≡ old → handed ≡ failed

@@ -62,7 +62,7 @@ fn lists(row: &Row, partition: PartitionId, start: u64) -> Result<Answer, AllocE
     Ok(writes(Some(row)))
 }
 
-/// What a partition is answered where the transactional id has a row.
+/// What a partition is answered if the transactional id has a row.
 pub(crate) fn add_row(
     clock: u64,
     row: &Row,

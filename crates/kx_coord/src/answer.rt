@@ -55,7 +55,7 @@ pub(crate) fn own_pair(row: &Row) -> Held
     }
 }
 
-/// The id and epoch of the transaction after a row: those of the next id where it names one.
+/// The id and epoch of the transaction after a row: those of the next id if it names one.
 pub(crate) fn held_after(row: &Row) -> Held
     ensures { result ≡ model.held_after (row_of row.now) }
 {

@@ -80,7 +80,7 @@ fn decides(fresh: Fresh, row: &Row, outcome: Outcome) -> Result<Answer, AllocErr
     Ok(writes(prepared))
 }
 
-/// What a client is answered where the transactional id has a row.
+/// What a client is answered if the transactional id has a row.
 pub(crate) fn end_row(
     fresh: Fresh,
     row: &Row,

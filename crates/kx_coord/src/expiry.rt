@@ -69,7 +69,7 @@ impl<S: Store> Coordinator<S> {
     ///
     /// # Errors
     ///
-    /// Only where memory runs out, and where a transaction has lasted too long and the coordinator
+    /// Only if memory runs out, and if a transaction has lasted too long and the coordinator
     /// isn't closed; then it is as before.
     pub fn expire(&mut self, now: u64) -> Result<Vec<Message>, AllocError>
         ensures ok { IfOk result (λ handed. Expires self.old self.new now handed.items) }

@@ -54,7 +54,7 @@ fn fences_owner(fresh: Fresh, row: &Row) -> Result<Answer, AllocError>
     })
 }
 
-/// What a client is answered where the transactional id has a row.
+/// What a client is answered if the transactional id has a row.
 pub(crate) fn init_row(
     fresh: Fresh,
     client: ClientId,

@@ -15,7 +15,7 @@ use std::alloc::{AllocError, Global};
 ///
 /// # Errors
 ///
-/// Only where memory runs out, and where there are any.
+/// Only if memory runs out, and if there are any.
 pub(crate) fn push_missing(
     messages: &mut Vec<Message>,
     epoch: i32,
@@ -49,7 +49,7 @@ pub(crate) fn push_missing(
 ///
 /// # Errors
 ///
-/// Only where memory runs out.
+/// Only if memory runs out.
 pub(crate) fn push_markers(
     messages: &mut Vec<Message>,
     alloc: Global,
@@ -66,7 +66,7 @@ pub(crate) fn push_markers(
 ///
 /// # Errors
 ///
-/// Only where memory runs out, and where there are any.
+/// Only if memory runs out, and if there are any.
 pub(crate) fn all_missing(
     alloc: Global,
     epoch: i32,
@@ -89,7 +89,7 @@ pub(crate) fn all_missing(
 ///
 /// # Errors
 ///
-/// Only where memory runs out.
+/// Only if memory runs out.
 #[tactic(auto, using(crate::proofs::HandedOut::none_of_all))]
 pub(crate) fn all_markers(
     alloc: Global,

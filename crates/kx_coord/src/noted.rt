@@ -83,7 +83,7 @@ impl NotedMarkers {
     ///
     /// # Errors
     ///
-    /// Only where memory runs out, and where it wasn't noted before; then they are as before.
+    /// Only if memory runs out, and if it wasn't noted before; then they are as before.
     pub(crate) fn note(
         &mut self,
         txn: TxnId,

@@ -24,7 +24,7 @@ struct Reopened {
     handed: Vec<Message>,
 }
 
-// The coordinator's epoch after an entry, where it was this one before.
+// The coordinator's epoch after an entry, if it was this one before.
 fn epoch_after(before: i32, entry: &Entry) -> i32
     ensures { result ≡ model.epoch_after before (note_of entry.now) }
 {
@@ -34,7 +34,7 @@ fn epoch_after(before: i32, entry: &Entry) -> i32
     }
 }
 
-// The epoch of an opening of the log with these entries, where one is left.
+// The epoch of an opening of the log with these entries, if one is left.
 fn next_epoch(entries: &[Entry]) -> Option<i32>
     ensures { MatchOption result (reopen (map note_of entries.now) ≡ None)
         (λ epoch. reopen (map note_of entries.now) ≡ Some (model.CoordinatorEpoch epoch)) }
@@ -81,10 +81,10 @@ impl<S: Store> Coordinator<S> {
     ///
     /// # Errors
     ///
-    /// The store comes back beside the fault: [`OpenFault::Device`] where its device failed,
+    /// The store comes back beside the fault: [`OpenFault::Device`] if its device failed,
     /// [`OpenFault::Damaged`] with the place where something else than the next entry begins,
-    /// [`OpenFault::UsedUp`] where the log's last coordinator epoch is 2^31 - 1, and
-    /// [`OpenFault::Memory`] where memory runs out, which may come in place of damage that stands
+    /// [`OpenFault::UsedUp`] if the log's last coordinator epoch is 2^31 - 1, and
+    /// [`OpenFault::Memory`] if memory runs out, which may come in place of damage that is
     /// further on, but not once a log was read whose epochs are used up.
     // Out of memory, or epochs used up, may come after the torn tail was cut off; all else is as
     // before.
@@ -124,9 +124,9 @@ impl<S: Store> Coordinator<S> {
     /// # Errors
     ///
     /// [`RestartFault::Unopened`] with a fault of [`open`](Coordinator::open): after
-    /// [`OpenFault::Device`], where the log couldn't be read, and [`OpenFault::Damaged`] the
+    /// [`OpenFault::Device`], if the log couldn't be read, and [`OpenFault::Damaged`] the
     /// coordinator is closed, and else as before; after the others it is as before.
-    /// [`RestartFault::Unwritten`] where the device failed in the append of the coordinator epoch:
+    /// [`RestartFault::Unwritten`] if the device failed in the append of the coordinator epoch:
     /// the coordinator is then as its log was read again, and closed.
     pub fn restart(&mut self, now: u64) -> Result<Vec<Message>, RestartFault>
         ensures { MatchResult result

@@ -45,7 +45,7 @@ impl<S: Store> Coordinator<S> {
     }
 
     // Appends an entry. Sends this message and the markers that the entry owes, or the other one
-    // where it wasn't appended.
+    // if it wasn't appended.
     fn write(
         &mut self,
         entry: Entry,
@@ -132,12 +132,12 @@ impl<S: Store> Coordinator<S> {
     }
 
     /// A client asks for an id and an epoch, with a transactional id or without one, and with the
-    /// timeout of its transactions. Sends its reply, and after it, where the owner before is
+    /// timeout of its transactions. Sends its reply, and after it, if the owner before is
     /// fenced, the markers of its transaction.
     ///
     /// # Errors
     ///
-    /// Only where memory runs out; then the coordinator is as before.
+    /// Only if memory runs out; then the coordinator is as before.
     pub fn init(&mut self, request: InitProducerId) -> Result<Vec<Message>, AllocError>
         ensures ok { IfOk result (λ handed. Responds self.old self.new
             (model.init self.old.log.notes request.caller.client request.txn request.timeout)
@@ -157,7 +157,7 @@ impl<S: Store> Coordinator<S> {
     ///
     /// # Errors
     ///
-    /// Only where memory runs out; then the coordinator is as before.
+    /// Only if memory runs out; then the coordinator is as before.
     pub fn add_partition(&mut self, request: AddPartition) -> Result<Vec<Message>, AllocError>
         ensures ok { IfOk result (λ handed. Responds self.old self.new
             (model.add self.old.log.notes self.old.clock request.txn request.held
@@ -174,7 +174,7 @@ impl<S: Store> Coordinator<S> {
     ///
     /// # Errors
     ///
-    /// Only where memory runs out; then the coordinator is as before.
+    /// Only if memory runs out; then the coordinator is as before.
     pub fn end_txn(&mut self, request: EndTxn) -> Result<Vec<Message>, AllocError>
         ensures ok { IfOk result (λ handed. Responds self.old self.new
             (model.end_txn self.old.log.notes request.txn request.held request.outcome)

@@ -15,7 +15,7 @@ use kx_message::{ClientId, Epoch, Outcome, PartitionId, ProducerId, Timeout, Txn
 use kx_txnlog::{Cause, Partitions, Row, State};
 use std::alloc::{AllocError, Global};
 
-/// The next id, where one is left, and where memory is taken from.
+/// The next id, if one is left, and where memory is taken from.
 #[derive(Clone, Copy)]
 pub(crate) struct Fresh {
     pub(crate) alloc: Global,

@@ -85,12 +85,12 @@ impl<S: Store> Coordinator<S> {
         Ok(())
     }
 
-    /// A partition answers a marker of the transaction that ends with this id and epoch. Where it
+    /// A partition answers a marker of the transaction that ends with this id and epoch. If it
     /// is the last one of its row, the row is complete. Sends nothing.
     ///
     /// # Errors
     ///
-    /// Only where memory runs out, and where the reply is noted for the first time, or completes
+    /// Only if memory runs out, and if the reply is noted for the first time, or completes
     /// its row and the coordinator isn't closed; then the coordinator is as before.
     pub fn marker_reply(&mut self, reply: MarkerReply) -> Result<Vec<Message>, AllocError>
         ensures settles { MatchResult result

@@ -23,7 +23,7 @@ pub(crate) struct Table {
     pub(crate) epoch: i32,
 }
 
-// One above the id, 0 where there is none.
+// One above the id, 0 if there is none.
 fn above(id: Option<ProducerId>) -> u64
     ensures value { result ≡ model.above id }
     ensures most { result ≤ id_limit }
@@ -62,7 +62,7 @@ impl Table {
     ///
     /// # Errors
     ///
-    /// Only where memory runs out.
+    /// Only if memory runs out.
     pub(crate) fn of_entries(alloc: Global, entries: &[Entry]) -> Result<Table, AllocError>
         ensures { IfOk result (λ table.
             Follows (map note_of entries.now) table.rows.entries table.next_id table.epoch) }
@@ -87,7 +87,7 @@ impl Table {
     ///
     /// # Errors
     ///
-    /// Only where memory runs out.
+    /// Only if memory runs out.
     pub(crate) fn reserve(&mut self) -> Result<(), AllocError>
         ensures same { self.new.rows.entries ≡ self.old.rows.entries }
         ensures next { self.new.next_id ≡ self.old.next_id }
@@ -98,7 +98,7 @@ impl Table {
         Ok(())
     }
 
-    /// Notes an entry that was appended, where this is one above all ids that it names.
+    /// Notes an entry that was appended, if this is one above all ids that it names.
     pub(crate) fn note(&mut self, entry: Entry, above: u64)
         requires room { 0 < spare self.old.rows }
         requires above { above ≡ model.above_ids (note_of entry) }
@@ -141,7 +141,7 @@ impl Table {
         self.rows.values().as_slice()
     }
 
-    /// The next id, where one is left.
+    /// The next id, if one is left.
     pub(crate) fn next_id(&self) -> Option<ProducerId>
         ensures { (log : List TxnEntry)
             → Follows log self.now.rows.entries self.now.next_id self.now.epoch

@@ -28,7 +28,7 @@ use Rattle.kx_coord_node.proofs.Logs.{read_as, read_left, read_whole}
 use Rattle.kx_coord_node.proofs.Stores.{bytes_in, entry_size, left, left_within, none_appended}
 use Rattle.kx_coord_node.proofs.Stores.{some_store, wrote}
 
--- what the store holds, where the log isn't closed
+-- what the store holds, if the log isn't closed
 abbrev pub IsHeld : CoordinatorState → Type 0
 IsHeld c = c.log.closed ≡ false → Holds c.log.store.bytes c.log.notes
 

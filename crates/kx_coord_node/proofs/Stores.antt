@@ -57,7 +57,7 @@ fails_some keep z none = (
   subst (λ (o : Option ℕ). IfSome o (λ bytes. nat_lt 0 keep ≡ nat_le bytes keep)) (sym none) tt,
 )
 
--- there is one, where nothing is appended
+-- there is one, if nothing is appended
 pub some_store : (appends : AppendPlan) (loads : LoadPlan) (z : Option ℕ) → z ≡ None
     → (store : Store) × Allows appends loads z store
 some_store AppendsWork LoadsWork z none = (Works, refl)
@@ -100,7 +100,7 @@ reopened (FailsBehind ahead keep) NextLoadFails z may read = tt
 reopened (FailsBehind ahead keep) AnyLoadMayFail z may read = tt
 reopened AnyMayFail loads z may read = tt
 
--- a load that worked, where nothing is appended
+-- a load that worked, if nothing is appended
 pub readable : (appends : AppendPlan) (loads : LoadPlan) (z : Option ℕ) → z ≡ None → MayLoad loads
     → (store : Store) × Allows appends loads z store × (store ≡ CannotLoad → ⊥)
 readable AppendsWork LoadsWork z none read = (Works, refl, λ e. absurd cc)

@@ -53,7 +53,7 @@ answer_of old new handed = record {
   found = false;
 }
 
--- what is answered where the log was closed before, or wasn't
+-- what is answered if the log was closed before, or wasn't
 pub answered_so : (old new : CoordinatorState) (handed : List Message) (was : Bool) (t : Taken)
     → t ≡ record {
       messages = handed;

@@ -82,7 +82,7 @@ impl<S: Store> CoordinatorMachine<S> {
         &self.coordinator
     }
 
-    // Whether its log is closed. Where it isn't, the store holds its entries, and nothing more.
+    // Whether its log is closed. If it isn't, the store holds its entries, and nothing more.
     fn is_closed(&self) -> bool
         ensures value { result ≡ self.now.log.closed }
         ensures holds { self.now.log.closed ≡ false
@@ -93,7 +93,7 @@ impl<S: Store> CoordinatorMachine<S> {
         self.coordinator.is_closed()
     }
 
-    // What it answers with these messages, where its log was closed before, or wasn't.
+    // What it answers with these messages, if its log was closed before, or wasn't.
     fn answer(&self, was_closed: bool, messages: Vec<Message>) -> Taken
         ensures { result ≡ record {
           messages = messages.items;
@@ -212,7 +212,7 @@ impl<S: Store> CoordinatorMachine<S> {
         self.coordinator.entry_count().saturating_sub(before)
     }
 
-    // What it answers where a restart failed.
+    // What it answers if a restart failed.
     fn refusal(&self, note: Note, failed: bool, found: bool) -> Taken
         ensures { result ≡ record {
           messages = [];
@@ -229,7 +229,7 @@ impl<S: Store> CoordinatorMachine<S> {
         }
     }
 
-    // It is opened again, at this time. A restart appends one entry, and finds one more where an
+    // It is opened again, at this time. A restart appends one entry, and finds one more if an
     // append that had failed left the whole of its entry.
     fn restart(&mut self, now: u64) -> Result<Taken, AllocError>
         ensures { MatchResult result (Takes (Restarts now) self.old self.new)

@@ -217,7 +217,7 @@ module _ {F : Type 0} (image_of : F → Images) (Stand : System → Type 0) wher
       failed_is = works;
     }
 
------- no node changes where a request arrives
+------ no node changes if a request arrives
 
 pub request_arrived : {C P O F : Type 0} (Coordinates : NodeState → C → Type 0)
     (Serves : NodeState → P → Type 0) (Groups : NodeState → O → Type 0) (image_of : F → Images)

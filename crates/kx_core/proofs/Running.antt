@@ -169,7 +169,7 @@ module _ {C P O F : Type 0} (Coordinates : NodeState → C → Type 0)
         failed_is = h.failed_is;
       }
 
-      -- the same, where what was sent is named otherwise
+      -- the same, if what was sent is named otherwise
       pub stepped : (steps : List (List Message)) → steps ≡ before.steps ++ taken.messages ∷ []
           → Steps image_of s given
           (Run (record { nodes = after; steps = steps; arrived = arrived })) (answer_of taken)
@@ -203,7 +203,7 @@ module _ {C P O F : Type 0} (Coordinates : NodeState → C → Type 0)
         OneMore s given (more ++ one ∷ []) happened is
         (runs_more before after (open_system_step s happened).0 more one answer goes rest)
 
-    -- the same, where nothing more happened
+    -- the same, if nothing more happened
     pub runs_still : (before after : Running C P O F) (s : System)
         (given : List (happening.Event F)) → ((t : System) → Run before t → Run after t)
         → Runs image_of (Run before) s given → Runs image_of (Run after) s given

@@ -57,7 +57,7 @@ whole_if keep true size nothing e = (
 whole_if keep false size nothing e =
     (λ none. refl, λ le. absurd (not_at_most _ _ e le), any_fit keep false size nothing)
 
--- there is a store of each mode, where nothing is appended
+-- there is a store of each mode, if nothing is appended
 pub a_store : (m : StoreMode) (size : Option ℕ) → size ≡ None
     → (store : Store) × IsMode m size store
 a_store mode.Works size nothing = (Works, refl)
@@ -352,7 +352,7 @@ module _ {C P O F : Type 0} (Coordinates : NodeState → C → Type 0) (Serves :
             ∙ ap (fails_at w (node.Partition number)) (sym done);
       }
 
-  -- the same, where the place among the servers is named otherwise
+  -- the same, if the place among the servers is named otherwise
   pub by_server : (nodes : Nodes C P O F) (w : World) (number place : ℕ) (m : StoreMode)
       (input : Input) (p : Partition) (after : P) (taken : Taken) → Stand nodes w
       → number ≢ offsets_partition → place ≡ number → slice_get w.partitions number ≡ Some p

@@ -131,7 +131,7 @@ fails_in s place after = fails_at s.world place (after.0.world, after.1)
 abbrev pub store_fails : System → SystemEvent → Bool
 store_fails s event = fails_in s (place_of event) (system_step s event)
 
--- no store fails where a request arrives
+-- no store fails if a request arrives
 abbrev pub open_store_fails : System → OpenSystemEvent → Bool
 open_store_fails s (Inside event) = store_fails s event
 open_store_fails s (Arrives request) = false
@@ -241,7 +241,7 @@ abbrev pub IsInside : OpenSystemEvent → Type 0
 IsInside (Inside event) = Unit {0}
 IsInside (Arrives request) = ⊥
 
--- an open schedule led to the system, for which the running world stands; where no request arrived
+-- an open schedule led to the system, for which the running world stands; if no request arrived
 -- from outside, each of its events is one of the system itself
 pub record IsRun {C P O F : Type 0} (Coordinates : NodeState → C → Type 0)
     (Serves : NodeState → P → Type 0) (Groups : NodeState → O → Type 0) (image_of : F → Images)

@@ -58,7 +58,7 @@ impl<F: Process> Clients<F> {
     ///
     /// # Errors
     ///
-    /// Only where memory runs out; then they are as before.
+    /// Only if memory runs out; then they are as before.
     pub(crate) fn add(&mut self, one: AnyClient<F>) -> Result<(), AllocError>
         requires { is_new (client_of one).number (clients_in self.old) ≡ true }
         ensures { MatchResult result (λ done. self.new ≡ self.old ++ one ∷ [])
@@ -99,11 +99,11 @@ impl<F: Process> Clients<F> {
         Some(&self.clients[place])
     }
 
-    /// The client of this number takes what it is handed; nothing happens where there is none.
+    /// The client of this number takes what it is handed; nothing happens if there is none.
     ///
     /// # Errors
     ///
-    /// Only where memory runs out; then they are as before.
+    /// Only if memory runs out; then they are as before.
     pub(crate) fn take(
         &mut self,
         number: ClientId,

@@ -25,7 +25,7 @@ pub enum Event<F: Process> {
         process: F,
     },
     /// The message of this number, counted from 0 among all that were ever sent, comes to a node,
-    /// whose store does this meanwhile. Where there is no such message, or no such node, nothing
+    /// whose store does this meanwhile. If there is no such message, or no such node, nothing
     /// happens.
     Deliver {
         number: usize,

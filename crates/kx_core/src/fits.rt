@@ -1,4 +1,4 @@
-//! Events hold numbers, names and bytes within their ranges, as their types see to. What stands
+//! Events hold numbers, names and bytes within their ranges, as their types see to. What is
 //! here changes nothing when it runs.
 //!
 //! Each value of an event is read once before the step: a list of texts says of no byte that it is

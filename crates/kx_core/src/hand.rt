@@ -19,7 +19,7 @@ pub(crate) enum Given<'a> {
 ///
 /// # Errors
 ///
-/// Only where memory runs out; then it stands for what it stood for.
+/// Only if memory runs out; then it stands for what it stood for.
 pub(crate) fn take<M: Machine>(machine: &mut M, handed: Given<'_>) -> Result<Taken, AllocError>
     ensures { (state : NodeState) → M.stands state machine.old → MatchResult result
         (IsTaken state (given handed.entry) (M.allows machine.old) (λ s. M.stands s machine.new))

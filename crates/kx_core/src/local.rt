@@ -129,7 +129,7 @@ impl<F: Process + Copy> World<
     ///
     /// # Errors
     ///
-    /// For an error where memory runs out.
+    /// For an error if memory runs out.
     pub fn new(alloc: Global, config: Config) -> Result<LocalWorld<F>, AllocError>
         ensures stands { IfOk result (λ world.
             IsLocal F.image_of world (start_system config.partitions)) }
@@ -142,14 +142,14 @@ impl<F: Process + Copy> World<
     }
 
     /// A page of a data partition, borrowed from its log: from the batch that holds the offset
-    /// `from` on, as many as have at most `max` bytes in all, and at least one where there is one,
+    /// `from` on, as many as have at most `max` bytes in all, and at least one if there is one,
     /// of committed records or of all (Kafka's Fetch; KIP-98, "READ_COMMITTED"). A reader of
     /// committed records gets exactly what is visible by the coordinator's decisions.
     ///
     /// # Errors
     ///
     /// Those of [`Partition::fetch`](kx_partition::Partition::fetch), and
-    /// [`FetchFault::Refused`] with `UnknownTopicOrPartition` where there is no such partition.
+    /// [`FetchFault::Refused`] with `UnknownTopicOrPartition` if there is no such partition.
     pub fn fetch(
         &self,
         partition: PartitionId,
@@ -162,7 +162,7 @@ impl<F: Process + Copy> World<
             (λ fault. FetchRefuses (answer_to (log_at s.world partition) from max committed) fault
             ⊎ ((data_partition_at s.world partition ≡ None)
             × (fault ≡ Refused UnknownTopicOrPartition))) }
-        // Where there is no such partition, that is told.
+        // If there is no such partition, that is told.
         ensures missing { (s : System) → IsLocal F.image_of self.now s
             → data_partition_at s.world partition ≡ None → MatchResult result (λ page. ⊥)
             (λ fault. fault ≡ Refused UnknownTopicOrPartition) }
@@ -179,7 +179,7 @@ impl<F: Process + Copy> World<
         }
     }
 
-    /// The last stable offset of a data partition, where there is the partition: the first offset
+    /// The last stable offset of a data partition, if there is the partition: the first offset
     /// of its earliest open transaction, or its end (KIP-98, "READ_COMMITTED"). Each transaction
     /// that is open there is owed its marker by the coordinator.
     pub fn last_stable_offset(&self, partition: PartitionId) -> Option<i64>
@@ -197,8 +197,8 @@ impl<F: Process + Copy> World<
         Some(server.partition().lso())
     }
 
-    /// A group's committed offset of a data partition that it reads, -1 where there is none, or the
-    /// code that one is pending where a stable one is asked for (KIP-447). It is that of the last
+    /// A group's committed offset of a data partition that it reads, -1 if there is none, or the
+    /// code that one is pending if a stable one is asked for (KIP-447). It is that of the last
     /// transaction that the coordinator decided to commit.
     pub fn committed_offset(
         &self,

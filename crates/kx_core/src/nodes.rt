@@ -157,12 +157,12 @@ impl<C: Failing, P: Failing, O: Failing, F: Process + Copy> Nodes<C, P, O, F> {
         Ok(taken)
     }
 
-    /// A node takes what it is handed, while its store does this; where there is no such node,
+    /// A node takes what it is handed, while its store does this; if there is no such node,
     /// nothing happens.
     ///
     /// # Errors
     ///
-    /// Only where memory runs out; then all stand for what they stood for.
+    /// Only if memory runs out; then all stand for what they stood for.
     pub(crate) fn hand(
         &mut self,
         to: &NodeId,
@@ -229,11 +229,11 @@ impl<C: Failing, P: Failing, O: Failing, F: Process + Copy> Nodes<C, P, O, F> {
         self.clients.add(AnyClient::Processor(processor))
     }
 
-    /// An event happens, where these messages were sent before it.
+    /// An event happens, if these messages were sent before it.
     ///
     /// # Errors
     ///
-    /// Only where memory runs out; then all stand for what they stood for.
+    /// Only if memory runs out; then all stand for what they stood for.
     pub(crate) fn step(&mut self, sent: &Sent, event: &Event<F>) -> Result<Taken, AllocError>
         ensures { (s : System) → StandForAll C.stands P.stands O.stands F.image_of self.old s
             → joined sent.now.steps ≡ s.world.sent → MatchResult result

@@ -29,7 +29,7 @@ use std::marker::Model;
 
 /// A world: its nodes, and all messages that were ever sent. Whatever happened, it stands for a
 /// system of the definitions to which an open schedule led, and so keeps the promises that need no
-/// trust in clients; where no request arrived from outside, it keeps all promises of exactly-once
+/// trust in clients; if no request arrived from outside, it keeps all promises of exactly-once
 /// semantics (KIP-98, KIP-447, KIP-890). Its processors, of any process, are part of it.
 #[derive(Drop)]
 pub struct World<C: Failing, P: Failing, O: Failing, F: Process> {
@@ -95,10 +95,10 @@ impl<C: Failing, P: Failing, O: Failing, F: Process + Copy> World<C, P, O, F> {
     ///
     /// # Errors
     ///
-    /// Only where memory runs out, or of numbers for messages after the first 2^62; then the world
+    /// Only if memory runs out, or of numbers for messages after the first 2^62; then the world
     /// stands for what it stood for.
     // Room for the messages is made before the step, since a step that was made isn't taken back;
-    // so a line of a script may print `lost` where the client would refuse.
+    // so a line of a script may print `lost` if the client would refuse.
     pub fn happen(&mut self, event: &Event<F>) -> Result<Happened, AllocError>
         ensures step { (s : System) → IsRun C.stands P.stands O.stands F.image_of self.old s
             → MatchResult result
@@ -138,7 +138,7 @@ impl<C: Failing, P: Failing, O: Failing, F: Process + Copy> World<C, P, O, F> {
     ///
     /// # Errors
     ///
-    /// Only where memory runs out, or of numbers for messages after the first 2^62; then the world
+    /// Only if memory runs out, or of numbers for messages after the first 2^62; then the world
     /// stands for what it stood for.
     pub fn step(&mut self, event: &Event<F>) -> Result<Note, AllocError>
         ensures step { (s : System) → IsRun C.stands P.stands O.stands F.image_of self.old s
@@ -236,7 +236,7 @@ impl<C: Failing, P: Failing, O: Failing, F: Process + Copy> World<C, P, O, F> {
         self.nodes.partitions.len()
     }
 
-    /// The server of a data partition, borrowed, where there is the partition.
+    /// The server of a data partition, borrowed, if there is the partition.
     pub fn partition(&self, number: PartitionId) -> Option<&P>
         ensures { (s : System) → IsRun C.stands P.stands O.stands F.image_of self.now s
             → MatchOption result (data_partition_at s.world number ≡ None)
@@ -256,7 +256,7 @@ impl<C: Failing, P: Failing, O: Failing, F: Process + Copy> World<C, P, O, F> {
         &self.nodes.offsets
     }
 
-    /// The client of a number, borrowed, where there is one.
+    /// The client of a number, borrowed, if there is one.
     pub fn client(&self, number: ClientId) -> Option<&AnyClient<F>>
         ensures { (s : System) → IsRun C.stands P.stands O.stands F.image_of self.now s
             → MatchOption result (client_at s.world number ≡ None)

@@ -101,7 +101,7 @@ fn count_doubles(alloc: Global, values: Vec<&[u8]>) -> Result<usize, AllocError>
 ///
 /// # Errors
 ///
-/// Only where memory runs out.
+/// Only if memory runs out.
 pub fn count(alloc: Global, run: &Found) -> Result<Counts, AllocError>
     ensures { IfOk result (AreCounts (any_state images_of) run.now) }
 {

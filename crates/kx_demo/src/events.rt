@@ -159,7 +159,7 @@ fn write_log<W: Write>(run: &Found, number: usize, out: &mut W) -> Result<(), De
 ///
 /// # Errors
 ///
-/// `Write` where the output can't be written, `Memory` where memory runs out; part of it may be
+/// `Write` if the output can't be written, `Memory` if memory runs out; part of it may be
 /// written then.
 pub fn write_run<W: Write>(alloc: Global, run: &Found, out: &mut W) -> Result<(), DemoFault> {
     write_events(alloc, run, out)?;

@@ -37,7 +37,7 @@ fn write_drawn<W: Write>(alloc: Global, run: &Run, out: &mut W) -> Result<(), De
 ///
 /// # Errors
 ///
-/// `Page` where the output can't be written, `Memory` where memory runs out; part of it may be
+/// `Page` if the output can't be written, `Memory` if memory runs out; part of it may be
 /// written then.
 pub fn write_page<W: Write>(alloc: Global, run: &Found, out: &mut W) -> Result<(), DemoFault>
     ensures written { OnOk result

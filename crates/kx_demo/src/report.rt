@@ -124,7 +124,7 @@ fn judge<W: Write, P: Write>(
 /// Plays the demonstration, audits it, and prints what the audited run has: `inputs`, `outputs` and
 /// `doubles`, each with its count, and `audit yes`; or else `audit no` and the number of the
 /// audit's fault, or `gave up`. Says whether the audit said yes. If it did, what happened is written
-/// into `events`, one line an event, and into `page`, as a page in HTML, where these are asked for.
+/// into `events`, one line an event, and into `page`, as a page in HTML, if these are asked for.
 ///
 /// # Errors
 ///

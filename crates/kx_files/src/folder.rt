@@ -13,7 +13,7 @@ pub(crate) fn keep_name<R: Files>(rt: &R, path: &str) -> io::Result<()> {
     File::open(rt, folder)?.sync_all()
 }
 
-// Makes a folder where there is none, in one that is there.
+// Makes a folder if there is none, in one that is there.
 fn make_one<R: Files>(rt: &R, path: &str) -> io::Result<()> {
     match fs::create_dir(rt, path) {
         Ok(()) => keep_name(rt, path),
@@ -22,13 +22,13 @@ fn make_one<R: Files>(rt: &R, path: &str) -> io::Result<()> {
     }
 }
 
-/// Makes a folder, and those that it lies in, where they are missing. The device then has the name
+/// Makes a folder, and those that it lies in, if they are missing. The device then has the name
 /// of each that was made, and of the last one in any case: it may have been made by a process that
 /// was killed before the device had its name.
 ///
 /// # Errors
 ///
-/// Where a folder can't be made or synced, also as something else has its name.
+/// If a folder can't be made or synced, also as something else has its name.
 pub fn make_folder<R: Files + AllocGlobal>(rt: &R, path: &str) -> io::Result<()> {
     let folders: Vec<Path<'_>> = Path::new(path).ancestors().collect(rt.alloc())?;
     for folder in folders.iter().rev() {

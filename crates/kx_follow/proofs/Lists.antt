@@ -27,7 +27,7 @@ map_set {A} {B} f (z ∷ xs) zero x y at e =
 map_set {A} {B} f (z ∷ xs) (suc k) x y at e =
     ap (λ (l : List B). f z ∷ l) (map_set f xs k x y at e)
 
--- where an element was, the changed one is, or it is still there
+-- if an element was, the changed one is, or it is still there
 pub set_there : {A : Type 0} (xs : List A) (k : ℕ) (y : A) (j : ℕ) (x : A)
     → slice_get xs j ≡ Some x
     → ((j ≡ k) × (slice_get (slice_set xs k y) j ≡ Some y)) ⊎ (slice_get (slice_set xs k y) j ≡ Some x)
@@ -48,7 +48,7 @@ get_push (z ∷ xs) y zero x e = inl e
 get_push (z ∷ xs) y (suc k) x e =
     ⊎_elim (λ t. inl t) (λ t. inr (ap suc t.0, t.1)) (get_push xs y k x e)
 
--- where an element was, the changed one is
+-- if an element was, the changed one is
 pub set_here : {A : Type 0} (xs : List A) (k : ℕ) (y x : A) → slice_get xs k ≡ Some x
     → slice_get (slice_set xs k y) k ≡ Some y
 set_here [] k y x e = absurd cc

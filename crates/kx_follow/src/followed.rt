@@ -48,7 +48,7 @@ impl<B: Remade> FollowedNode<B> {
     ///
     /// # Errors
     ///
-    /// Only where memory runs out.
+    /// Only if memory runs out.
     pub(crate) fn take(&mut self, input: &Input, mode: StoreMode) -> Result<Taken, AllocError>
         ensures made { self.new.made ≡ self.old.made }
         ensures steps { IfOk result (λ taken. (node : NodeState)

@@ -77,7 +77,7 @@ impl<B: Remade> Follower<B> {
     ///
     /// # Errors
     ///
-    /// `DuplicateNode` where two of them have one name.
+    /// `DuplicateNode` if two of them have one name.
     pub fn new(alloc: Global, nodes: Vec<FollowedNode<B>>) -> Result<Follower<B>, FollowFault>
         ensures nodes { IfOk result (λ f. f.nodes ≡ nodes.items) }
         ensures made { IfOk result (λ f. (before : List Passed)
@@ -117,13 +117,13 @@ impl<B: Remade> Follower<B> {
     }
 
     /// Makes one more step: the node of this number, counted from 0 as they were given, takes the
-    /// input, and its store does as `mode` says. None where it is a message that is no client's
-    /// request and that no step before it sent, or that was taken as often as it was sent, or where
+    /// input, and its store does as `mode` says. None if it is a message that is no client's
+    /// request and that no step before it sent, or that was taken as often as it was sent, or if
     /// there is no such node; then there was no step, and nothing changed.
     ///
     /// # Errors
     ///
-    /// Only where memory runs out. Then the steps can't be followed any further.
+    /// Only if memory runs out. Then the steps can't be followed any further.
     pub fn take(
         &mut self,
         node: usize,
@@ -151,7 +151,7 @@ impl<B: Remade> Follower<B> {
         Ok(Some(taken))
     }
 
-    /// The machine of the node of this number, borrowed; None where there is no such node.
+    /// The machine of the node of this number, borrowed; None if there is no such node.
     pub fn machine(&self, node: usize) -> Option<&B::Machine>
         ensures { MatchOption result (slice_get self.now.nodes node ≡ None)
             (λ machine. (n : Followed B B.Machine) × (slice_get self.now.nodes node ≡ Some n)
@@ -164,7 +164,7 @@ impl<B: Remade> Follower<B> {
     ///
     /// # Errors
     ///
-    /// Only where memory runs out.
+    /// Only if memory runs out.
     pub fn into_machines(self) -> Result<Vec<B::Machine>, AllocError>
         ensures { IfOk result (λ machines. machines.items ≡ map (λ n. n.machine) self.nodes) }
     {

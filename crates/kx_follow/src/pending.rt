@@ -76,7 +76,7 @@ impl Pending {
     ///
     /// # Errors
     ///
-    /// Only where memory runs out; some of them are added then.
+    /// Only if memory runs out; some of them are added then.
     pub(crate) fn add_all(&mut self, messages: &[Message]) -> Result<(), AllocError>
         ensures { OnOk result ((sent : List Message) → AreSent sent self.old
             → AreSent (sent ++ messages.now) self.new) }
@@ -91,7 +91,7 @@ impl Pending {
     ///
     /// # Errors
     ///
-    /// Only where memory runs out.
+    /// Only if memory runs out.
     pub(crate) fn take_out(&mut self, message: &Message) -> Result<bool, AllocError>
         ensures left { OnOk result ((sent : List Message) → AreSent sent self.old
             → AreSent sent self.new) }

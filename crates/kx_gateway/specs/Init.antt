@@ -37,7 +37,7 @@ init_ask caller None timeout id epoch =
 init_ask caller (Some txn) timeout id epoch =
     with_txn (name_with txn) (timeout_of timeout) (optional_held_with id epoch)
 
--- no throttling; the code, and the id and the epoch, which are -1 where there are none
+-- no throttling; the code, and the id and the epoch, which are -1 if there are none
 abbrev pub init_with : ℤ → Option Held → Values init_producer_id_response
 init_with code None = (pos 0, (code, (negsuc 0, (negsuc 0, tt))))
 init_with code (Some held) = (pos 0, (code, (pos held.id, (pos held.epoch, tt))))

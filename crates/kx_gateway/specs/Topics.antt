@@ -67,7 +67,7 @@ add_fault table name count =
     else (if count == 0 || nat_lt (data_partitions - partitions_of table) count
     then Some fault.Count else None))
 
--- each topic could be made where the table had those before it alone
+-- each topic could be made if the table had those before it alone
 abbrev pub IsTableAfter : List Entry → List Entry → Type 0
 IsTableAfter front [] = Unit {0}
 IsTableAfter front (e ∷ table) =

@@ -90,7 +90,7 @@ pub enum FetchAsk {
 }
 
 /// What the core is asked for a partition that a client reads, or with which code it is refused,
-/// the first that fits: 42 for an isolation level that Kafka has none of; 3 where the partition
+/// the first that fits: 42 for an isolation level that Kafka has none of; 3 if the partition
 /// isn't there.
 #[tactic(auto, unfolding(crate::specs::Fetch::fetch_ask))]
 pub fn ask_fetch(
@@ -123,7 +123,7 @@ pub fn ask_fetch(
 ///
 /// # Errors
 ///
-/// Only where memory runs out.
+/// Only if memory runs out.
 pub fn aborted_of(alloc: Global, reply: &FetchReply) -> Result<Vec<AbortedTransaction>, AllocError>
     ensures { IfOk result (λ list. list.items ≡ map aborted_of reply.now.aborted) }
 {
@@ -140,7 +140,7 @@ pub fn aborted_of(alloc: Global, reply: &FetchReply) -> Result<Vec<AbortedTransa
 
 /// What a partition of a response says of the core's reply: the end of its log as the high
 /// watermark, its last stable offset, its aborted transactions for a reader of committed records
-/// alone, and the reply's records, or none where they aren't sent.
+/// alone, and the reply's records, or none if they aren't sent.
 pub fn fetched<'a>(
     index: i32,
     committed: bool,

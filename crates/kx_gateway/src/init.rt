@@ -48,7 +48,7 @@ fn timeout_with(millis: u32) -> Option<Timeout>
     Timeout::try_from(millis).ok()
 }
 
-// The timeout of a producer with a transactional id, where it is one of the core's.
+// The timeout of a producer with a transactional id, if it is one of the core's.
 fn timeout_of(millis: i32) -> Option<Timeout>
     ensures { result ≡ timeout_of millis }
 {
@@ -59,7 +59,7 @@ fn timeout_of(millis: i32) -> Option<Timeout>
     }
 }
 
-// The id and the epoch that a producer says it has, or none where both are -1.
+// The id and the epoch that a producer says it has, or none if both are -1.
 fn optional_held(id: i64, epoch: i16) -> Option<Option<Held>>
     ensures { result ≡ optional_held_with id epoch }
 {
@@ -73,7 +73,7 @@ fn optional_held(id: i64, epoch: i16) -> Option<Option<Held>>
 /// What becomes of a producer's request for an id. The core is asked for one without a
 /// transactional id, with a timeout of 60,000 milliseconds whatever the client asked. With a
 /// transactional id it is the first that fits: refused with code 53 for an id that the core can't
-/// hold; with 50 for a timeout other than 1 to 900,000 milliseconds; with 42 where the producer's
+/// hold; with 50 for a timeout other than 1 to 900,000 milliseconds; with 42 if the producer's
 /// id and epoch are neither both -1 nor both 0 or more; else the grant decides.
 pub fn ask_init(caller: Caller, request: &InitProducerIdRequest<'_>) -> InitAsk
     ensures { result ≡ init_ask caller (option_map (λ s. s.now) request.now.transactional_id)

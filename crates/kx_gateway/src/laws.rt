@@ -32,7 +32,7 @@ pub fn lines_are_read_as_written()
         → IsBadLine text number → ⊥ }
 {}
 
-/// A law: where no partition's page is longer than the largest batch, neither are the records of a
+/// A law: if no partition's page is longer than the largest batch, neither are the records of a
 /// response; and they are no longer than the request's limit, or than the first page that has some.
 pub fn fetches_stay_within_limits()
     ensures room { (most : ℤ) (pages : List (ℤ × ℕ)) → All (λ page. page.1 ≤ batch_limit) pages

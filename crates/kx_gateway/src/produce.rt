@@ -144,15 +144,15 @@ fn append_to<'a>(
 }
 
 /// What becomes of the batch that a client sends to a partition, the first that fits. It is refused
-/// with code 21 where `acks` isn't -1, 0 or 1; with 53 for a transactional id that the core can't
-/// hold; with 3 where the partition isn't there; with 87 for null records. Without a transactional
+/// with code 21 if `acks` isn't -1, 0 or 1; with 53 for a transactional id that the core can't
+/// hold; with 3 if the partition isn't there; with 87 for null records. Without a transactional
 /// id it is appended as it is; but a whole valid batch without a producer's id and epoch has base
 /// sequence -1. With one, the grant decides of a whole valid batch that is part of a transaction
 /// and has a producer's id and epoch; any other text goes to the core as it is.
 ///
 /// # Errors
 ///
-/// Only where memory runs out.
+/// Only if memory runs out.
 #[tactic(auto, unfolding(crate::specs::Produce::produce_ask))]
 pub fn ask_produce<'a>(
     alloc: Global,

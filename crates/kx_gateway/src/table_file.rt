@@ -29,7 +29,7 @@ pub enum TopicsFault {
 ///
 /// # Errors
 ///
-/// Only where memory runs out.
+/// Only if memory runs out.
 pub fn topic_line(alloc: Global, name: &[u8], count: u16) -> Result<Vec<u8>, AllocError>
     ensures { IfOk result
         (λ line. line.items ≡ line_text (record { name = name.now; count = count })) }
@@ -42,7 +42,7 @@ pub fn topic_line(alloc: Global, name: &[u8], count: u16) -> Result<Vec<u8>, All
     Ok(line)
 }
 
-// What stands in front of the first byte like this, and what comes after it.
+// What is in front of the first byte like this, and what comes after it.
 fn split_at_byte(text: &[u8], byte: u8) -> Option<(&[u8], &[u8])>
     ensures { MatchOption result (IsTrue (lacks byte text.now))
         (λ x. (text.now ≡ x.0.now ++ byte ∷ x.1.now) × IsTrue (lacks byte x.0.now)) }

@@ -117,7 +117,7 @@ impl Topics {
         PartitionId::DATA_COUNT - self.taken()
     }
 
-    /// How many partitions the topic of this name has, or `None` where there is none.
+    /// How many partitions the topic of this name has, or `None` if there is none.
     pub fn count_of(&self, name: &[u8]) -> Option<u16>
         ensures { result ≡ count_of self.now name.now }
     {
@@ -130,7 +130,7 @@ impl Topics {
     }
 
     /// The core's partition of a topic's partition, by the topic's name and its number there, from
-    /// 0; `None` where the topic or the partition isn't there.
+    /// 0; `None` if the topic or the partition isn't there.
     pub fn partition(&self, name: &[u8], index: i32) -> Option<PartitionId>
         ensures { result ≡ partition_at self.now name.now index }
     {
@@ -200,7 +200,7 @@ impl Topics {
         Ok(())
     }
 
-    /// Takes the last topic out again, as where it can't be kept. Does nothing where there is none.
+    /// Takes the last topic out again, as if it can't be kept. Does nothing if there is none.
     pub fn remove_last(&mut self)
         ensures none { self.old ≡ [] → self.new ≡ [] }
         ensures last { (before : List Entry) (last : Entry) → self.old ≡ before ++ last ∷ []

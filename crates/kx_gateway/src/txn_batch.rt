@@ -142,7 +142,7 @@ impl<'a> TxnBatch<'a> {
     ///
     /// # Errors
     ///
-    /// Only where memory runs out.
+    /// Only if memory runs out.
     pub fn produce(
         &self,
         alloc: Global,

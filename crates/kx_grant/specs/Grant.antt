@@ -37,11 +37,11 @@ abbrev pub with_at : {A : Type 0} → List (Option A) → ℕ → Option A → L
 with_at list partition x =
     if partition == offsets_partition then list else slice_set list partition x
 
--- the client's next sequence in a partition, where it is known
+-- the client's next sequence in a partition, if it is known
 abbrev pub next_at : Grant → ℕ → Option ℕ
 next_at g partition = at g.next partition
 
--- what the open transaction has of a partition, where the client listed it
+-- what the open transaction has of a partition, if the client listed it
 abbrev pub listed_at : Grant → ℕ → Option Listed
 listed_at g partition = at g.listed partition
 
@@ -125,7 +125,7 @@ in_turn core at sent count is_stopped =
     then Refused code.OutOfOrderSequenceNumber
     else (if is_stopped then Refused code.InvalidTxnState else Send core (pos at)))
 
--- where the client's next sequence isn't known, it is this one
+-- if the client's next sequence isn't known, it is this one
 abbrev pub listed_verdict : Held → Option ℕ → Listed → ℕ → ℕ → BatchVerdict
 listed_verdict core next listed first count =
     let base = unwrap_or listed.base first in
@@ -250,7 +250,7 @@ abbrev pub again : Outcome → Outcome → ErrorCode → EndVerdict
 again last outcome other =
     end.Answer (if same_outcome last outcome then code.NoError else other)
 
--- the core is asked where something was sent
+-- the core is asked if something was sent
 abbrev pub end_in : Held → Phase → Outcome → EndVerdict
 end_in core phase.Empty outcome = end.Answer code.NoError
 end_in core phase.Sent outcome = end.Ask core outcome

@@ -53,7 +53,7 @@ abbrev pub answer_if : {A : Type 0} → Bool → A → Option A
 answer_if true x = Some x
 answer_if false x = None
 
--- the grant after a request, which changes nothing where it isn't heard
+-- the grant after a request, which changes nothing if it isn't heard
 abbrev pub grant_if : Bool → Option Grant → Option Grant → Option Grant
 grant_if true after before = after
 grant_if false after before = before
@@ -175,7 +175,7 @@ abbrev pub after_if : Bool → Producer → Producer → Producer
 after_if true after before = after
 after_if false after before = before
 
--- the sequences go on where the core took the offsets
+-- the sequences go on if the core took the offsets
 abbrev pub after_count : ErrorCode → ℕ → ℕ → ℕ
 after_count code.NoError next count = after next count
 after_count other next count = next

@@ -39,7 +39,7 @@ fn or_fenced(fenced: ErrorCode, code: ErrorCode) -> ErrorCode
     }
 }
 
-/// The code in a response to InitProducerId of this version, where the core answered this one: the
+/// The code in a response to InitProducerId of this version, if the core answered this one: the
 /// core's, and [`init_fenced_code`] for 90.
 pub fn init_code(version: i16, code: ErrorCode) -> ErrorCode
     ensures { result ≡ init_code version code }
@@ -47,7 +47,7 @@ pub fn init_code(version: i16, code: ErrorCode) -> ErrorCode
     or_fenced(init_fenced_code(version), code)
 }
 
-/// The code in a response to EndTxn of this version, where the core answered this one: the core's,
+/// The code in a response to EndTxn of this version, if the core answered this one: the core's,
 /// and [`end_fenced_code`] for 90.
 pub fn end_code(version: i16, code: ErrorCode) -> ErrorCode
     ensures { result ≡ end_code version code }
@@ -55,7 +55,7 @@ pub fn end_code(version: i16, code: ErrorCode) -> ErrorCode
     or_fenced(end_fenced_code(version), code)
 }
 
-/// The code of a batch in a response to Produce, where the core answered this one: the core's, and
+/// The code of a batch in a response to Produce, if the core answered this one: the core's, and
 /// 47 for 90, which clients take there as the end of the transaction alone.
 pub fn produce_code(code: ErrorCode) -> ErrorCode
     ensures { result ≡ produce_code code }

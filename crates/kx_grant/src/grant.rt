@@ -174,7 +174,7 @@ fn again(last: Outcome, outcome: Outcome, other: ErrorCode) -> EndVerdict
     })
 }
 
-// What becomes of a batch that begins `at` records after the begin of its transaction, where the
+// What becomes of a batch that begins `at` records after the begin of its transaction, if the
 // client's next begins after `sent`.
 fn in_turn(core: Held, at: u32, sent: u32, count: u32, is_stopped: bool) -> BatchVerdict
     requires { at < sequences }
@@ -196,7 +196,7 @@ fn in_turn(core: Held, at: u32, sent: u32, count: u32, is_stopped: bool) -> Batc
     verdict
 }
 
-// The sequence where it is known, else this one.
+// The sequence if it is known, else this one.
 fn known_or(known: Option<u32>, first: u32) -> u32
     ensures { result ≡ unwrap_or known first }
 {
@@ -279,7 +279,7 @@ impl Grant {
     }
 
     /// What the core answered to a producer that asked for an id with the pair `asked`, which it
-    /// held: that pair may ask once more, as where the answer was lost (KIP-360).
+    /// held: that pair may ask once more, as if the answer was lost (KIP-360).
     pub fn granted_anew(asked: Held, granted: Held) -> Grant
         ensures { result ≡ begun (Some asked) granted }
     {
@@ -288,7 +288,7 @@ impl Grant {
 
     /// The grant after a restart, by the coordinator's log: the pair of the last row that a request
     /// for an id wrote, what the last row says of the transaction, and the pair that it has, or
-    /// with which the core goes on where the transaction is decided. No client's sequences are
+    /// with which the core goes on if the transaction is decided. No client's sequences are
     /// stored, so a partition's first batch of a later transaction is taken at any sequence, and
     /// those after it in turn.
     pub fn reopened(granted: Held, core: Held, row: LastRow) -> Grant
@@ -327,7 +327,7 @@ impl Grant {
         is_held(&self.granted, held)
     }
 
-    // The client's next sequence in a partition, where it is known.
+    // The client's next sequence in a partition, if it is known.
     fn next_at(&self, partition: PartitionId) -> Option<u32>
         ensures { result ≡ next_at self.now partition }
     {
@@ -338,7 +338,7 @@ impl Grant {
         }
     }
 
-    // What the open transaction has of a partition, where the client listed it.
+    // What the open transaction has of a partition, if the client listed it.
     fn listed_at(&self, partition: PartitionId) -> Option<Listed>
         ensures { result ≡ listed_at self.now partition }
     {
@@ -412,9 +412,9 @@ impl Grant {
 
     /// What becomes of a batch of `count` records, the first that fits: refused with 47 for another
     /// pair than the granted one; with 49 in a transaction that was under way before a restart;
-    /// with 48 where the client hasn't listed the partition in this transaction; with 45 where it
+    /// with 48 if the client hasn't listed the partition in this transaction; with 45 where it
     /// begins neither at the client's next sequence nor within what the client sent of the
-    /// transaction here, or where the transaction would have 2^31 records here; with 48 at the next
+    /// transaction here, or if the transaction would have 2^31 records here; with 48 at the next
     /// sequence after a batch of the transaction that was refused here for good. Else it is sent to
     /// the core, always with the same base sequence, so that the core knows a batch that it has.
     ///
@@ -461,7 +461,7 @@ impl Grant {
         self.set_listed(partition, listed);
     }
 
-    /// The core answered the batch with code 0. Where it is the client's next, the client goes on
+    /// The core answered the batch with code 0. If it is the client's next, the client goes on
     /// after it; a batch from before changes nothing.
     pub fn batch_taken(&mut self, held: Held, partition: PartitionId, first: i32, count: u32)
         ensures { self.new ≡ after_taken self.old held partition first count }
@@ -472,7 +472,7 @@ impl Grant {
     }
 
     /// The batch was refused for good, by the core or by [`Grant::batch`]: with a code after which
-    /// clients don't send it again. Where it is the client's next, the client goes on after it, and
+    /// clients don't send it again. If it is the client's next, the client goes on after it, and
     /// no further batch of the transaction is taken in the partition; any other changes nothing. Call it
     /// before the transaction ends.
     pub fn batch_refused(&mut self, held: Held, partition: PartitionId, first: i32, count: u32)
@@ -516,9 +516,9 @@ impl Grant {
     }
 
     /// What becomes of a request to end the transaction: fenced for another pair than the granted
-    /// one. Where something of it was sent to the core, or it was under way before a restart, the
-    /// core is asked. Where nothing was, it ends at once, answered with code 0. After an end, the
-    /// same end is answered with 0 again, and the other with 48; with 49 where that end was decided
+    /// one. If something of it was sent to the core, or it was under way before a restart, the
+    /// core is asked. If nothing was, it ends at once, answered with code 0. After an end, the
+    /// same end is answered with 0 again, and the other with 48; with 49 if that end was decided
     /// before a restart, since partitions that the client listed after it aren't known.
     pub fn end(&mut self, held: Held, outcome: Outcome) -> EndVerdict
         ensures answered { result ≡ end_verdict self.old held outcome }

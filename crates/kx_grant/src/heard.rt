@@ -76,7 +76,7 @@ impl Heard {
         }
     }
 
-    /// A request comes in a role over this connection, and tells whether it is taken: only if no
+    /// A request comes in a role over this connection, and reports whether it is taken: only if no
     /// newer connection spoke in the role. This one is then the newest; else nothing changes.
     pub fn hear(&mut self, role: Role, connection: u64) -> bool
         ensures answered { result ≡ is_heard self.old role connection }

@@ -109,7 +109,7 @@ pub fn a_bump_answers_another_pair()
 {}
 
 /// A law: what a grant knows of a client's sequences are sequences, 0 to 2^31 - 1, from the begin
-/// on and after each step, as the int32 of a batch is one where it isn't below 0.
+/// on and after each step, as the int32 of a batch is one if it isn't below 0.
 pub fn grants_know_sequences()
     ensures begun { (before : Option Held) (held : Held) → IsGrant (begun before held) }
     ensures reopened { (granted core : Held) (row : LastRow)
@@ -126,7 +126,7 @@ pub fn older_connections_are_not_heard()
         → is_heard (after_hears (after_hear h role connection) hears) role older ≡ false }
 {}
 
-/// A law: a response has code 0 exactly where the core's code is 0.
+/// A law: a response has code 0 exactly if the core's code is 0.
 pub fn zero_is_the_cores()
     ensures init { (version : ℤ) (code : ErrorCode)
         → (init_code version code ≡ ErrorCode.NoError) ↔ (code ≡ ErrorCode.NoError) }

@@ -1,6 +1,6 @@
 //! What is known of one transactional id: its grant, and which connections spoke for it.
 //!
-//! Each request of a client is a step here. Where the core has to be asked, its answer is a second
+//! Each request of a client is a step here. If the core has to be asked, its answer is a second
 //! step; the caller takes no other request of the transactional id in between.
 ghost use Rattle.std.specs.Prelude.{◌≡◌, None, Some, IsSome, MatchResult, option_map};
 ghost use Rattle.kx_grant.specs.Codes.{end_code, produce_code};
@@ -304,7 +304,7 @@ impl Producer {
     ///
     /// # Errors
     ///
-    /// Where the core granted nothing, the code in a response of this version, which is never 0;
+    /// If the core granted nothing, the code in a response of this version, which is never 0;
     /// then nothing changes.
     pub fn granted(
         &mut self,
@@ -334,7 +334,7 @@ impl Producer {
     /// A client lists a partition, over this connection; the offsets partition stands for offsets
     /// that it will commit. None if the request isn't taken, since a newer connection spoke for the
     /// transactional id; then nothing changes. Else the code: that of [`Grant::add_partition`], and
-    /// 49 where no grant is known.
+    /// 49 if no grant is known.
     pub fn add_partition(
         &mut self,
         held: Held,
@@ -358,7 +358,7 @@ impl Producer {
 
     /// A client sends a batch, over this connection. None if it isn't taken, since batches arrived
     /// over a newer connection; then nothing changes. Else what becomes of it: that of
-    /// [`Grant::batch`], and refused with 49 where no grant is known. That it is sent to the core,
+    /// [`Grant::batch`], and refused with 49 if no grant is known. That it is sent to the core,
     /// or refused for good, is noted.
     pub fn batch(&mut self, batch: &ClientBatch, connection: u64) -> Option<BatchVerdict>
         ensures answered { result ≡ answered self.old batch.now.held Role.Batches connection
@@ -392,8 +392,8 @@ impl Producer {
 
     /// A client commits `count` offsets of a group in its transaction, over this connection. None if
     /// they aren't taken, since offsets arrived over a newer connection; then nothing changes. Else
-    /// what becomes of them: refused as [`Grant::commit`] says, and with 25 where no grant is known,
-    /// or where the core hasn't answered the last ones, so that it isn't known whether it took them:
+    /// what becomes of them: refused as [`Grant::commit`] says, and with 25 if no grant is known,
+    /// or if the core hasn't answered the last ones, so that it isn't known whether it took them:
     /// clients then abort. That they are sent to the core is noted.
     pub fn offsets(&mut self, held: &Held, count: u32, connection: u64) -> Option<BatchVerdict>
         ensures answered { result ≡ answered self.old held.now Role.Offsets connection
@@ -469,7 +469,7 @@ impl Producer {
     /// A client ends its transaction, over this connection, by a request of this version. None if
     /// the request isn't taken, since a newer connection spoke for the transactional id; then
     /// nothing changes. Else the core is asked as its own producer of the transaction, or the
-    /// request is answered: as [`Grant::end`] says, and with 49 where no grant is known.
+    /// request is answered: as [`Grant::end`] says, and with 49 if no grant is known.
     pub fn end(&mut self, version: i16, asked: &EndTxn, connection: u64) -> Option<EndStep>
         ensures answered { result ≡ answered self.old asked.now.held Role.Coordinator connection
             (end_of version asked.now self.old.grant) }

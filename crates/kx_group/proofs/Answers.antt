@@ -49,7 +49,7 @@ leaves_batches verdict text old new answer (IsAnswered answer2 told same) never 
 leaves_batches verdict text old new answer (Breaks next broken) never =
     ap (λ (l : LogState). l.batches) broken.rest
 
--- where the verdict isn't that it comes next, nothing changes
+-- if the verdict isn't that it comes next, nothing changes
 pub unless_next : (verdict : Verdict) (text : List ℕ) (old new : LogState) (answer : Produced)
     → FollowsVerdict verdict text old new answer → (verdict ≡ Next → ⊥) → new ≡ old
 unless_next verdict text old new answer (IsAppended offset next appended) other =

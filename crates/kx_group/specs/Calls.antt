@@ -41,7 +41,7 @@ WantsMemory (Changes fact) log = verdict_at log true (membership_text fact) ≡ 
 abbrev pub text_of : TxnOffsetCommit → List ℕ
 text_of it = offsets_batch it.group it.held it.first_sequence it.offsets
 
--- the verdict on offsets, where a closed log appends nothing
+-- the verdict on offsets, if a closed log appends nothing
 abbrev pub verdict_on : LogState → Bool → TxnOffsetCommit → Verdict
 verdict_on log verified it = unless_closed log.closed
     (judge_offsets (entries log.batches) verified it.group it.member it.generation (text_of it))

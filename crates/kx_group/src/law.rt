@@ -82,7 +82,7 @@ pub fn groups_follow_their_log()
 {}
 
 /// Offsets whose transaction is yet to be verified begin at sequence 0, in a log that groups grew:
-/// no batch of their id and epoch stands in it. So commits of one id and epoch that are parked for
+/// no batch of their id and epoch is in it. So commits of one id and epoch that are parked for
 /// the coordinator's answer begin at one sequence.
 pub fn unverified_commits_begin_at_0()
     ensures { (log : List Stored) (group : List ℕ) (member : ℕ) (named : ℤ) (held : Held)

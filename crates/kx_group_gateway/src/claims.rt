@@ -75,7 +75,7 @@ fn txn_claims_in(
 ///
 /// # Errors
 ///
-/// Only where memory runs out.
+/// Only if memory runs out.
 pub fn claims_of<'a>(
     alloc: Global,
     topics: Array<OffsetCommitTopic<'a>>,
@@ -97,7 +97,7 @@ pub fn claims_of<'a>(
 ///
 /// # Errors
 ///
-/// Only where memory runs out.
+/// Only if memory runs out.
 pub fn txn_claims_of<'a>(
     alloc: Global,
     topics: Array<TxnOffsetCommitTopic<'a>>,

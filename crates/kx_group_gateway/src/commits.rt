@@ -20,7 +20,7 @@ use std::alloc::{AllocError, Global};
 ///
 /// # Errors
 ///
-/// Only where memory runs out.
+/// Only if memory runs out.
 pub fn offsets_of(
     alloc: Global,
     table: &Topics,
@@ -70,7 +70,7 @@ fn add_offset(
     Ok(())
 }
 
-// The code of an offset's partition, where the core's is this one.
+// The code of an offset's partition, if the core's is this one.
 fn code_at(partition: Option<PartitionId>, code: i16) -> i16
     ensures { result ≡ code_at partition code }
 {
@@ -157,7 +157,7 @@ fn results_of<'a>(
 }
 
 /// The frame of the response to an OffsetCommit of these topics, of which the core answered with
-/// this code: each offset has the code, but 3 where its partition isn't there.
+/// this code: each offset has the code, but 3 if its partition isn't there.
 ///
 /// # Errors
 ///
@@ -180,7 +180,7 @@ pub fn commit_frame(
 }
 
 /// The frame of the response to a TxnOffsetCommit of these topics, of which the core answered with
-/// this code: each offset has the code, but 3 where its partition isn't there.
+/// this code: each offset has the code, but 3 if its partition isn't there.
 ///
 /// # Errors
 ///

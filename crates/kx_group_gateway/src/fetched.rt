@@ -21,7 +21,7 @@ pub struct FetchedTopic<'a> {
 }
 
 /// The answer to a partition by its number in the request, by what the core replied: its code, and
-/// the committed offset, -1 where there is none or the code isn't 0. Metadata is empty.
+/// the committed offset, -1 if there is none or the code isn't 0. Metadata is empty.
 pub fn fetched_offset(index: i32, code: ErrorCode, offset: i64) -> OffsetFetchPartition<'static>
     ensures { ⟦<OffsetFetchPartition<'static> as Writes>⟧.values result
         ≡ fetched_offset index code offset }

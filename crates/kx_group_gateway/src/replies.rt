@@ -31,7 +31,7 @@ pub fn alone_code(offsets: ErrorCode, end: Option<ErrorCode>) -> i16
 }
 
 /// A law: an offset that is committed outside of a client's transaction is answered with 0 exactly
-/// where the core took it and committed its transaction.
+/// if the core took it and committed its transaction.
 pub fn zero_is_committed()
     ensures { (offsets : ErrorCode) (end : Option ErrorCode) → (alone_code offsets end ≡ 0)
         ↔ ((offsets ≡ ErrorCode.NoError) × (end ≡ Some ErrorCode.NoError)) }

@@ -1,7 +1,8 @@
 -- What was acknowledged is kept, whatever arrives: it stands once, for ever, and readers of
 -- committed records are shown it exactly if it stands for good. So all promises that need no trust
 -- in clients are kept.
-use Rattle.std.proofs.Common.{◌≡◌, ⊎_elim, Option, Some, ℕ, ℤ, pos, ◌+◌, ◌≤◌, Bool, true, cond}
+use Rattle.std.proofs.Common.{◌≡◌, ◌≢◌, ⊎_elim, Option, Some, ℕ, ℤ, pos, ◌+◌, ◌≤◌, Bool, true}
+use Rattle.std.proofs.Common.{cond}
 use Rattle.std.proofs.Common.{List, [], ◌∷◌, ◌++◌}
 use Rattle.std.proofs.Common.{filter, Contains, refl, sym, ap, ◌∙◌, subst, arith}
 use Rattle.std.specs.Prelude.{count_by}
@@ -10,7 +11,9 @@ use Rattle.std.proofs.lemmas.List.Elements.{All-append}
 use Rattle.std.proofs.lemmas.List.Sums.{sum_by-cons}
 use Rattle.kx_message.specs.Messages as the
 use Rattle.kx_message.specs.declared.code.ErrorCode.TheVariants.{NoError}
+use Rattle.kx_message.specs.Ranges.{offsets_partition}
 use Rattle.kx_message.specs.declared.message.Message.{Message}
+use Rattle.kx_message.specs.declared.message.Message.TheVariants as msg
 use Rattle.kx_message.specs.declared.requests.Caller.{Caller}
 use Rattle.kx_batch.specs.Batch.{batch_of}
 use Rattle.kx_model.specs.Answers.{IsStoredFor, StandsIn}
@@ -26,7 +29,7 @@ use Rattle.kx_model.specs.Page.{page}
 use Rattle.kx_model.specs.Produce.{stored_at}
 use Rattle.kx_model.specs.Reading.{standing, visible}
 use Rattle.kx_model.specs.Transactions.{last_stable_offset}
-use Rattle.kx_model.specs.Verification.{Request, ToPartition, request_of}
+use Rattle.kx_model.specs.Verification.{Request, ToPartition, partition_of, request_of}
 use Rattle.kx_model.specs.World.{World, log_at, notes, run, start}
 use Rattle.kx_model.proofs.Logs.{width-entry_in}
 use Rattle.kx_model.proofs.Schedules.{closed_from_open, open_partitions_grow, open_run-append}
@@ -37,6 +40,8 @@ use Rattle.kx_laws.proofs.Places.{place_stays}
 use Rattle.kx_laws.proofs.ShownEntries.{entry_shown, page_reaches}
 use Rattle.kx_headline.proofs.AnswersAlways.{AnswersStand, answers_hold, answers_stand_open}
 use Rattle.kx_headline.proofs.ClientsKeep.{each_stands_once}
+use Rattle.kx_headline.specs.Sent.{StoredWereSent, WasSent}
+use Rattle.kx_headline.proofs.Loads.{same_request}
 use Rattle.kx_headline.proofs.MarkersFit.{markers_fit}
 use Rattle.kx_headline.proofs.OverSchedules.{at_most_once, fenced_commit_never, offsets_do_follow}
 use Rattle.kx_headline.proofs.OverSchedules.{one_outcome, open_owed_at, readers_get}
@@ -47,7 +52,7 @@ use Rattle.kx_headline.proofs.WorldReaders.{gives_visible, grown_at}
 
 ------ one stored batch, in a world
 
--- an element counts where it passes
+-- an element counts if it passes
 abbrev one_if : Bool → ℕ
 one_if passes = cond passes 1 0
 
@@ -142,6 +147,34 @@ acknowledged_is_kept count events fits caller q answered c =
           (place_stays (log_at w q) (log_at (open_run more w) q) (open_partitions_grow more w q)
           (record { offset = a.offset; item = stored }) a.stands.there);
     }
+
+-- the request of a batch that stands in a data partition's log
+sent_as : (w : World) (q : ℕ) → q ≢ offsets_partition → (offset : ℕ) (stored : Stored)
+    (r : Request) (m : Message) → Contains w.sent m → request_of m ≡ Some r
+    → partition_of r.target ≡ q → stored ≡ stored_at offset r.text → WasSent w q offset stored
+sent_as w q apart offset stored r (msg.Produce it) c e here is =
+    let same = same_request _ r e in
+    let to : it.partition ≡ q = ap (λ (s : Request). partition_of s.target) same ∙ here in
+    record {
+      caller = it.caller;
+      txn = it.txn;
+      batch = it.batch;
+      sent = subst (λ n. Contains w.sent (the.Produce it.caller it.txn n it.batch)) to c;
+      is = is ∙ ap (stored_at offset) (sym (ap (λ (s : Request). s.text) same));
+    }
+sent_as w q apart offset stored r (msg.TxnOffsetCommit it) c e here is =
+    let same = same_request _ r e in
+    absurd (apart (sym here ∙ sym (ap (λ (s : Request). partition_of s.target) same)))
+sent_as w q apart offset stored r other c e here is = absurd cc
+
+pub stored_were_sent : StoredWereSent
+stored_were_sent count events fits q apart offset stored batch there is =
+    let w = open_run events (start count) in
+    let h = partitions_stand_open count events fits in
+    let s = requests.stored_request w h.holds (markers_fit w h.coordinator) q offset stored batch
+    there is in
+    sent_as w q apart offset stored s.request s.asked_for.message s.asked_for.handed s.asked_for.is
+    s.asked_for.here s.is
 
 -- all promises that need no trust in clients
 keeps : (w : World) → AnswersStand w → KeepsOpenPromises w

@@ -358,7 +358,7 @@ module _ (sent : List Message) (c : Client) (k : Knows sent c) (b : Client) (m :
       ∙ ⊎_elim (λ old. k.asking (any_keeps is_init c.waiting x (asks.waiting x old) is))
       (λ new. (asks.init (ap is_init new ∙ is)).0) (waits_old_or_new x there)
 
-  -- no id is asked for where one is already
+  -- no id is asked for if one is already
   no_init_waits : (x : Message) → is_init m ≡ true → Contains b.waiting x → is_init x ≡ true → ⊥
   no_init_waits x e there is =
       let no = sym (any_keeps is_init c.waiting x (asks.waiting x there) is) ∙ (asks.init e).1 in
@@ -412,7 +412,7 @@ module _ (sent : List Message) (c : Client) (k : Knows sent c) (b : Client) (m :
     present = asks.held ∙ h.present;
   }
 
-  -- what waited waits on, where no transaction ended
+  -- what waited waits on, if no transaction ended
   waits_on : (x : Message) → (HasEnded later' after' → ⊥) → Contains c.waiting x
       → Contains after'.waiting x
   waits_on x none there =

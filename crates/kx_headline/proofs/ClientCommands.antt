@@ -346,7 +346,7 @@ module _ (sent : List Message) (c : Client) (k : Knows sent c)
         init = λ e. absurd cc;
       }
 
-  -- what was sent of the pair is answered where nothing waits
+  -- what was sent of the pair is answered if nothing waits
   all_answered : (held : Held) → c.held ≡ Some held → c.failed ≡ false → c.must_abort ≡ false
       → list_any is_end c.waiting ≡ false → c.waiting ≡ [] → (x : Message) (l : Load)
       → IsIts sent c x → Carries x l → l.held ≡ held → Answered sent x

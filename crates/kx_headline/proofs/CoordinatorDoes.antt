@@ -213,7 +213,7 @@ pub record CoordinatorDoes (sent : List Message) (co : Coordinator) (s : Coordin
   pub grows : Grows sent (notes_of co) (notes_of s.0)
   pub hidden : IfSome s.0.disk.hidden (Next sent (notes_of s.0))
   pub answered : All (IsReplied sent) s.0.answered
-  -- the client that asks for an id, where one does
+  -- the client that asks for an id, if one does
   pub client : ℕ
   pub out : All (Out client sent (notes_of co) (notes_of s.0)) s.1
 

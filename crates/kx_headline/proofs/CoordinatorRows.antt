@@ -28,7 +28,7 @@ IsFound test log (Some r) = Contains log (Written r) × (test r ≡ true)
 same_written : (r s : Row) → Written r ≡ Written s → r ≡ s
 same_written r s e = cc
 
--- none passes where the first note is no row, or one that doesn't pass
+-- none passes if the first note is no row, or one that doesn't pass
 none_before : (test : Row → Bool) (log : List TxnEntry) (n : TxnEntry)
     → ((r : Row) → n ≡ Written r → test r ≡ false)
     → ((r : Row) → Contains log (Written r) → test r ≡ false)

@@ -312,7 +312,7 @@ fenced_never g id epoch f d =
       undecided = f.undecided;
     }) d
 
--- and no log has its commit marker, where each marker has the outcome that was decided
+-- and no log has its commit marker, if each marker has the outcome that was decided
 pub no_commit_marker : (w : World) → HasOneOutcome w → (id epoch : ℕ)
     → decision (notes w) id epoch ≢ Some Commit → (p : ℕ) (m : Marker)
     → Contains (entries_at w p) (Control m) → m.id ≡ id → m.epoch ≡ epoch + 1

@@ -1,4 +1,4 @@
--- A group's committed offsets are those of decided-commit transactions alone, where each marker has
+-- A group's committed offsets are those of decided-commit transactions alone, if each marker has
 -- the outcome that was decided.
 use Rattle.std.proofs.Common.{◌≡◌, ℕ, ℤ, negsuc, ◌++◌, Bool, true, false, ◌&&◌, cond, List, []}
 use Rattle.std.proofs.Common.{◌∷◌}

@@ -78,7 +78,7 @@ module _ (w : World) (h : PartitionsStand w) where
 
 ------ over every open schedule
 
--- what holds where partitions stand always holds
+-- what holds if partitions stand always holds
 always_where_they_stand : (Fact : World → Type 0) → ((w : World) → PartitionsStand w → Fact w)
     → AlwaysOpen Fact
 always_where_they_stand Fact holds count events fits =

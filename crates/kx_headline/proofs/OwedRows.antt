@@ -213,7 +213,7 @@ owes {sent} (more mid note g n) p id epoch l =
 ------ the last row that names an id
 
 -- of two tests, the second that of rows that pass the first too: the last row of the second is that
--- of the first, where it passes it
+-- of the first, if it passes it
 last_subset : (t u : Row → Bool) (log : List TxnEntry) (s : Row)
     → ((r : Row) → Contains log (Written r) → t r ≡ true → u r ≡ true) → t s ≡ true
     → last_row u log ≡ Some s → last_row t log ≡ Some s

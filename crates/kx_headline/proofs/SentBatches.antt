@@ -29,7 +29,7 @@ unsigned_size : (w : Width) → IsWide w → (n : ℕ) → length (unsigned_text
 unfolding unsigned_text
 unsigned_size w wide n = wide.size n
 
--- a number is read where it was written
+-- a number is read if it was written
 there : (w : Width) → IsWide w → (z : ℤ) (k : ℕ) (text back : List ℕ) → FitsSigned w z
     → drop k text ≡ signed_text w z ++ back → signed_at w k text ≡ z
 unfolding signed_text

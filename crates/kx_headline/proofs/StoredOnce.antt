@@ -89,7 +89,7 @@ module _ (w : World) (all : PartitionsHold w) (fit : MarkersFit w.sent) (clients
       let a = clients.answered m r d handed is reads e in
       promised a.partition a.stored
 
--- each batch sent stands once in a world, where clients keep to that
+-- each batch sent stands once in a world, if clients keep to that
 pub stored_once : (w : World) → PartitionsStand w → ClientsKeep w → (m : Message) (r : Request)
     (d : Sequenced) → Contains w.sent m → request_of m ≡ Some r
     → entry_in (batch_of r.text) ≡ Data d → IsStoredOnce w r d

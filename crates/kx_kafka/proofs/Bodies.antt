@@ -1,4 +1,4 @@
--- The fields of a request to an API, where it is known which it is.
+-- The fields of a request to an API, if it is known which it is.
 use Rattle.std.proofs.Common.{◌≡◌, ℕ, List, Ok, Err, sym, ap, subst}
 use Rattle.kx_kafka_types.specs.declared.version.Version.{Version}
 use Rattle.kx_kafka_types.specs.declared.fault.KafkaFault.{KafkaFault}

@@ -70,7 +70,7 @@ impl ApiKey {
         }
     }
 
-    /// The API with this key, or `None` where none that is spoken has it.
+    /// The API with this key, or `None` if none that is spoken has it.
     #[tactic(auto, unfolding(crate::specs::Apis::key_with))]
     pub fn from_number(number: i16) -> Option<ApiKey>
         ensures { result ≡ key_with number }
@@ -128,7 +128,7 @@ impl ApiKey {
         }
     }
 
-    /// The first version that is flexible, or `None` where none of those that are spoken is.
+    /// The first version that is flexible, or `None` if none of those that are spoken is.
     pub fn flexible_from(self) -> Option<u16>
         ensures { result ≡ flexible_from self }
     {
@@ -150,7 +150,7 @@ impl ApiKey {
         }
     }
 
-    /// Its version of this number, or `None` where it isn't spoken in that one.
+    /// Its version of this number, or `None` if it isn't spoken in that one.
     #[tactic(auto, unfolding(crate::specs::Apis::version_with))]
     pub fn version(self, number: i16) -> Option<Version>
         ensures { result ≡ version_with self number }

@@ -12,7 +12,7 @@ use kx_varint::{put_i32, put_u32, read_u32};
 use std::alloc::Global;
 use std::marker::Model;
 
-// The text of the frame at the front, and the bytes after it; None where more is needed.
+// The text of the frame at the front, and the bytes after it; None if more is needed.
 #[tactic(auto, unfolding(crate::specs::Frames::frame_at))]
 fn front_of(bytes: &[u8]) -> Result<Option<(&[u8], &[u8])>, KafkaFault>
     ensures { MatchResult result
@@ -68,11 +68,15 @@ impl Frames {
         &self.held[self.passed..]
     }
 
-    // Takes out what was passed.
+    // Takes out what was passed, once no more than that is left: so no more bytes are moved than
+    // were passed.
     fn shift(&mut self)
         ensures { self.new ≡ self.old }
     {
         let left = self.held.len() - self.passed;
+        if left > self.passed {
+            return;
+        }
         self.held.copy_within(self.passed.., 0);
         self.held.truncate(left);
         self.passed = 0;
@@ -92,11 +96,11 @@ impl Frames {
         Ok(())
     }
 
-    /// The text of the frame at the front, without its length, or `None` where more has to come.
+    /// The text of the frame at the front, without its length, or `None` if more has to come.
     ///
     /// # Errors
     ///
-    /// [`KafkaFault::TooLong`] where its length is beyond 2097152; it stays so.
+    /// [`KafkaFault::TooLong`] if its length is beyond 2097152; it stays so.
     pub fn front(&self) -> Result<Option<&[u8]>, KafkaFault>
         ensures { MatchResult result
             (λ o. MatchOption o (frame_at self.now ≡ More)
@@ -142,7 +146,7 @@ fn framed(alloc: Global, text: &[u8]) -> Result<Vec<u8>, KafkaFault>
 ///
 /// # Errors
 ///
-/// [`KafkaFault::TooLong`] where the frame would have more than 2097152 bytes after its length, or
+/// [`KafkaFault::TooLong`] if the frame would have more than 2097152 bytes after its length, or
 /// a field more than its length can say; [`KafkaFault::Field`] for null in a version that has none;
 /// [`KafkaFault::Memory`].
 #[tactic(auto, using(kx_kafka_types::proofs::Onto::onto_is), unfolding(crate::specs::Frames::response_text))]

@@ -2,7 +2,7 @@
 use kx_kafka_types::{FieldReader, KafkaFault, Struct, Version};
 use std::marker::PhantomData;
 
-/// What stands in front of a request, in each version of each API.
+/// What is in front of a request, in each version of each API.
 #[derive(Clone, Copy)]
 pub struct RequestFront<'a> {
     /// The number of the API.

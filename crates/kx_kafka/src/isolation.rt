@@ -22,7 +22,7 @@ impl IsolationLevel {
         }
     }
 
-    /// The level of this number, or `None` where Kafka has none.
+    /// The level of this number, or `None` if Kafka has none.
     #[tactic(auto, unfolding(crate::specs::Apis::level_with))]
     pub fn from_number(number: i8) -> Option<IsolationLevel>
         ensures { result ≡ level_with number }

@@ -10,8 +10,8 @@ ghost use Rattle.std.specs.List.{flat_map, AllByRecursion};
 
 use kx_kafka_types::KafkaFault;
 
-/// A law: a request is read exactly where the whole text spells it, so a text spells at most one;
-/// where the text is cut short it is [`KafkaFault::Short`], and where bytes follow
+/// A law: a request is read exactly if the whole text spells it, so a text spells at most one;
+/// if the text is cut short it is [`KafkaFault::Short`], and if bytes follow
 /// [`KafkaFault::TooLong`]. In a version that isn't flexible no other text is read as the same
 /// request: with a byte changed it is refused, or another one. (In a flexible version tagged fields
 /// are skipped, and a number may have more groups than it needs.)
@@ -32,7 +32,7 @@ pub fn requests_are_read_as_spelled()
 {}
 
 /// A law: a text of at most 2097152 bytes after its length is read as that text, whatever follows
-/// it, and what is read as a text stands so; a frame that is cut short needs more, and what stands
+/// it, and what is read as a text stands so; a frame that is cut short needs more, and what is
 /// at the front stays when more comes. So the frames of a stream come as their texts, in whatever
 /// pieces it is fed to [`Frames`](crate::Frames).
 pub fn frames_are_read_as_written()

@@ -380,7 +380,7 @@ impl<'a> Writes for OffsetCommitResponse<'a> {
 pub struct OffsetFetchPartition<'a> {
     /// The number of the partition.
     pub partition_index: i32,
-    /// The offset, or -1 where none is committed.
+    /// The offset, or -1 if none is committed.
     pub committed_offset: i64,
     /// The leader's epoch of the last record, or -1; from version 5 on.
     pub committed_leader_epoch: i32,

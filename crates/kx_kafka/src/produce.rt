@@ -119,7 +119,7 @@ pub struct PartitionProduceResponse {
     pub error_code: i16,
     /// The offset of the first record, or -1.
     pub base_offset: i64,
-    /// When they were appended, in milliseconds, or -1 where records have their own time.
+    /// When they were appended, in milliseconds, or -1 if records have their own time.
     pub log_append_time_ms: i64,
 }
 

@@ -157,8 +157,8 @@ fn read_body<'a>(
 /// # Errors
 ///
 /// The first that comes: [`KafkaFault::Short`] where the text ends within the request,
-/// [`KafkaFault::Key`], [`KafkaFault::Version`], [`KafkaFault::Field`] where the bytes of a field
-/// spell no value of its type; [`KafkaFault::TooLong`] where bytes are left behind the last field.
+/// [`KafkaFault::Key`], [`KafkaFault::Version`], [`KafkaFault::Field`] if the bytes of a field
+/// spell no value of its type; [`KafkaFault::TooLong`] if bytes are left behind the last field.
 /// Of a request in another version [`RequestFront`](crate::RequestFront) can still be read.
 #[tactic(auto, unfolding(crate::specs::Requests::request_at))]
 pub fn read_request<'a>(text: &'a [u8]) -> Result<(RequestHeader<'a>, Request<'a>), KafkaFault>

@@ -5,7 +5,7 @@ use crate::replies::{fetch_reply, init_reply, produce_reply};
 use crate::table::{Kept, MakeFault};
 use crate::transacting::TxnInit;
 use kx_gateway::{
-    Broker, GatewayCode, InitAsk, NamedTopic, ProduceAsk, TopicAnswer, TopicFault, Topics,
+    GatewayCode, InitAsk, NamedTopic, ProduceAsk, TopicAnswer, TopicFault, Topics,
     api_versions_frame, ask_init, ask_produce, asks_all, find_coordinator_frame, init_frame,
     is_topic_name, list_offsets_frame, listed, metadata_frame, produce_frame, produced,
     refused_init_frame, refused_offset, refused_produce,
@@ -23,9 +23,6 @@ use kx_server::{Hub, LogEnds};
 use std::alloc::Global;
 use std::sync::Wait;
 use std::time::{Clock, Duration};
-
-// The address of the one broker.
-const HOST: &[u8] = b"127.0.0.1";
 
 // The fields in front of a request have the same layout in each version.
 const ANY_VERSION: Version = Version {
@@ -96,7 +93,7 @@ impl<'a, L: Readable, J: Naming, R: Wait + Clock + Drop> Session<'a, L, J, R> {
     ///
     /// # Errors
     ///
-    /// Where no reply is there by then, as where memory ran out for it.
+    /// If no reply is there by then, as if memory ran out for it.
     pub(crate) fn ask_within(
         &self,
         message: Message,
@@ -113,7 +110,7 @@ impl<'a, L: Readable, J: Naming, R: Wait + Clock + Drop> Session<'a, L, J, R> {
     ///
     /// # Errors
     ///
-    /// Where memory ran out for the step or for its reply.
+    /// If memory ran out for the step or for its reply.
     pub(crate) fn ask(&self, message: Message) -> Result<Message, Closed> {
         self.ask_within(message, Duration::ZERO)
     }
@@ -124,7 +121,7 @@ impl<'a, L: Readable, J: Naming, R: Wait + Clock + Drop> Session<'a, L, J, R> {
         kept.topics.partition(topic, index)
     }
 
-    // A topic that a client asks for: it is there, or is made where that is allowed.
+    // A topic that a client asks for: it is there, or is made if that is allowed.
     fn topic_for(&self, kept: &mut Kept, name: &[u8], may_make: bool) -> TopicAnswer {
         if let Some(count) = kept.topics.count_of(name) {
             return TopicAnswer::Partitions(count);
@@ -175,10 +172,7 @@ impl<'a, L: Readable, J: Naming, R: Wait + Clock + Drop> Session<'a, L, J, R> {
 
     // The response to Metadata with these topics.
     fn metadata_of(&self, asked: &Asked<'_>, named: &[NamedTopic<'_>]) -> Result<Answer, Closed> {
-        let broker = Broker {
-            host: HOST,
-            port: self.link.peer.port(),
-        };
+        let broker = self.link.broker();
         let frame = metadata_frame(self.alloc, &asked.header, broker, named)?;
         Ok(Answer::Frame(frame))
     }
@@ -368,10 +362,7 @@ impl<'a, L: Readable, J: Naming, R: Wait + Clock + Drop> Session<'a, L, J, R> {
             Request::Heartbeat(it) => self.heartbeat(&asked, &it),
             Request::LeaveGroup(it) => self.leave_group(&asked, &it),
             Request::FindCoordinator(_) => {
-                let broker = Broker {
-                    host: HOST,
-                    port: self.link.peer.port(),
-                };
+                let broker = self.link.broker();
                 let frame = find_coordinator_frame(self.alloc, &asked.header, broker)?;
                 Ok(Answer::Frame(frame))
             }

@@ -61,9 +61,9 @@ enum Committer {
 struct TxnCommit<'t> {
     txn: &'t [u8],
     group: &'t [u8],
-    // None where the core can't hold them
+    // None if the core can't hold them
     held: Option<Held>,
-    // None where the member's id is none
+    // None if the member's id is none
     committer: Option<Committer>,
 }
 
@@ -204,7 +204,7 @@ impl<'a, L: Readable, J: Naming, R: Wait + Clock + Drop> Session<'a, L, J, R> {
         Ok(self.commit_in(&producer, txn, &held, &commit)?.number())
     }
 
-    // The code for so many offsets, where it doesn't depend on the core.
+    // The code for so many offsets, if it doesn't depend on the core.
     fn count_code(&self, count: usize) -> Option<i16> {
         match count {
             0 => Some(0),
@@ -245,7 +245,7 @@ impl<'a, L: Readable, J: Naming, R: Wait + Clock + Drop> Session<'a, L, J, R> {
         }
     }
 
-    // The id and epoch with which the server commits a group's offsets, asked for where there is
+    // The id and epoch with which the server commits a group's offsets, asked for if there is
     // none.
     fn own_held(&self, txn: TxnId, known: &KnownGroup) -> Result<Option<Held>, Closed> {
         if known.held.is_some() {
@@ -308,7 +308,7 @@ impl<'a, L: Readable, J: Naming, R: Wait + Clock + Drop> Session<'a, L, J, R> {
         let Some(held) = self.own_held(txn, known)? else {
             return Ok(GroupCode::CoordinatorNotAvailable.number());
         };
-        // Until the core has answered, it isn't known where the transaction is: the next commit then
+        // Until the core has answered, it isn't known if the transaction is: the next commit then
         // begins with a new pair, which aborts it.
         known.held = None;
         let reply = self.ask_to_commit(txn, held, 0, commit)?;

@@ -44,11 +44,21 @@ pub enum GatewayFault {
         file: GatewayFile,
     },
     /// A topic that was asked for is in the file with another number of partitions.
-    #[error("topics: a topic of --topics has another number of partitions there")]
-    Differs,
-    /// The topics that were asked for have more partitions than are free beside those of the file.
-    #[error("topics: too few partitions are free for --topics")]
-    Full,
+    #[error("topics: topic {topic} of --topics has {count} partitions there")]
+    Differs {
+        /// Which of the topics that were asked for, counted from 1.
+        topic: usize,
+        /// How many partitions the file says.
+        count: u16,
+    },
+    /// A topic that was asked for has more partitions than are free beside those of the file.
+    #[error("topics: for topic {topic} of --topics {free} partitions are free")]
+    Full {
+        /// Which of the topics that were asked for, counted from 1.
+        topic: usize,
+        /// How many partitions are free.
+        free: u16,
+    },
 }
 
 /// Memory ran out.

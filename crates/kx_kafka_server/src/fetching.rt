@@ -63,7 +63,7 @@ impl Patience {
         }
     }
 
-    // How much longer to wait, after this long. None where the time is over.
+    // How much longer to wait, after this long. None if the time is over.
     fn left(self, passed: Duration) -> Option<Duration> {
         let left = self.max_wait.checked_sub(passed)?;
         if left.is_zero() { None } else { Some(left) }
@@ -256,7 +256,7 @@ impl<'a, L: Readable, J: Naming, R: Wait + Clock + Drop> Session<'a, L, J, R> {
         pages
     }
 
-    /// The response to Fetch. Where fewer bytes are there than it asks for, it waits for them as
+    /// The response to Fetch. If fewer bytes are there than it asks for, it waits for them as
     /// long as it says.
     pub(crate) fn fetch(&self, asked: &Asked<'_>) -> Result<Answer, Closed> {
         let pages = self.pages(asked.text)?;

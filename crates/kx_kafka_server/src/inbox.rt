@@ -33,7 +33,7 @@ impl Inbox {
         }
     }
 
-    /// Waits until few bytes wait, and puts a request after them. Says whether it did: not where the
+    /// Waits until few bytes wait, and puts a request after them. Says whether it did: not if the
     /// inbox is closed, or memory runs out.
     pub(crate) fn put<R: Wait>(&self, rt: &R, request: Vec<u8>) -> bool {
         let mut waiting = self.moved.wait_while(rt, self.waiting.lock(rt), |waiting| {
@@ -51,7 +51,7 @@ impl Inbox {
         true
     }
 
-    /// Waits for a request, and takes the first. None where none waits and the inbox is closed.
+    /// Waits for a request, and takes the first. None if none waits and the inbox is closed.
     pub(crate) fn next<R: Wait>(&self, rt: &R) -> Option<Vec<u8>> {
         let mut waiting = self.moved.wait_while(rt, self.waiting.lock(rt), |waiting| {
             waiting.is_open && waiting.requests.is_empty()

@@ -3,6 +3,7 @@
 //! stand its threads, its files and its waiting.
 #![tactic(auto)]
 
+mod advertised;
 mod answering;
 mod asked;
 mod closed;
@@ -21,6 +22,7 @@ mod replies;
 mod table;
 mod transacting;
 
+pub use advertised::{Advertised, advertised_in};
 pub use asked::{AskFault, topics_asked};
 pub use fault::{GatewayFault, GatewayFile};
 pub use kx_gateway::{TopicFault, Topics};

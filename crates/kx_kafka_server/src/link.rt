@@ -1,6 +1,7 @@
 //! A connection, as its two threads share it.
 use crate::inbox::Inbox;
 use crate::protocol::Shared;
+use kx_gateway::Broker;
 use kx_kafka::{Frames, KafkaFault};
 use kx_message::ClientId;
 use kx_server::{Peer, Waker};
@@ -40,6 +41,11 @@ impl StockLink {
             waker,
             client,
         })
+    }
+
+    /// The broker, as the client is told it.
+    pub(crate) fn broker(&self) -> Broker<'_> {
+        self.shared.address.broker(self.peer.port())
     }
 
     // Puts the requests in whose frames are whole, and says whether more may come.
@@ -85,7 +91,7 @@ impl StockLink {
     }
 
     /// Reads requests until either end closes the connection. Those that were whole by then are
-    /// answered, also where bytes arrived that no frame begins with.
+    /// answered, also if bytes arrived that no frame begins with.
     pub(crate) fn take_requests<R: Wait>(&self, rt: &R, alloc: Global) {
         let has_ended = self.read_all(rt, alloc);
         self.inbox.close(rt);

@@ -60,7 +60,7 @@ impl Free {
         true
     }
 
-    // The next number, which is reserved by now. None where none is left, or the device failed.
+    // The next number, which is reserved by now. None if none is left, or the device failed.
     fn take(&mut self) -> Option<ClientId>
         ensures { MatchOption result (self.new.next ≡ self.old.next)
             (λ client. (client ≡ self.old.next) × (self.new.next ≡ self.old.next + 1)
@@ -107,7 +107,7 @@ impl Numbers {
         })
     }
 
-    /// A number that was never used. None where none is left, or the device failed.
+    /// A number that was never used. None if none is left, or the device failed.
     pub(crate) fn take<R: Wait>(&self, rt: &R) -> Option<ClientId> {
         self.free.lock(rt).take()
     }

@@ -1,4 +1,5 @@
 //! Kafka's protocol, as a server's connections speak it.
+use crate::advertised::{Address, Advertised};
 use crate::answering::Session;
 use crate::fault::{GatewayFault, GatewayFile};
 use crate::groups::Groups;
@@ -28,6 +29,7 @@ pub(crate) struct Shared {
     pub(crate) begun: Option<Instant>,
     // whether a topic is made when a client first asks for it
     pub(crate) makes_topics: bool,
+    pub(crate) address: Address,
 }
 
 /// What stock clients find from the start.
@@ -37,6 +39,9 @@ pub struct GatewayOptions<'a> {
     pub topics: &'a Topics,
     /// Whether a topic is made, with one partition, when a client first asks for it.
     pub makes_topics: bool,
+    /// Where clients are told to find the broker; None is 127.0.0.1 and the port on which the server
+    /// listens.
+    pub advertise: Option<Advertised<'a>>,
     /// The folder of the tables of topics and client numbers, which is there; None keeps them in
     /// memory.
     pub dir: Option<&'a str>,
@@ -70,6 +75,7 @@ impl Kafka {
             groups: Groups::new(alloc),
             begun: Instant::now(rt).ok(),
             makes_topics: options.makes_topics,
+            address: Address::of(alloc, options.advertise)?,
         };
         match Arc::new(alloc, shared) {
             Ok(shared) => Ok(Kafka { shared }),

@@ -48,17 +48,30 @@ impl Kept {
         Ok(())
     }
 
-    // A topic that is asked for at the start: it is there, or is made.
-    fn begin_with(&mut self, alloc: Global, topic: &Topic) -> Result<(), GatewayFault> {
+    // The topic of this number that is asked for at the start: it is there, or is made.
+    fn begin_with(
+        &mut self,
+        alloc: Global,
+        number: usize,
+        topic: &Topic,
+    ) -> Result<(), GatewayFault> {
         match self.topics.count_of(topic.name()) {
             Some(count) if count == topic.count() => return Ok(()),
-            Some(_) => return Err(GatewayFault::Differs),
+            Some(count) => {
+                return Err(GatewayFault::Differs {
+                    topic: number,
+                    count,
+                });
+            }
             None => {}
         }
         match self.make(alloc, topic.name(), topic.count()) {
             Ok(()) => Ok(()),
             Err(MakeFault::Refused(TopicFault::Memory)) => Err(AllocError.into()),
-            Err(MakeFault::Refused(_)) => Err(GatewayFault::Full),
+            Err(MakeFault::Refused(_)) => Err(GatewayFault::Full {
+                topic: number,
+                free: self.topics.free(),
+            }),
             Err(MakeFault::Device) => Err(GatewayFault::Device {
                 file: GatewayFile::Topics,
             }),
@@ -90,8 +103,8 @@ impl Table {
         };
         lines.cut(len)?;
         let mut kept = Kept { topics, lines };
-        for topic in asked.topics() {
-            kept.begin_with(alloc, topic)?;
+        for (place, topic) in asked.topics().iter().enumerate() {
+            kept.begin_with(alloc, place.saturating_add(1), topic)?;
         }
         Ok(Table {
             kept: Mutex::new(kept),

@@ -148,7 +148,7 @@ impl<'a, L: Readable, J: Naming, R: Wait + Clock + Drop> Session<'a, L, J, R> {
         }
     }
 
-    // The producer of a transactional id, by its text. None where it was never granted.
+    // The producer of a transactional id, by its text. None if it was never granted.
     pub(crate) fn producer_of(&self, txn: &[u8]) -> Option<(TxnId, Arc<Mutex<Producer>>)> {
         let txn = txn_of(txn)?;
         let producer = self.link.shared.producers.find(self.rt, &txn)?;

@@ -35,7 +35,7 @@ gives x bytes = Ok (x, bytes)
 abbrev pub fails : {A : Type 0} → KafkaFault → Reader A
 fails f bytes = Err f
 
--- reads nothing, and gives this value where there is one
+-- reads nothing, and gives this value if there is one
 abbrev pub judged : {A : Type 0} → Result A KafkaFault → Reader A
 judged (Ok x) bytes = Ok (x, bytes)
 judged (Err f) bytes = Err f
@@ -178,7 +178,7 @@ null_from since version None =
     if nat_lt version.number since then fails fault.Field else gives None
 null_from since version (Some n) = gives (Some n)
 
--- how many elements follow, or null where the version has it
+-- how many elements follow, or null if the version has it
 unfoldable pub nullable_length : Version → ℕ → Reader (Option ℕ)
 nullable_length version since = length_at version w32 >>= null_from since version
 

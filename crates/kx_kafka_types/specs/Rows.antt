@@ -23,7 +23,7 @@ elements fields rows = list_of (repeated (fields_at rows.version fields) rows.le
 abbrev pub AreRows : Fields → Version → ℕ → List ℕ → Type 0
 AreRows fields version left text = IsOk (repeated (fields_at version fields) left text)
 
--- the first of them is taken, where there is one
+-- the first of them is taken, if there is one
 abbrev pub FirstOf : {T : Type 0} → (fields : Fields) → (T → Values fields) → Rows → Option T
     → Rows → Type 0
 FirstOf fields values old None new = (elements fields old ≡ []) × (new ≡ old)

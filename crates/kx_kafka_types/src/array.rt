@@ -20,7 +20,7 @@ pub trait Reading: Copy {
     ///
     /// # Errors
     ///
-    /// [`KafkaFault::Short`], or [`KafkaFault::Field`] where it is null or negative.
+    /// [`KafkaFault::Short`], or [`KafkaFault::Field`] if it is null or negative.
     fn array_len(&mut self, version: Version) -> Result<u32, KafkaFault>
         ensures { MatchResult result
             (λ n. array_length version (bytes self.old) ≡ Ok (n, bytes self.new))
@@ -30,7 +30,7 @@ pub trait Reading: Copy {
     ///
     /// # Errors
     ///
-    /// [`KafkaFault::Short`], or [`KafkaFault::Field`] where it is negative, but for -1 in a
+    /// [`KafkaFault::Short`], or [`KafkaFault::Field`] if it is negative, but for -1 in a
     /// version that may have null.
     fn nullable_array_len(
         &mut self,
@@ -62,7 +62,7 @@ pub trait Struct: Drop {
     /// # Errors
     ///
     /// The first that comes: [`KafkaFault::Short`] where the bytes end within it,
-    /// [`KafkaFault::Field`] where those of a field spell no value of its type.
+    /// [`KafkaFault::Field`] if those of a field spell no value of its type.
     fn read(reader: &mut Self::Reader, version: Version) -> Result<Self, KafkaFault>
         ensures { MatchResult result
             (λ x. fields_at version fields (Self.Reader.bytes reader.old)
@@ -101,7 +101,7 @@ impl<T: Struct> Array<T> {
     /// # Errors
     ///
     /// The first that comes: [`KafkaFault::Short`] where the bytes end within the array,
-    /// [`KafkaFault::Field`] where its count is null or negative, or a field spells no value of its
+    /// [`KafkaFault::Field`] if its count is null or negative, or a field spells no value of its
     /// type.
     #[tactic(auto, unfolding(crate::specs::Reading::array_at))]
     pub fn read(reader: &mut T::Reader, version: Version) -> Result<Self, KafkaFault>

@@ -11,8 +11,8 @@ ghost use Rattle.kx_kafka_types.specs.Seen.{seen};
 
 use crate::fault::KafkaFault;
 
-/// A law: fields are read exactly where a text spells them, whatever follows it; a text spells at
-/// most one list of values; and where a text is cut short, reading it is [`KafkaFault::Short`].
+/// A law: fields are read exactly if a text spells them, whatever follows it; a text spells at
+/// most one list of values; and if a text is cut short, reading it is [`KafkaFault::Short`].
 pub fn fields_are_read_as_spelled()
     ensures found { (version : Version) (fields : Fields) (bytes rest : List ℕ)
         (v : Values fields) → IsBytes bytes → fields_at version fields bytes ≡ Ok (v, rest)

@@ -61,7 +61,7 @@ impl<'a> FieldReader<'a> {
     ///
     /// # Errors
     ///
-    /// [`KafkaFault::Short`] where fewer bytes are left.
+    /// [`KafkaFault::Short`] if fewer bytes are left.
     #[tactic(auto, unfolding(crate::specs::Reading::signed))]
     pub fn int8(&mut self) -> Result<i8, KafkaFault>
         ensures { MatchResult result
@@ -77,7 +77,7 @@ impl<'a> FieldReader<'a> {
     ///
     /// # Errors
     ///
-    /// [`KafkaFault::Short`] where fewer bytes are left.
+    /// [`KafkaFault::Short`] if fewer bytes are left.
     #[tactic(auto, unfolding(crate::specs::Reading::signed))]
     pub fn int16(&mut self) -> Result<i16, KafkaFault>
         ensures { MatchResult result
@@ -93,7 +93,7 @@ impl<'a> FieldReader<'a> {
     ///
     /// # Errors
     ///
-    /// [`KafkaFault::Short`] where fewer bytes are left.
+    /// [`KafkaFault::Short`] if fewer bytes are left.
     #[tactic(auto, unfolding(crate::specs::Reading::signed))]
     pub fn int32(&mut self) -> Result<i32, KafkaFault>
         ensures { MatchResult result
@@ -109,7 +109,7 @@ impl<'a> FieldReader<'a> {
     ///
     /// # Errors
     ///
-    /// [`KafkaFault::Short`] where fewer bytes are left.
+    /// [`KafkaFault::Short`] if fewer bytes are left.
     #[tactic(auto, unfolding(crate::specs::Reading::signed))]
     pub fn int64(&mut self) -> Result<i64, KafkaFault>
         ensures { MatchResult result
@@ -435,7 +435,7 @@ impl<'a> FieldReader<'a> {
     ///
     /// # Errors
     ///
-    /// [`KafkaFault::Short`] where fewer bytes are left.
+    /// [`KafkaFault::Short`] if fewer bytes are left.
     pub fn int64_only(&mut self, version: Version, only: u16, other: i64) -> Result<i64, KafkaFault>
         ensures { MatchResult result
             (λ x. where_in (Only only) version (signed w64) other self.old.rest.now

@@ -162,7 +162,7 @@ abbrev pub appended_bytes : (nothing all : Option ℕ) → Option ℕ
 appended_bytes None all = all
 appended_bytes (Some bytes) all = None
 
--- the length in bytes of the entry that a node appends in a step, if it appends one: where its
+-- the length in bytes of the entry that a node appends in a step, if it appends one: if its
 -- store fails, that entry is left whole, or nothing is
 abbrev pub entry_bytes : NodeState → Input → Option ℕ
 entry_bytes before input =

@@ -9,7 +9,7 @@ use Rattle.kx_machine.specs.declared.machine.StoreMode.TheVariants as mode
 use Rattle.kx_model.specs.Disk.{Store, Works, Fails, CannotLoad}
 
 -- an append is to fail and leave this many bytes: nothing, all of any entry, or a part; so the
--- whole of an entry stays exactly where it is no longer than that
+-- whole of an entry stays exactly if it is no longer than that
 abbrev pub FailsWith : ℕ → Option ℕ → Store → Type 0
 FailsWith keep size Works = ⊥
 FailsWith keep size CannotLoad = ⊥

@@ -1,5 +1,5 @@
 //! What a node is handed, and what a client is made of, hold numbers, names and bytes within their
-//! ranges, as their types see to. What stands here changes nothing when it runs.
+//! ranges, as their types see to. What is here changes nothing when it runs.
 ghost use Rattle.std.specs.Prelude.{All, ◌∷◌, ◌<◌, ◌^◌};
 ghost use Rattle.std.specs.Int.{w64};
 ghost use Rattle.std.specs.Int.RustNames.{FitsSigned};

@@ -50,7 +50,7 @@ pub enum Input {
     Restart(u64),
 }
 
-/// A copy of the command, or an error where memory runs out.
+/// A copy of the command, or an error if memory runs out.
 impl Clone for Command {
     ghost is_clone = { λ command copy. copy ≡ command };
 
@@ -69,7 +69,7 @@ impl Clone for Command {
     }
 }
 
-/// A copy of the input, or an error where memory runs out.
+/// A copy of the input, or an error if memory runs out.
 impl Clone for Input {
     ghost is_clone = { λ input copy. copy ≡ input };
 

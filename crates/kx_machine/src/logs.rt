@@ -4,7 +4,7 @@ ghost use Rattle.kx_machine.specs.Meaning.{NodeState, node_step};
 ghost use Rattle.kx_model.specs.Disk.{GrowsTo, Store};
 ghost use Rattle.kx_model.specs.Step.{Input};
 
-/// A law: a step only adds to the log of its node, after what stands there, whatever the step and
+/// A law: a step only adds to the log of its node, after what is there, whatever the step and
 /// whatever its store does; a restart too.
 pub fn steps_only_add()
     ensures batches { (state : NodeState) (store : Store) (input : Input)

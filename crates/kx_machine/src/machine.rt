@@ -25,7 +25,7 @@ pub enum Making {
 pub enum StoreMode {
     /// All works.
     Works,
-    /// An append fails, and leaves this many of its bytes in the store, all where it has fewer.
+    /// An append fails, and leaves this many of its bytes in the store, all if it has fewer.
     Fails { keep: u64 },
     /// The log can't be read.
     CannotLoad,
@@ -57,7 +57,7 @@ pub trait Machine: Drop {
     ///
     /// # Errors
     ///
-    /// Only where memory runs out; then the node is as before.
+    /// Only if memory runs out; then the node is as before.
     fn take(&mut self, input: &Input) -> Result<Taken, AllocError>
         ensures { (state : NodeState) → stands state self.old → MatchResult result
             (IsTaken state (input_of input.now) (allows self.old) (λ s. stands s self.new))
@@ -67,7 +67,7 @@ pub trait Machine: Drop {
     ///
     /// # Errors
     ///
-    /// Only where memory runs out; then the node is as before.
+    /// Only if memory runs out; then the node is as before.
     fn deliver(&mut self, message: &Message) -> Result<Taken, AllocError>
         ensures { (state : NodeState) → stands state self.old → MatchResult result
             (IsTaken state (Comes message.now) (allows self.old) (λ s. stands s self.new))
@@ -90,7 +90,7 @@ pub trait Machine: Drop {
             → result ≡ pos (end (entries (batches_of state))) };
 
     /// The record batches of its log, borrowed: from the one that holds an offset on, as many as
-    /// have at most `max` bytes in all, and at least one where there is one. So a log is copied
+    /// have at most `max` bytes in all, and at least one if there is one. So a log is copied
     /// further, each time from the end of the copy on.
     fn batches_from(&self, from: i64, max: u32) -> LogSlices<'_>
         ensures { (state : NodeState) → stands state self.now

@@ -1,5 +1,5 @@
 //! The machines of every kind behind one type: those that a broker has, and any node's. Beside them
-//! the stores in memory on which they keep their logs where there is no disk.
+//! the stores in memory on which they keep their logs if there is no disk.
 #![tactic(auto)]
 
 mod any;

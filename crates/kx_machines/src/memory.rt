@@ -30,7 +30,7 @@ fn empty_store(alloc: Global) -> LocalStore
 ///
 /// # Errors
 ///
-/// Only where memory runs out.
+/// Only if memory runs out.
 pub fn local_coordinator(alloc: Global) -> Result<CoordinatorMachine<LocalStore>, AllocError>
     ensures { IfOk result (Stands (AtCoordinator new_coordinator)) }
 {
@@ -45,7 +45,7 @@ pub fn local_coordinator(alloc: Global) -> Result<CoordinatorMachine<LocalStore>
 ///
 /// # Errors
 ///
-/// Only where memory runs out.
+/// Only if memory runs out.
 pub fn local_partition(
     alloc: Global,
     number: PartitionId,
@@ -63,7 +63,7 @@ pub fn local_partition(
 ///
 /// # Errors
 ///
-/// Only where memory runs out.
+/// Only if memory runs out.
 pub fn local_offsets(alloc: Global) -> Result<OffsetsMachine<LocalStore>, AllocError>
     ensures { IfOk result (StandsForGroups (AtPartition offsets_partition empty_partition)) }
 {
@@ -77,7 +77,7 @@ pub fn local_offsets(alloc: Global) -> Result<OffsetsMachine<LocalStore>, AllocE
 ///
 /// # Errors
 ///
-/// Only where memory runs out.
+/// Only if memory runs out.
 pub fn local_server(
     alloc: Global,
     number: PartitionId,

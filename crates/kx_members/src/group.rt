@@ -112,7 +112,7 @@ impl Group {
         self.changes(Fact::Left { group, member })
     }
 
-    /// What is answered where a member is to be dropped from this group.
+    /// What is answered if a member is to be dropped from this group.
     pub(crate) fn judge_drop(&self, group: GroupId, member: ClientId) -> Membership
         ensures { verdict_of result ≡ drop_verdict self.now.standing group member }
     {

@@ -97,7 +97,7 @@ impl Members {
         }
     }
 
-    /// What is answered where a client is to be dropped from a group. No memory is asked for.
+    /// What is answered if a client is to be dropped from a group. No memory is asked for.
     pub fn judge_drop(&self, group: GroupId, member: ClientId) -> Membership
         ensures { verdict_of result ≡ drop_verdict (standing_in self.now group) group member }
     {
@@ -112,7 +112,7 @@ impl Members {
     ///
     /// # Errors
     ///
-    /// Only where memory runs out.
+    /// Only if memory runs out.
     pub fn reserve(&mut self, group: GroupId) -> Result<(), AllocError>
         ensures same { (other : List ℕ)
             → standing_in self.new other ≡ standing_in self.old other }

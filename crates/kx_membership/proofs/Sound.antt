@@ -241,7 +241,7 @@ has_found : (number : ℕ) (members : List Member) (x : Member)
 has_found number members x e =
     rw (find_number number members x e, e) refl
 
--- somebody leads where somebody is
+-- somebody leads if somebody is
 led_member : (before : Option ℕ) (m : Member) (members : List Member)
     → (x : Member) × (led_by before (m ∷ members) ≡ Some x) × (has x.number (m ∷ members) ≡ true)
 led_member None m members = (m, refl, has_first m members)

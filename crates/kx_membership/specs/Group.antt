@@ -98,7 +98,7 @@ after_join_new g number ask now = prepared now (record g {
   roster = pushed (joining number ask now) g.roster;
 })
 
--- this refusal; where there is none, memory ran out
+-- this refusal; if there is none, memory ran out
 abbrev pub Refuses : Option GroupFault → GroupFault → Type 0
 Refuses None given = given ≡ fault.Memory
 Refuses (Some fault) given = given ≡ fault

@@ -14,7 +14,7 @@ use std::marker::Model;
 pub struct Protocol {
     /// Its name, such as `range`.
     pub name: Bytes,
-    /// What the client tells the leader under this protocol.
+    /// What the client reports the leader under this protocol.
     pub metadata: Bytes,
 }
 

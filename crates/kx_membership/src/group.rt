@@ -163,7 +163,7 @@ impl Group {
     ///
     /// # Errors
     ///
-    /// The first that fits, and then nothing changes: [`GroupFault::UnknownMember`] where the
+    /// The first that fits, and then nothing changes: [`GroupFault::UnknownMember`] if the
     /// number is that of a member or of one gone that the core still counts;
     /// [`GroupFault::InvalidSessionTimeout`]; [`GroupFault::InconsistentProtocol`];
     /// [`GroupFault::GroupFull`] with 15 members; [`GroupFault::Memory`].
@@ -208,8 +208,8 @@ impl Group {
     }
 
     /// A member joins again: its timeouts and protocols are those that it says now, and its session
-    /// begins anew. It is answered at once if the group need not change for it: where the leader's
-    /// assignments are missing, if it offers what it did before; where the leader has assigned,
+    /// begins anew. It is answered at once if the group need not change for it: if the leader's
+    /// assignments are missing, if it offers what it did before; if the leader has assigned,
     /// then too, unless it is the leader. Else its join waits, as in [`Group::join_new`].
     ///
     /// # Errors
@@ -350,7 +350,7 @@ impl Group {
     ///
     /// # Errors
     ///
-    /// Only where memory runs out, and then nothing changes: the group may be settled with this
+    /// Only if memory runs out, and then nothing changes: the group may be settled with this
     /// generation again.
     pub fn settle(&mut self, alloc: Global, generation: i32, now: u64) -> Result<(), AllocError>
         ensures { MatchResult result (λ done. self.new ≡ after_settle self.old generation now)

@@ -11,7 +11,7 @@ use std::str;
 ///
 /// # Errors
 ///
-/// Only where memory runs out.
+/// Only if memory runs out.
 pub fn member_id(alloc: Global, client_id: &[u8], number: ClientId) -> Result<Vec<u8>, AllocError>
     ensures { IfOk result (λ id. id.items ≡ member_id_of client_id.now number) }
 {
@@ -23,7 +23,7 @@ pub fn member_id(alloc: Global, client_id: &[u8], number: ClientId) -> Result<Ve
     Ok(id)
 }
 
-// What stands after the last dash.
+// What is after the last dash.
 fn after_dash(id: &[u8]) -> Option<&[u8]>
     ensures { MatchOption result (has_dash id.now ≡ false)
         (λ digits. (has_dash digits.now ≡ false)
@@ -56,7 +56,7 @@ fn number_of(digits: &[u8]) -> Option<u32>
     text.parse().ok()
 }
 
-/// The number in the id of a member, which stands after its last dash; None where that is no number
+/// The number in the id of a member, which is after its last dash; None if that is no number
 /// below 2^32 in decimal digits without a sign or leading zeros.
 pub fn number_in(member_id: &[u8]) -> Option<ClientId>
     ensures { (number : ℕ) → (result ≡ Some number)

@@ -60,7 +60,7 @@ pub fn those_gone_are_unknown()
         → has number (after_all g steps).roster.members ≡ false }
 {}
 
-/// A law: where members have to join again the group is due once all wait, and at the deadline it
+/// A law: if members have to join again the group is due once all wait, and at the deadline it
 /// is due, or nobody is left and the core is owed nothing.
 pub fn preparing_ends()
     ensures all { (g : Group) (until : ℕ) → g.phase ≡ Phase.Preparing until

@@ -17,12 +17,12 @@ abbrev pub outcome_text : Outcome → List ℕ
 outcome_text Abort = codes "abort"
 outcome_text Commit = codes "commit"
 
--- the result is the outcome with this byte, or the fault where no outcome has it
+-- the result is the outcome with this byte, or the fault if no outcome has it
 abbrev pub IsOutcomeOfByte : ℕ → Result Outcome ValueFault → Type 0
 IsOutcomeOfByte byte r = MatchResult r (λ outcome. outcome_byte outcome ≡ byte)
     (λ e. ((outcome : Outcome) → outcome_byte outcome ≢ byte) × (e ≡ fault.Outcome))
 
--- the result is the outcome with this word, or the fault where no outcome has it
+-- the result is the outcome with this word, or the fault if no outcome has it
 abbrev pub IsOutcomeOfText : List ℕ → Result Outcome ValueFault → Type 0
 IsOutcomeOfText text r = MatchResult r (λ outcome. outcome_text outcome ≡ text)
     (λ e. ((outcome : Outcome) → outcome_text outcome ≢ text) × (e ≡ fault.Outcome))
@@ -69,7 +69,7 @@ name_of code.InvalidRecord = codes "INVALID_RECORD"
 name_of code.UnstableOffsetCommit = codes "UNSTABLE_OFFSET_COMMIT"
 name_of code.ProducerFenced = codes "PRODUCER_FENCED"
 
--- the result is the error code with this number, or the fault where none has it
+-- the result is the error code with this number, or the fault if none has it
 abbrev pub IsCodeOfNumber : ℤ → Result ErrorCode ValueFault → Type 0
 IsCodeOfNumber z r = MatchResult r (λ code. pos (number_of code) ≡ z)
     (λ e. ((code : ErrorCode) → pos (number_of code) ≢ z) × (e ≡ fault.ErrorCode))

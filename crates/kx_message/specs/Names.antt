@@ -7,7 +7,7 @@ use Rattle.kx_message.specs.declared.fault.ValueFault.{ValueFault}
 use Rattle.kx_message.specs.declared.fault.ValueFault.TheVariants as fault
 use Rattle.kx_message.specs.Ranges.{IsName, longest_name}
 
--- the result is the text where that is a name, and else the fault
+-- the result is the text if that is a name, and else the fault
 abbrev pub TakesName : List ℕ → Result (List ℕ) ValueFault → Type 0
 TakesName text r = OkIff r (IsName text) text × IsOkUnless r fault.Name
 

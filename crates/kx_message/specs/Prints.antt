@@ -53,7 +53,7 @@ abbrev pub read_part : {A : Type 0} → Option (A × List ℕ) → Option A
 read_part None = None
 read_part (Some x) = Some x.0
 
--- none where the bytes are too few for a header
+-- none if the bytes are too few for a header
 abbrev pub header_of : List ℕ → Option Header
 header_of batch = read_part (header_at batch)
 

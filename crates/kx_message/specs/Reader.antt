@@ -22,7 +22,7 @@ abbrev pub ◌>>=◌ : {A B : Type 0} → Reader A → (A → Reader B) → Read
 abbrev pub gives : {A : Type 0} → A → Reader A
 gives x bytes = Some (x, bytes)
 
--- reads nothing, and gives this value where there is one
+-- reads nothing, and gives this value if there is one
 abbrev pub only : {A : Type 0} → Option A → Reader A
 only None bytes = None
 only (Some x) bytes = Some (x, bytes)

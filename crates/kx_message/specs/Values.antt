@@ -11,7 +11,7 @@ use Rattle.kx_message.specs.declared.outcome.Outcome.{Outcome}
 use Rattle.kx_message.specs.declared.outcome.Outcome.TheVariants.{Abort, Commit}
 use Rattle.kx_message.specs.declared.message.Held.{Held}
 
--- the value where the test holds
+-- the value if the test holds
 abbrev pub where_true : {A : Type 0} → Bool → A → Option A
 where_true false x = None
 where_true true x = Some x
@@ -75,7 +75,7 @@ held_with (pos id) (pos epoch) = Some (record { id = id; epoch = epoch })
 held_with (pos id) (negsuc epoch) = None
 held_with (negsuc id) epoch = None
 
--- both are -1 where there is none
+-- both are -1 if there is none
 abbrev pub optional_held_with : ℤ → ℤ → Option (Option Held)
 optional_held_with (pos id) (pos epoch) = Some (Some (record { id = id; epoch = epoch }))
 optional_held_with (negsuc zero) (negsuc zero) = Some None

@@ -1,11 +1,11 @@
-//! Copies of messages. A copy takes memory only where a message carries bytes or a list.
+//! Copies of messages. A copy takes memory only if a message carries bytes or a list.
 ghost use Rattle.std.specs.Prelude.{◌≡◌};
 ghost use Rattle.kx_message.specs.Copies.{HoldsNoList};
 
 use crate::message::Message;
 use std::alloc::AllocError;
 
-/// A copy of the message, or an error where memory runs out, which a message without bytes and
+/// A copy of the message, or an error if memory runs out, which a message without bytes and
 /// lists never meets.
 // Written by hand, over derived copies of its parts, so that its contract says which messages take
 // no memory.

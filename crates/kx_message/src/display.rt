@@ -48,7 +48,7 @@ impl fmt::Display for Raised {
     }
 }
 
-// A transactional id, or `-` where there is none.
+// A transactional id, or `-` if there is none.
 #[derive(Drop)]
 struct OrDash(Option<TxnId>);
 
@@ -63,7 +63,7 @@ impl fmt::Display for OrDash {
     }
 }
 
-// An id and its epoch, -1 and -1 where there is none.
+// An id and its epoch, -1 and -1 if there is none.
 #[derive(Drop)]
 struct OrMinusOnes(Option<Held>);
 
@@ -204,7 +204,7 @@ impl fmt::Display for EndReply {
     }
 }
 
-/// What the header of the batch says, or `-` where the bytes are too few for a header.
+/// What the header of the batch says, or `-` if the bytes are too few for a header.
 impl fmt::Display for Produce {
     ghost output = { λ it. Some (message_text (msg.Produce it)) };
 

@@ -28,7 +28,7 @@ impl Model for Bytes {
     ghost view = { λ bytes. bytes.bytes.items };
 }
 
-/// A copy of the list, or an error where memory runs out.
+/// A copy of the list, or an error if memory runs out.
 impl Clone for Bytes {
     ghost is_clone = { λ list copy. copy ≡ list };
 
@@ -106,7 +106,7 @@ impl Model for Offsets {
     ghost invariant = { λ offsets. IsOffsetCount (length offsets.offsets.items) };
 }
 
-/// A copy of the list, or an error where memory runs out.
+/// A copy of the list, or an error if memory runs out.
 impl Clone for Offsets {
     ghost is_clone = { λ list copy. copy ≡ list };
 
@@ -187,7 +187,7 @@ impl Model for AbortedTxns {
     ghost view = { λ aborted. aborted.aborted.items };
 }
 
-/// A copy of the list, or an error where memory runs out.
+/// A copy of the list, or an error if memory runs out.
 impl Clone for AbortedTxns {
     ghost is_clone = { λ list copy. copy ≡ list };
 

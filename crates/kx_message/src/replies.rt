@@ -1,5 +1,5 @@
 //! What is answered, each reply with the fields that its frame spells, in the frame's order. A
-//! client's reply repeats its [`Caller`]; what stands after a code other than 0 is as the answer to
+//! client's reply repeats its [`Caller`]; what is after a code other than 0 is as the answer to
 //! the request says.
 use crate::payload::{AbortedTxns, Bytes};
 use crate::requests::Caller;

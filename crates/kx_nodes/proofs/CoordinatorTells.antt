@@ -1,4 +1,4 @@
--- A step's mark tells what the coordinator answers, where what stands behind its closed log is
+-- A step's mark tells what the coordinator answers, if what stands behind its closed log is
 -- open.
 use Rattle.std.proofs.Common.{◌≡◌, ℕ, Bool, true, false, [], Option, Some, None, refl}
 use Rattle.std.proofs.Common.{sym, ap, subst}

@@ -1,4 +1,4 @@
--- A step's mark tells what a partition answers, where what stands behind its closed log is open.
+-- A step's mark tells what a partition answers, if what stands behind its closed log is open.
 use Rattle.std.proofs.Common.{ℕ, false, [], ◌∷◌, Option, refl, sym, ap, subst}
 use Rattle.std.specs.Prelude.{◌==◌, is_some, if◌then◌else◌}
 use Rattle.kx_message.specs.Ranges.{offsets_partition}

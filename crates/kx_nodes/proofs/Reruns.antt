@@ -144,7 +144,7 @@ store_found : (found whole : Bool) → store_by (found_mark found) whole ≡ Wor
 store_found true whole = refl
 store_found false whole = refl
 
--- where the epochs are used up; where a new epoch is to be written; where none is; and where no log
+-- where the epochs are used up; where a new epoch is to be written; where none is; and if no log
 -- is kept
 data Shape (f : Shows) : Type 0 where
   Spends : f CannotLoad ≡ mark.Unread → f Works ≡ mark.UsedUp
@@ -353,7 +353,7 @@ module _ (i : given.Input) (next : Option Mark) (a b c d : NodeState) (store : S
       (Spent one two)) =
       Spent (spent ∙ one) (epochs ∙ two)
 
-  -- nodes that differ after a step differ where no later step shows it
+  -- nodes that differ after a step differ if no later step shows it
   after_beyond : Way store m a c → Way (store_by m (meets_whole next)) m b d
       → Agree (read_by i m next) a b → IsBeyond next c d
   after_beyond goes (Opens opened) agree =
@@ -455,7 +455,7 @@ mode_store mark.Worked whole size store is = is
 mode_store mark.Found whole size store is = is
 mode_store mark.UsedUp whole size store is = is
 
--- a node's step depends on the store only where the node keeps a log
+-- a node's step depends on the store only if the node keeps a log
 step_free : (node : NodeState) (store other : Store) (input : Input) → keeps_log node ≡ false
     → node_step node store input ≡ node_step node other input
 step_free (AtCoordinator co) store other input none = cc

@@ -1,4 +1,4 @@
--- What a mark tells of a step but a restart, and what follows where two steps are alike.
+-- What a mark tells of a step but a restart, and what follows if two steps are alike.
 use Rattle.std.proofs.Common.{◌≡◌, ◌∙◌, Bool, true, false, Option, refl, sym, ap}
 use Rattle.std.specs.Prelude.{◌≢◌, ◌&&◌, not, if◌then◌else◌}
 use Rattle.kx_machine.specs.Meaning.{NodeState, fails, is_closed, note_of}

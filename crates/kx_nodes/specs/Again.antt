@@ -70,7 +70,7 @@ keeps_log (AtPartition number p) = true
 keeps_log (AtClient c) = false
 keeps_log (AtProcessor p) = false
 
--- the node's store may be that one, where it is told to be so
+-- the node's store may be that one, if it is told to be so
 pub data MayMeet (node : NodeState) (told : StoreMode) (store : Store) : Type 0 where
   AsTold : (size : Option ℕ) → IsMode told size store → MayMeet node told store
   KeepsNone : keeps_log node ≡ false → MayMeet node told store

@@ -20,7 +20,7 @@ pub record IsAnswer (input : Input) (taken : Taken) : Type 0 where
 ------ with a trace
 
 -- the step is added at the trace's end, and the receipt is of it; a refusal adds nothing, and is
--- that of a full trace exactly where the trace is full
+-- that of a full trace exactly if the trace is full
 pub record IsRecorded {B M : Type 0} (made_as : B → NodeState) (before : Recorded B M)
     (input : given.Input) (result : Result Receipt NodeFault) (after : Recorded B M)
     : Type 0 where

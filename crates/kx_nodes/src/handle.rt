@@ -31,13 +31,13 @@ impl<L: Locked, G: Gate> Handle<L, G> {
     }
 
     /// One step of the node of this name, in the caller's own thread, with a ticket of its own,
-    /// between the gate's two calls. What the step sends to nodes goes to their inboxes. None where
+    /// between the gate's two calls. What the step sends to nodes goes to their inboxes. None if
     /// no node of this name is served. A receipt is only returned, and isn't among those that
     /// [`Workers::end`](crate::Workers::end) returns.
     ///
     /// # Errors
     ///
-    /// As [`Node::take`](crate::Node::take); `Memory` also where 2^64 - 1 tickets were given. Then
+    /// As [`Node::take`](crate::Node::take); `Memory` also if 2^64 - 1 tickets were given. Then
     /// there was no step.
     pub fn take<R: Wait>(
         &self,
@@ -49,6 +49,8 @@ impl<L: Locked, G: Gate> Handle<L, G> {
             (λ receipt. receipt.input ≡ input)) }
         ensures answer { IfSome result (λ answer. IfOk answer
             (λ receipt. IsAnswer (input_of input) receipt.taken)) }
+        ensures node { IfSome result (λ answer. IfOk answer
+            (λ receipt. receipt.node ≡ name)) }
     {
         self.shared.take(rt, name, input)
     }

@@ -25,8 +25,8 @@ pub fn traces_tell_answers_and_logs()
 {}
 
 /// Nodes that are alike have the same log, answer a step with the same mark the same, and are alike
-/// after it. One of them may hide an entry after its closed log, where the other hides nothing;
-/// only a restart reads what is hidden, and its mark tells which of the two it was.
+/// after it. One of them may hide an entry after its closed log, if the other hides nothing;
+/// only a restart reads what is hidden, and its mark reports which of the two it was.
 pub fn alike_nodes_answer_alike()
     ensures answers { (a b : NodeState) (step : Step) (t u : Taken) (after other : NodeState)
         → AreAlike a b → Takes a step t after → Takes b step u other → t ≡ u }
@@ -42,7 +42,7 @@ pub fn alike_nodes_answer_alike()
 /// the log are the trace's. This is so whatever the stores did when the trace was made.
 ///
 /// Whoever runs it keeps `RunsOn`, which holds for the node as it was made and all the steps
-/// (`at_first`). Where it holds before a step, the step has its mark (`marks`), and it holds after
+/// (`at_first`). If it holds before a step, the step has its mark (`marks`), and it holds after
 /// the step (`goes_on`). So the run again is a run of the trace (`whole`).
 pub fn traces_run_again()
     ensures at_first { (made : NodeState) (steps : List Step) (node : NodeState)

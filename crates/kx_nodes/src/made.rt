@@ -5,7 +5,7 @@ use kx_machine::Making;
 use kx_message::{ClientId, GroupId, NodeId, Timeout, TxnId};
 use kx_processor::{Inputs, Process};
 
-/// How a node was made. The value tells which node of the definitions it was then.
+/// How a node was made. The value reports which node of the definitions it was then.
 pub trait Made: Drop {
     ghost use Rattle.std.specs.Prelude.{◌≡◌};
     ghost use Rattle.kx_machine.specs.Meaning.{NodeState};
@@ -40,7 +40,7 @@ impl Made for Making {
 pub struct ProcessorMaking<P: Process> {
     /// Its own number.
     pub number: ClientId,
-    /// Its transactional id, where it is to write anything.
+    /// Its transactional id, if it is to write anything.
     pub txn: Option<TxnId>,
     /// How long each of its transactions may stay open.
     pub timeout: Timeout,

@@ -4,17 +4,17 @@ ghost use Rattle.kx_nodes.specs.Replay.{mark_of};
 
 use kx_machine::{Closing, Note, Taken};
 
-/// What a step shows of what the node's store did. With the inputs before it, it tells what the
+/// What a step shows of what the node's store did. With the inputs before it, it reports what the
 /// step answers: the definitions leave open only what the store does, which is to work, to fail an
 /// append with nothing or with the whole entry left behind, or not to be read.
 ///
 /// - A step that isn't a restart depends on the store by its appends alone, and these work but
-///   where the mark is `Failed`. Whether the whole entry of the append that failed was left behind
+///   if the mark is `Failed`. Whether the whole entry of the append that failed was left behind
 ///   is open then; but only a restart reads that entry, and its mark tells.
-/// - A restart couldn't read the log where the mark is `Unread`, and couldn't write where it is
-///   `Unwritten`; else it met neither. What it read is the log, and the entry left behind where it
+/// - A restart couldn't read the log if the mark is `Unread`, and couldn't write if it is
+///   `Unwritten`; else it met neither. What it read is the log, and the entry left behind if it
 ///   was found.
-/// - Where it is `UsedUp`, the restart changed nothing and sent nothing.
+/// - If it is `UsedUp`, the restart changed nothing and sent nothing.
 ///
 /// So the nodes to which a trace may lead differ at most by the entry after a log that is closed,
 /// and each of them answers a step with the same mark alike: `traces_tell_answers_and_logs`. And a

@@ -11,7 +11,7 @@ use kx_message::NodeId;
 use std::marker::Model;
 use std::sync::{Mutex, MutexGuard, Wait};
 
-/// What threads share of a node: what stands under its one lock, and its name. Each step is made
+/// What threads share of a node: what is under its one lock, and its name. Each step is made
 /// under the lock, as [`Locked::take`] makes it.
 #[derive(Drop)]
 pub struct Node<L: Locked> {
@@ -22,11 +22,14 @@ pub struct Node<L: Locked> {
 
 /// A node is seen as its name, which stays.
 impl<L: Locked> Model for Node<L> {
+    ghost use Rattle.std.specs.Prelude.{◌≡◌};
     ghost use Rattle.kx_message.specs.declared.message.NodeId.{NodeId};
 
     ghost Value = { NodeId };
 
     ghost view = { λ n. n.name };
+
+    ghost invariant = { λ n. n.is_traced ≡ L.keeps_trace };
 }
 
 impl<L: Locked> Node<L> {
@@ -49,11 +52,13 @@ impl<L: Locked> Node<L> {
     }
 
     /// Whether it keeps a trace of its steps, with which their receipts can be compared.
-    pub fn is_traced(&self) -> bool {
+    pub fn is_traced(&self) -> bool
+        ensures { result ≡ L.keeps_trace }
+    {
         self.is_traced
     }
 
-    /// One step. Waits until no other thread makes one here.
+    /// One step, whose receipt names this node. Waits until no other thread makes one here.
     ///
     /// # Errors
     ///
@@ -61,11 +66,23 @@ impl<L: Locked> Node<L> {
     pub fn take<R: Wait>(&self, rt: &R, input: Input) -> Result<Receipt, NodeFault>
         ensures input { IfOk result (λ receipt. receipt.input ≡ input) }
         ensures answer { IfOk result (λ receipt. IsAnswer (input_of input) receipt.taken) }
+        ensures node { IfOk result (λ receipt. receipt.node ≡ self.now) }
     {
-        self.lock.lock(rt).take(input)
+        let Receipt {
+            place,
+            input,
+            taken,
+            ..
+        } = self.lock.lock(rt).take(input)?;
+        Ok(Receipt {
+            node: self.name,
+            place,
+            input,
+            taken,
+        })
     }
 
-    /// Waits until no thread makes a step here, and borrows what stands under the lock.
+    /// Waits until no thread makes a step here, and borrows what is under the lock.
     pub fn lock<R: Wait>(&self, rt: &R) -> MutexGuard<'_, L> {
         self.lock.lock(rt)
     }

@@ -7,7 +7,7 @@ use kx_message::NodeId;
 pub struct Receipt {
     /// The node that took the input.
     pub node: NodeId,
-    /// The step's place in the node's trace, from 0; 0 where the node keeps no trace.
+    /// The step's place in the node's trace, from 0; 0 if the node keeps no trace.
     pub place: usize,
     /// The caller's own input.
     pub input: Input,

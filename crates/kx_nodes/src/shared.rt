@@ -31,7 +31,7 @@ struct Counts {
 }
 
 impl Counts {
-    // Gives the next ticket, whose step is still to come. None where all were given.
+    // Gives the next ticket, whose step is still to come. None if all were given.
     fn open(&mut self) -> Option<u64>
         ensures some { IfSome result (λ ticket. (ticket ≡ self.old.given + 1)
             × (self.new.given ≡ ticket) × (self.new.open ≡ self.old.open + 1)) }
@@ -77,7 +77,7 @@ impl<L: Locked, G: Gate> Shared<L, G> {
         }
     }
 
-    // Gives the next ticket, whose step is still to come. None where all were given.
+    // Gives the next ticket, whose step is still to come. None if all were given.
     fn open_one<R: Wait>(&self, rt: &R) -> Option<u64> {
         self.counts.lock(rt).open()
     }
@@ -126,7 +126,7 @@ impl<L: Locked, G: Gate> Shared<L, G> {
         &self.gate
     }
 
-    // The place of the node of this name, where it is one of these.
+    // The place of the node of this name, if it is one of these.
     fn place_of(&self, name: NodeId) -> Option<usize> {
         self.nodes.iter().position(|node| node.name() == name)
     }
@@ -160,7 +160,7 @@ impl<L: Locked, G: Gate> Shared<L, G> {
         }
     }
 
-    // One step, for whose receipt there is room. The receipt is kept where it can be compared with
+    // One step, for whose receipt there is room. The receipt is kept if it can be compared with
     // the node's trace.
     fn step<R: Wait>(&self, rt: &R, task: Task, receipts: &mut Vec<Receipt>) {
         let Task {
@@ -185,6 +185,7 @@ impl<L: Locked, G: Gate> Shared<L, G> {
     fn take_here<R: Wait>(&self, rt: &R, node: &Node<L>, input: Input) -> Result<Receipt, NodeFault>
         ensures input { IfOk result (λ receipt. receipt.input ≡ input) }
         ensures answer { IfOk result (λ receipt. IsAnswer (input_of input) receipt.taken) }
+        ensures node { IfOk result (λ receipt. receipt.node ≡ node.now) }
     {
         let Some(ticket) = self.open_one(rt) else {
             return Err(NodeFault::Memory);
@@ -196,7 +197,7 @@ impl<L: Locked, G: Gate> Shared<L, G> {
     }
 
     /// Does what follows a step that the caller made, with a ticket of its own, and returns its
-    /// receipt. Where no ticket is left, what the step sends is lost.
+    /// receipt. If no ticket is left, what the step sends is lost.
     pub(crate) fn send_on<R: Wait>(&self, rt: &R, receipt: Receipt) -> Receipt
         ensures { result ≡ receipt }
     {
@@ -211,7 +212,7 @@ impl<L: Locked, G: Gate> Shared<L, G> {
         receipt
     }
 
-    /// One step of the node of this name in the caller's own thread. None where it is none of
+    /// One step of the node of this name in the caller's own thread. None if it is none of
     /// these.
     pub(crate) fn take<R: Wait>(
         &self,
@@ -223,9 +224,15 @@ impl<L: Locked, G: Gate> Shared<L, G> {
             (λ receipt. receipt.input ≡ input)) }
         ensures answer { IfSome result (λ answer. IfOk answer
             (λ receipt. IsAnswer (input_of input) receipt.taken)) }
+        ensures node { IfSome result (λ answer. IfOk answer
+            (λ receipt. receipt.node ≡ name)) }
     {
-        let node = self.nodes.get(self.place_of(name)?)?;
-        Some(self.take_here(rt, node, input))
+        for node in &self.nodes {
+            if node.name() == name {
+                return Some(self.take_here(rt, node, input));
+            }
+        }
+        None
     }
 
     /// What a worker does: makes the steps of its inbox, until the inbox is empty and no sender of

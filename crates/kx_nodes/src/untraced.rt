@@ -49,6 +49,7 @@ impl<M: Machine> Untraced<M> {
 }
 
 impl<M: Machine> Locked for Untraced<M> {
+    ghost use Rattle.std.specs.Prelude.{false};
     ghost use Rattle.kx_nodes.specs.Taking.{IsUnrecorded};
 
     ghost stands = { λ node untraced. M.stands node untraced.machine };
@@ -56,6 +57,8 @@ impl<M: Machine> Locked for Untraced<M> {
     ghost allows = { λ untraced. M.allows untraced.machine };
 
     ghost named = { λ untraced. untraced.name };
+
+    ghost keeps_trace = { false };
 
     ghost records = { IsUnrecorded };
 

@@ -18,7 +18,7 @@ use std::thread::{JoinHandle, Threads};
 
 /// Running threads that serve nodes. Each thread has an inbox with room for any number of inputs,
 /// and each node is served by one thread. What a step sends to one of these nodes goes to the inbox
-/// of that node's thread, with a ticket of its own; where there is no memory or no ticket for it,
+/// of that node's thread, with a ticket of its own; if there is no memory or no ticket for it,
 /// it is lost. Only steps of nodes that keep a trace leave receipts. The threads are ended by
 /// [`end`](Workers::end).
 pub struct Workers<L: Locked, G: Gate, R: Threads + Wait> {
@@ -48,7 +48,7 @@ impl<
     ///
     /// # Errors
     ///
-    /// Only where memory or threads run out; then those that were started have ended.
+    /// Only if memory or threads run out; then those that were started have ended.
     pub fn start(
         rt: R,
         alloc: Global,
@@ -124,7 +124,7 @@ impl<
     ///
     /// # Errors
     ///
-    /// `Memory` where memory runs out, `UsedUp` where 2^64 - 1 tickets were given. Then there is no
+    /// `Memory` if memory runs out, `UsedUp` if 2^64 - 1 tickets were given. Then there is no
     /// step.
     pub fn hand(&self, node: usize, input: Input) -> Result<u64, HandFault>
         requires { node < self.now }
@@ -136,7 +136,7 @@ impl<
     ///
     /// # Errors
     ///
-    /// Only where 2^63 - 1 of them exist.
+    /// Only if 2^63 - 1 of them exist.
     pub fn handle(&self) -> Result<Handle<L, G>, AllocError> {
         Ok(Handle::of(Arc::try_clone(&self.shared)?))
     }
@@ -152,7 +152,7 @@ impl<
     ///
     /// # Errors
     ///
-    /// Only where memory runs out; then the threads have ended as well, and receipts are lost.
+    /// Only if memory runs out; then the threads have ended as well, and receipts are lost.
     pub fn end(self) -> Result<Vec<Receipt>, AllocError> {
         let Workers {
             rt,

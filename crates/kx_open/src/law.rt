@@ -10,7 +10,7 @@ ghost use Rattle.kx_open.specs.declared.open.OpenTxn.{OpenTxn};
 /// The open transactions of a log, as this crate lists them, are those that began and didn't end: a
 /// batch that opens a transaction begins one at the log's end, a marker ends that of its id, and
 /// every other entry leaves the list. The first of the list begins at the log's last stable offset,
-/// which is the end where none is open.
+/// which is the end if none is open.
 pub fn the_list_follows_the_log()
     ensures empty { open_of [] ≡ [] }
     ensures plain { (log : List Entry) (records : List Record)

@@ -60,7 +60,7 @@ impl OpenTxns {
     ///
     /// # Errors
     ///
-    /// Only where memory runs out, where there was no room.
+    /// Only if memory runs out, if there was no room.
     pub fn reserve(&mut self) -> Result<(), AllocError>
         ensures txns { self.new.txns ≡ self.old.txns }
         ensures room { IfOk result (λ done. 0 < self.new.room) }
@@ -81,7 +81,7 @@ impl OpenTxns {
     ///
     /// # Errors
     ///
-    /// [`BeginFault::Full`] exactly where 1,024 are open, else [`BeginFault::Memory`] where there
+    /// [`BeginFault::Full`] exactly if 1,024 are open, else [`BeginFault::Memory`] if there
     /// was no room and memory ran out. What is open stays.
     pub fn begin(&mut self, id: ProducerId, epoch: Epoch, offset: i64) -> Result<(), BeginFault>
         requires { epoch_in id self.old.txns ≡ None }
@@ -111,7 +111,7 @@ impl OpenTxns {
         self.txns.partition_point(|txn| txn.first <= offset)
     }
 
-    /// Takes out the transaction of an id and gives it, or `None` where none of that id is open. No
+    /// Takes out the transaction of an id and gives it, or `None` if none of that id is open. No
     /// memory is asked for.
     pub fn end_at(&mut self, id: ProducerId) -> Option<OpenTxn>
         ensures txn { result ≡ find (is_txn_of id) self.old.txns }
@@ -130,7 +130,7 @@ impl OpenTxns {
         self.txns.iter().find(|txn| txn.id == id).copied()
     }
 
-    /// The least of their first offsets, or `None` where none is open. Only one is looked at, and
+    /// The least of their first offsets, or `None` if none is open. Only one is looked at, and
     /// no memory is asked for.
     pub fn first_open(&self) -> Option<i64>
         ensures { MatchOption result (self.now.txns ≡ []) (λ first. IsLeast first self.now.txns) }
@@ -139,7 +139,7 @@ impl OpenTxns {
         Some(txn.first)
     }
 
-    /// The epoch of the open transaction of an id, or `None` where none of that id is open. No
+    /// The epoch of the open transaction of an id, or `None` if none of that id is open. No
     /// memory is asked for.
     pub fn epoch_of(&self, id: ProducerId) -> Option<Epoch>
         ensures { result ≡ epoch_in id self.now.txns }

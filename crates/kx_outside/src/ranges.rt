@@ -1,4 +1,4 @@
-//! Requests hold numbers and names within their ranges, as their types see to. What stands here
+//! Requests hold numbers and names within their ranges, as their types see to. What is here
 //! changes nothing when it runs.
 ghost use Rattle.std.specs.Prelude.{◌<◌, IfSome, length};
 ghost use Rattle.std.specs.Int.{w32, w64};

@@ -64,7 +64,7 @@ impl Model for OutsideRequest {
 }
 
 impl OutsideRequest {
-    /// The message as a request from outside, none where it cannot arrive: where no client may
+    /// The message as a request from outside, none if it cannot arrive: if no client may
     /// send it, or no frame can bring it.
     pub fn new(message: Message) -> Option<OutsideRequest>
         ensures { MatchOption result (CanArrive message → ⊥)
@@ -80,7 +80,7 @@ impl OutsideRequest {
     ///
     /// # Errors
     ///
-    /// Only where memory runs out.
+    /// Only if memory runs out.
     pub fn message(&self) -> Result<Message, AllocError>
         ensures { IfOk result (λ message. message ≡ self.now) }
     {

@@ -190,7 +190,7 @@ fn logs<'a>(html: &mut Html<'a>, all: &'a [Log])
     }
 }
 
-// Ends the last part, if there is one, and adds what stands beside and below the steps: the logs,
+// Ends the last part, if there is one, and adds what is beside and below the steps: the logs,
 // the rules, and the page's script.
 fn tail<'a>(html: &mut Html<'a>, run: &'a Run)
     ensures { KeepsRows html.old html.new }
@@ -234,7 +234,7 @@ fn whole<'a>(html: &mut Html<'a>, run: &'a Run) -> Result<(), AllocError>
 ///
 /// # Errors
 ///
-/// Only where memory runs out.
+/// Only if memory runs out.
 pub fn page<'a>(alloc: Global, run: &'a Run) -> Result<Vec<u8>, AllocError>
     ensures { IfOk result (λ page. IsPageOf run.now page.items) }
 {
@@ -273,7 +273,7 @@ fn drawn<'a>(html: &mut Html<'a>, run: &'a Run)
 ///
 /// # Errors
 ///
-/// Only where memory runs out.
+/// Only if memory runs out.
 pub fn diagram<'a>(alloc: Global, run: &'a Run) -> Result<Vec<u8>, AllocError>
     ensures { IfOk result (λ image. IsDrawn image.items) }
 {

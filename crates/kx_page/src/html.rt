@@ -60,7 +60,7 @@ impl<'a> Html<'a> {
     ///
     /// # Errors
     ///
-    /// Only where memory runs out.
+    /// Only if memory runs out.
     pub(crate) fn row(&mut self, row: Row<'a>) -> Result<(), AllocError>
         ensures rows { OnOk result
             (rows_in self.new ≡ rows_in self.old ++ told_in (piece.Row row.entry)) }
@@ -76,7 +76,7 @@ impl<'a> Html<'a> {
     ///
     /// # Errors
     ///
-    /// Only where memory runs out, or ran out for a piece.
+    /// Only if memory runs out, or ran out for a piece.
     pub(crate) fn text(&self, alloc: Global) -> Result<Vec<u8>, AllocError>
         ensures text { IfOk result (λ text. text.items ≡ text_of self.now.pieces.items) }
         ensures markup { IfOk result (λ text.

@@ -57,8 +57,8 @@ fn put_hex(out: &mut Vec<u8>, byte: u8) -> Result<(), AllocError>
     out.extend_from_slice(&[b'\\', b'x', digit(byte / 16), digit(byte % 16)])
 }
 
-// Adds a byte of a value: as a character reference where it has a meaning in HTML, and in
-// hexadecimal where it is no printable ASCII.
+// Adds a byte of a value: as a character reference if it has a meaning in HTML, and in
+// hexadecimal if it is no printable ASCII.
 fn put_byte(out: &mut Vec<u8>, byte: u8) -> Result<(), AllocError>
     ensures { OnOk result (out.new.items ≡ out.old.items ++ escaped_byte byte) }
 {
@@ -128,7 +128,7 @@ fn put_piece(out: &mut Vec<u8>, piece: Piece<'_>) -> Result<(), AllocError>
 ///
 /// # Errors
 ///
-/// Only where memory runs out.
+/// Only if memory runs out.
 pub(crate) fn text(alloc: Global, pieces: &[Piece<'_>]) -> Result<Vec<u8>, AllocError>
     ensures text { IfOk result (λ text. text.items ≡ text_of pieces.now) }
     ensures markup { IfOk result (λ text.

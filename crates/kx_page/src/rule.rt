@@ -1,7 +1,7 @@
 //! Which line of the rules decided.
 
 /// A line of the rules (docs/RULES.md) by which a node answered: the id of that line in a page, which
-/// `tools/rules.py` makes of its table and case. Where two lines answer alike, the first of them.
+/// `tools/rules.py` makes of its table and case. If two lines answer alike, the first of them.
 #[derive(Clone, Copy, Debug, PartialEq, Eq)]
 pub struct Rule(&'static str);
 

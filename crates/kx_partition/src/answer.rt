@@ -9,7 +9,7 @@ use kx_message::ErrorCode;
 pub enum Produced {
     /// The batch is appended; the offset of its first record, 0 to 2^63 - 1.
     Appended(i64),
-    /// The batch is one of the last five batches of its producer's epoch, and stands in the log
+    /// The batch is one of the last five batches of its producer's epoch, and is in the log
     /// already; the offset of its first record there. Nothing is changed.
     Duplicate(i64),
     /// The batch would open a transaction of which the coordinator doesn't know yet that it has
@@ -20,7 +20,7 @@ pub enum Produced {
 }
 
 impl Produced {
-    /// The code that the client is answered. What isn't verified is outside its transaction where
+    /// The code that the client is answered. What isn't verified is outside its transaction if
     /// the coordinator can't be asked.
     pub fn code(self) -> ErrorCode
         ensures { result ≡ code_of self }

@@ -62,7 +62,7 @@ module _ (w : World) (image : Images) (q : ℕ) where
       ∙ images_of_parts start first.end next (omega (arith, ints, grows))
       (ends_no_lower first.end rest linked.2)
 
-  -- from 0 on, where there may be none
+  -- from 0 on, if there may be none
   images_of_all : (ranges : List Range) → AreLinked (pos 0) ranges
       → flat_map images ranges ≡ images (range (pos 0) (last_end ranges))
   images_of_all [] linked = sym (images_of_none (pos 0) (negsuc 0) (omega (arith, ints)))

@@ -1,4 +1,4 @@
--- The ranges of the batches that are committed follow one another, where each batch with an offset
+-- The ranges of the batches that are committed follow one another, if each batch with an offset
 -- came when no other was pending, and its transaction had read from the committed offset.
 use Rattle.std.proofs.Common.{◌≡◌, ℕ, ℤ, pos, ◌+◌, ◌<ℤ◌, Bool, true, false, cond, ◌&&◌, ◌||◌, ◌==◌}
 use Rattle.std.proofs.Common.{List, [], ◌∷◌, ◌++◌, filter, flat_map, length, Contains, refl}
@@ -140,7 +140,7 @@ module _ (from_of : Sequenced → ℤ) (group : List ℕ) (q : ℕ) (whole : Lis
       (parts ∙ ap (λ l. l ++ rest) s.parts
       ∙ append_assoc s.before (Data batch ∷ s.behind) rest) s.has).transactional
 
-  -- where none is pending, each is ended
+  -- if none is pending, each is ended
   pub all_ended : (log rest : List Entry) → whole ≡ log ++ rest → is_pending log group q ≡ false
       → AreEnded log (batches from_of group q log)
   all_ended log rest parts pending batch c =

@@ -1,5 +1,5 @@
 -- The batches of a log with an offset of a group and input partition: what one more entry does to
--- them, and which of them are committed, where each of them is ended.
+-- them, and which of them are committed, if each of them is ended.
 use Rattle.std.proofs.Common.{◌≡◌, ℕ, ◌+◌, Bool, true, false, cond, ◌&&◌, ◌==◌, List, []}
 use Rattle.std.proofs.Common.{◌∷◌, ◌++◌, filter, Contains, refl, sym, ap, ◌∙◌, subst}
 use Rattle.std.proofs.Common.{arith, append_assoc, append-nil, ⊎_elim}

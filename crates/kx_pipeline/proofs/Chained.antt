@@ -1,4 +1,4 @@
--- The chain of a group and input partition, where each batch with an offset rests on the part of
+-- The chain of a group and input partition, if each batch with an offset rests on the part of
 -- the offsets partition's log that its transaction had read: over every schedule.
 use Rattle.std.proofs.Common.{◌≡◌, ℕ, Bool, true, false, not, ◌&&◌, cond, List, [], ◌∷◌, ◌++◌}
 use Rattle.std.proofs.Common.{Some, filter, flat_map, pos, refl, sym, ap, ◌∙◌, subst, arith}

@@ -1,4 +1,4 @@
--- Each batch with an offset of a group and an input partition rests on a link, where each commit of
+-- Each batch with an offset of a group and an input partition rests on a link, if each commit of
 -- the group rests on a part of the log that its client had read.
 use Rattle.std.proofs.Common.{◌≡◌, ◌<◌, ◌≤◌, ◌<ℤ◌, ℕ, ℤ, pos, Bool, true, false, ◌&&◌, cond}
 use Rattle.std.proofs.Common.{List, [], ◌∷◌, ◌++◌, length, Some, ◌==◌, refl}

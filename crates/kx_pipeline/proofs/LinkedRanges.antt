@@ -16,7 +16,7 @@ use Rattle.kx_pipeline.specs.Chain.{AreLinked, Range, has_offset, last_end, offs
 
 ------ one range more
 
--- the end of the last, or this where there is none
+-- the end of the last, or this if there is none
 abbrev pub end_or : ℤ → List Range → ℤ
 end_or n [] = n
 end_or n (range ∷ rest) = end_or range.end rest
@@ -26,7 +26,7 @@ pub last_end_is : (range : Range) (rest : List Range)
 last_end_is range [] = refl
 last_end_is range (next ∷ rest) = last_end_is next rest
 
--- where there is none, to read on from its end is to read from 0
+-- if there is none, to read on from its end is to read from 0
 begins_alike : (ranges : List Range)
     → from_offset (last_end ranges) ≡ from_offset (end_or (pos 0) ranges)
 begins_alike [] = refl

@@ -8,7 +8,8 @@ use Rattle.kx_model.specs.Open.{open_step}
 use Rattle.kx_model.specs.World.{Event, IsSchedule, World, run, start}
 use Rattle.kx_system.specs.Events.{events_of}
 use Rattle.kx_system.specs.System.{System, SystemEvent, start_system, system_step}
-use Rattle.kx_pipeline.specs.OpenSystems.{Arrives, Inside, IsOpenSystemEvent, IsOpenSystemSchedule}
+use Rattle.kx_pipeline.specs.OpenSystems.{Arrives, Inside, IsLedTo, IsOpenSystemEvent}
+use Rattle.kx_pipeline.specs.OpenSystems.{IsOpenSystemSchedule}
 use Rattle.kx_pipeline.specs.OpenSystems.{OpenSystemEvent, open_system_step, run_open_system}
 use Rattle.kx_pipeline.proofs.PartitionReplies.{InRange}
 use Rattle.kx_pipeline.proofs.ProcessorsFit.{ProcessingFits}
@@ -75,10 +76,20 @@ module _ (follows : (s : System) (event : SystemEvent)
     processors = All-nil ProcessingFits;
   }
 
-  -- so what always holds of worlds in which requests arrive holds of the system's
+  -- so an open schedule of the world leads to the system's
+  pub led_to : (count : ℕ) (events : List OpenSystemEvent) → IsOpenSystemSchedule events
+      → IsLedTo count (run_open_system events (start_system count)).world
+  led_to count events fits =
+      let h = stands_all count events (start_system count) fits (stands_first count) in record {
+        events = h.events;
+        scheduled = h.scheduled;
+        leads = h.is;
+      }
+
+  -- and what always holds of worlds in which requests arrive holds of the system's
   pub holds_of_systems : (Fact : World → Type 0) → AlwaysOpen Fact → (count : ℕ)
       (events : List OpenSystemEvent) → IsOpenSystemSchedule events
       → Fact (run_open_system events (start_system count)).world
   holds_of_systems Fact always count events fits =
-      let h = stands_all count events (start_system count) fits (stands_first count) in
-      subst Fact h.is (always count h.events h.scheduled)
+      let h = led_to count events fits in
+      subst Fact h.leads (always count h.events h.scheduled)

@@ -208,7 +208,7 @@ module _ (sent : List Message) (log : List Entry) (me : Self) (m : Message)
   ending_asks left h =
       record { placed = placed_asks left h.placed; settled = settled_asks log h.settled }
 
-  -- its last fetch stays where the message is no fetch
+  -- its last fetch stays if the message is no fetch
   last_asks : NoFetch m → last_fetch later me.number (me.correlation + 1)
       ≡ last_fetch sent me.number me.correlation
   last_asks none =
@@ -906,7 +906,7 @@ module _ (sent : List Message) (log : List Entry) (c : Client) (p : Processing)
 
   ------ any command
 
-  -- what a command leaves where it is declined
+  -- what a command leaves if it is declined
   declined_moves : Knows sent c → (fault : Fault)
       → Turned (stage_refused fault p.stage) c []
   declined_moves k fault =

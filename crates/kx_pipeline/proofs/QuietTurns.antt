@@ -213,7 +213,7 @@ pub record QuietDoes (s : System) (later : World) : Type 0 where
   pub numbers : (n : ℕ) → Contains (map (λ (c : Client). c.number) s.world.clients) n
       → Contains (map (λ (c : Client). c.number) later.clients) n
 
--- numbers stay where a client is replaced by itself later
+-- numbers stay if a client is replaced by itself later
 pub numbers_stay : (after : Client) (l : List Client)
     → map (λ (d : Client). d.number)
     (map (λ (d : Client). cond (d.number == after.number) after d) l)

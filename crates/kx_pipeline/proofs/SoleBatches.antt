@@ -129,7 +129,7 @@ module _ (sent : List Message) (client output : ℕ) (held : Held) (batches : Li
           → Contains (sent ++ msg.Produce request ∷ []) (msg.Produce r)
       was r there = Contains-append_left sent (msg.Produce request ∷ []) (msg.Produce r) there
 
-  -- where the client alone sent as the pair, these batches are all that was sent to the partition
+  -- if the client alone sent as the pair, these batches are all that was sent to the partition
   pub sole_sends : ((request : Produce) → Contains sent (msg.Produce request)
       → IsAs request.partition held.id held.epoch request → request.caller.client ≡ client)
       → Sends sent output held.id held.epoch batches

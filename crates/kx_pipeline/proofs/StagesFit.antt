@@ -1,4 +1,4 @@
--- A processor's step keeps what stands of it, where the numbers of the reply that comes are in
+-- A processor's step keeps what stands of it, if the numbers of the reply that comes are in
 -- their ranges.
 use Rattle.std.proofs.Common.{◌<◌, ◌≤◌, ◌+◌, ℕ, zero, suc, ℤ, List, [], ◌∷◌}
 use Rattle.std.proofs.Common.{map, All, arith, Result, Ok, Err}

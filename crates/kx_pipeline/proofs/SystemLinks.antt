@@ -30,7 +30,7 @@ use Rattle.kx_pipeline.proofs.SystemHolds.{Holds, event_holds}
 
 ------ the commits of a group
 
--- where its members are processors, each of its commits is one's
+-- if its members are processors, each of its commits is one's
 module _ (s : System) (group : List ℕ) (inputs : ℕ) (image : Images)
     (pipeline : IsPipeline s group inputs image) (h : Holds s) where
   pub numbered : (it : TxnOffsetCommit) → Contains s.world.sent (msg.TxnOffsetCommit it)

@@ -195,7 +195,7 @@ module _ (sent : List Message) (reads : ℕ → ℤ → ℤ → List Shown → T
             (grind (arith, nat_tests, e, low))
         by x e = tt
 
-    -- and its last before the next one, where the message is no fetch
+    -- and its last before the next one, if the message is no fetch
     last_asks : NoFetch m → last_fetch later c.number (c.correlation + 1)
         ≡ last_fetch sent c.number c.correlation
     last_asks none =
@@ -959,7 +959,7 @@ module _ (sent : List Message) (reads : ℕ → ℤ → ℤ → List Shown → T
 
   ------ any command
 
-  -- what a command leaves where it is declined
+  -- what a command leaves if it is declined
   declined_leaves : (fault : Fault) → Turned (stage_refused fault p.stage) c []
   declined_leaves fault =
       unchanged (stage_refused fault p.stage)

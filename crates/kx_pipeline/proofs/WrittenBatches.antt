@@ -1,5 +1,5 @@
 -- What a transaction wrote to a data partition is a front of the batches that its producer sent
--- there, each once and in order, and all of them where it is decided to commit.
+-- there, each once and in order, and all of them if it is decided to commit.
 use Rattle.std.proofs.Common.{◌≡◌, ◌^◌, ◌<◌, ◌≤◌, ◌+◌, ◌==◌, ℕ, Bool, true, false, cond}
 use Rattle.std.proofs.Common.{ltb, List, [], ◌∷◌, ◌++◌, length, map, filter, Some, None}
 use Rattle.std.proofs.Common.{Contains, refl, sym, ap, ◌∙◌, subst, arith, append-nil, append_assoc}
@@ -141,7 +141,7 @@ module _ (sent : List Message) (number : ℕ) (apart : number ≢ offsets_partit
       (none (end log))
       ∙ append-nil (batches_of log id epoch))
 
-  -- one of the batches, which begins where those before it end
+  -- one of the batches, which begins if those before it end
   its_next : (log : List Entry) (d : Sequenced) → is_of id epoch d ≡ true
       → FrontOf batches id epoch log → IsOneOf batches d → d.first ≡ expected log id epoch
       → last_sequence d ≤ greatest_sequence → FrontOf batches id epoch (log ++ Data d ∷ [])
@@ -364,7 +364,7 @@ outputs_begin count events fits partition apart id epoch batches wrote =
           ∙ ap (λ l. l ++ map keyless (values_of f.after)) (sym f.shows),
     )
 
--- where it is decided to commit, it wrote them all
+-- if it is decided to commit, it wrote them all
 pub outputs_are_all : Always (λ w. (partition : ℕ) → partition ≢ offsets_partition
     → (id epoch : ℕ) (batches : List Values) → Wrote w.sent partition id epoch batches
     → decision (notes w) id epoch ≡ Some Commit

@@ -123,14 +123,14 @@ AreLinked from [] = Unit {0}
 AreLinked from (range ∷ rest) =
     (range.from ≡ from) × (from <ℤ range.end) × AreLinked range.end rest
 
--- the end of the last, -1 where there is none
+-- the end of the last, -1 if there is none
 abbrev pub last_end : List Range → ℤ
 last_end [] = negsuc 0
 last_end (range ∷ []) = range.end
 last_end (range ∷ next ∷ rest) = last_end (next ∷ rest)
 
 -- a group reads the input partition once, from its beginning on, and its committed offset is where
--- it has read to: the end of the last range whose marker stands, and where no offset is pending that
+-- it has read to: the end of the last range whose marker stands, and if no offset is pending that
 -- of the last range of all
 pub record IsChained (w : World) (group : List ℕ) (q : ℕ) : Type 0 where
   pub linked : AreLinked (pos 0) (chain w group q)

@@ -1,11 +1,12 @@
 -- Systems whose clients nobody trusts: beside all that may happen, any request that a client may
 -- send arrives from outside, at any time and with anything in its fields (KIP-98, "Data Flow";
 -- KIP-447).
-use Rattle.std.specs.Prelude.{◌≡◌, true, List, [], ◌∷◌, ◌++◌, All}
+use Rattle.std.specs.Prelude.{◌≡◌, ℕ, true, List, [], ◌∷◌, ◌++◌, All}
 use Rattle.kx_message.specs.Message.{IsMessage}
 use Rattle.kx_message.specs.declared.message.Message.{Message}
-use Rattle.kx_model.specs.Open.{is_request}
+use Rattle.kx_model.specs.Open.{IsOpenSchedule, OpenEvent, is_request, open_run}
 use Rattle.kx_model.specs.Step.{Done}
+use Rattle.kx_model.specs.World.{World, start}
 use Rattle.kx_system.specs.System.{IsSystemEvent, System, SystemEvent, SystemStepped, system_step}
 
 pub data OpenSystemEvent : Type 0 where
@@ -34,3 +35,9 @@ run_open_system (event ∷ events) s = run_open_system events (open_system_step 
 
 abbrev pub IsOpenSystemSchedule : List OpenSystemEvent → Type 0
 IsOpenSystemSchedule events = All IsOpenSystemEvent events
+
+-- an open schedule of a world with so many partitions leads to this world
+pub record IsLedTo (partitions : ℕ) (w : World) : Type 0 where
+  pub events : List OpenEvent
+  pub scheduled : IsOpenSchedule events
+  pub leads : open_run events (start partitions) ≡ w

@@ -7,7 +7,7 @@ use Rattle.kx_message.specs.declared.message.Message.{Message}
 use Rattle.kx_message.specs.declared.message.Message.TheVariants as msg
 use Rattle.kx_message.specs.declared.requests.Produce.{Produce}
 use Rattle.kx_batch.specs.Batch.{batch_of}
-use Rattle.kx_batch.specs.Record.{Record}
+use Rattle.kx_batch.specs.Record.{Header, Record}
 use Rattle.kx_client.specs.declared.values.Values.{Values}
 use Rattle.kx_model.specs.Client.{client_batch, value_records}
 use Rattle.kx_model.specs.Log.{Entry, Plain, Data, Control, Sequenced, entry_in}
@@ -16,17 +16,18 @@ use Rattle.kx_model.specs.World.{World, entries_at}
 
 ------ what a record carries
 
--- its key and its value
+-- its key, its value and its headers
 pub record Content : Type 0 where
   pub key : Option (List ℕ)
   pub value : Option (List ℕ)
+  pub headers : List Header
 
 abbrev pub content_of : Record → Content
-content_of r = record { key = r.key; value = r.value }
+content_of r = record { key = r.key; value = r.value; headers = r.headers }
 
--- a value with a null key
+-- a value with a null key and no headers
 abbrev pub keyless : List ℕ → Content
-keyless value = record { key = None; value = Some value }
+keyless value = record { key = None; value = Some value; headers = [] }
 
 ------ what stands in the log
 

@@ -1,6 +1,6 @@
 //! Schedules of systems with processors, which consume, process and produce: each comes to a
 //! schedule of a world without processors, and keeps the promises of exactly-once semantics. The
-//! definitions stand in `kx_system` and `kx_model`; the functions here do nothing when they run,
+//! definitions are in `kx_system` and `kx_model`; the functions here do nothing when they run,
 //! and carry the laws in their contracts.
 //!
 //! In `proofs/`:
@@ -20,7 +20,7 @@
 //!   `VisibleParts` (what is visible of a range and of the next), `FetchReplies` (each page has
 //!   what is visible).
 //! - What a transaction wrote: `BatchesRead` (a client's batch reads as it was made), `SentTexts`
-//!   (what its producer sent, request by request), `WrittenBatches` (it stands in that order).
+//!   (what its producer sent, request by request), `WrittenBatches` (it is in that order).
 //! - A processor: `ProcessorsFit` (its names, numbers and bytes, and those of the commands to which
 //!   its polls come), `StagesFit` (its steps keep them in their ranges), `Batches` (its batches of
 //!   images), `ProcessorWorks` (what stands of it at each stage, whatever others do),
@@ -32,7 +32,7 @@
 //!   `WrittenImages` (what a group's transactions wrote), `AllImages` (what all of them wrote, one
 //!   after the other), `SystemImages`.
 //! - A system: `SystemEvents` (the events of its step, and of its schedules), `OpenSystems` (the
-//!   same where requests arrive from outside), `QuietTurns` (events that are no processor's turn),
+//!   same if requests arrive from outside), `QuietTurns` (events that are no processor's turn),
 //!   `SystemHolds` (what stands of its processors after each event), `SystemLinks`.
 #![tactic(auto)]
 
@@ -65,7 +65,10 @@ use kx_headline::{
     markers_agree_whoever_asks,
 };
 use kx_system::systems_run_as_worlds;
-pub use promises::{open_systems_keep_promises, schedules_keep_promises, systems_keep_promises};
+pub use promises::{
+    open_systems_keep_promises, open_systems_run_as_worlds, schedules_keep_promises,
+    systems_keep_promises,
+};
 
 /// The events that a system's schedule comes to are a schedule of its world: names, numbers and
 /// bytes are in their ranges.
@@ -104,8 +107,8 @@ pub fn pages_show_what_is_visible()
 }
 
 /// What a transaction that is decided to commit wrote to a partition are the records of the batches
-/// that its producer sent there, with null keys, in the order of sending, each once (KIP-98,
-/// "Idempotent Producer Guarantees" and "Transactional Guarantees").
+/// that its producer sent there, with null keys and no headers, in the order of sending, each once
+/// (KIP-98, "Idempotent Producer Guarantees" and "Transactional Guarantees").
 pub fn committed_batches_stand_in_order()
     ensures { Always (λ w. (partition : ℕ) → partition ≢ offsets_partition
         → (id epoch : ℕ) (batches : List Values) → Wrote w.sent partition id epoch batches
@@ -115,8 +118,8 @@ pub fn committed_batches_stand_in_order()
 
 /// Over every schedule, the ranges of an input partition that a group's transactions read follow
 /// one another: the first begins at 0, each other where the one before ends, none is empty, and the
-/// group's committed offset is the end of the last whose commit marker stands in the offsets
-/// partition, -1 where there is none; where no offset is pending, that is the end of the last range
+/// group's committed offset is the end of the last whose commit marker is in the offsets
+/// partition, -1 if there is none; if no offset is pending, that is the end of the last range
 /// of all. Asked is that every member of the group is a processor with
 /// the same process and as many input partitions, and that nobody else sends offsets for the group
 /// (KIP-98, "Transactional Guarantees"; KIP-447).

@@ -2,7 +2,7 @@
 ghost use Rattle.std.specs.Prelude.{◌≡◌, ℕ, List};
 ghost use Rattle.kx_model.specs.World.{Event, IsSchedule, run, start};
 ghost use Rattle.kx_model.specs.OpenHeadline.{KeepsOpenPromises};
-ghost use Rattle.kx_pipeline.specs.OpenSystems.{IsOpenSystemSchedule, OpenSystemEvent};
+ghost use Rattle.kx_pipeline.specs.OpenSystems.{IsLedTo, IsOpenSystemSchedule, OpenSystemEvent};
 ghost use Rattle.kx_pipeline.specs.OpenSystems.{run_open_system};
 ghost use Rattle.kx_pipeline.specs.Promises.{KeepsAll, KeepsPromises};
 ghost use Rattle.kx_system.specs.System.{IsSystemSchedule, SystemEvent, run_system, start_system};
@@ -47,6 +47,19 @@ pub fn systems_keep_promises()
     ranges_follow_one_another();
     transactions_write_images();
     outputs_are_images_of_all_that_was_read();
+}
+
+/// Every open schedule of a system comes to an open schedule of its world. So what holds of every
+/// world in which any request may arrive, as
+/// [`acknowledged_batches_are_kept`](kx_headline::acknowledged_batches_are_kept), holds of a
+/// running one. This does nothing when it runs.
+pub fn open_systems_run_as_worlds()
+    ensures { (partitions : ℕ) (events : List OpenSystemEvent) → IsOpenSystemSchedule events
+        → IsLedTo partitions (run_open_system events (start_system partitions)).world }
+{
+    systems_run_as_worlds();
+    schedules_are_open_ones();
+    open_schedules_go_on();
 }
 
 /// Every open schedule of a system, in which any request of a client may also arrive from outside,

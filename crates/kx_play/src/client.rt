@@ -90,7 +90,7 @@ impl<L: Locked> Client<L> {
         self.step(rt, Input::Command(command))
     }
 
-    // Sends again what is unanswered, where nothing came for long.
+    // Sends again what is unanswered, if nothing came for long.
     fn resend<R: Wait>(&mut self, rt: &R) -> Result<(), PlayFault> {
         self.idle = self.idle.saturating_add(1);
         if self.idle < PATIENCE {
@@ -101,7 +101,7 @@ impl<L: Locked> Client<L> {
     }
 
     /// Looks for the next frame, takes it in, and says whether one came. A client that waits for an
-    /// answer sends again what is unanswered where none came for long.
+    /// answer sends again what is unanswered if none came for long.
     pub(crate) fn look<R: Wait>(&mut self, rt: &R, is_waiting: bool) -> Result<bool, PlayFault> {
         match self.end.inbox.try_recv(rt) {
             Ok(message) => {

@@ -187,7 +187,7 @@ impl<L: Readable, R: Wait + Drop> Clients<L, R> {
         }
     }
 
-    // One look of each client. All wait briefly where no frame came.
+    // One look of each client. All wait briefly if no frame came.
     fn turn(&mut self, rt: &R) -> Result<(), PlayFault>
     where
         R: Clock,

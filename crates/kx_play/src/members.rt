@@ -155,7 +155,7 @@ impl<L: Locked> Member<L> {
         committed
     }
 
-    /// Looks for the next frame, and sends what comes next; a member of the group only where it is
+    /// Looks for the next frame, and sends what comes next; a member of the group only if it is
     /// to work.
     pub(crate) fn turn<R: Wait>(&mut self, rt: &R, is_to_work: bool) -> Result<Seen, PlayFault> {
         let goes_on = is_to_work || !self.has_joined;

@@ -244,8 +244,8 @@ fn play_machines<
 ///
 /// # Errors
 ///
-/// `Net` where a connection can't be made or fails, `GaveUp` where it comes to no end, `Memory`
-/// where memory or threads run out.
+/// `Net` if a connection can't be made or fails, `GaveUp` if it comes to no end, `Memory`
+/// if memory or threads run out.
 pub fn play<
     R: Net<Listener = TcpListener, Stream = TcpStream>
         + AllocGlobal

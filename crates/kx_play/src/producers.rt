@@ -132,7 +132,7 @@ impl<L: Locked> Producer<L> {
         granted.is_some() && granted == self.awaited
     }
 
-    /// Looks for the next frame, goes on where it is what is waited for, and says whether one came.
+    /// Looks for the next frame, goes on if it is what is waited for, and says whether one came.
     pub(crate) fn turn<R: Wait>(&mut self, rt: &R) -> Result<bool, PlayFault> {
         if !self.client.look(rt, self.awaited.is_some())? {
             return Ok(false);

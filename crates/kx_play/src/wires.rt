@@ -43,7 +43,7 @@ pub(crate) fn port_of(listener: &TcpListener) -> Result<u16, PlayFault> {
 }
 
 // Connects to a port of 127.0.0.1. Frames are small and are waited for, so they aren't delayed
-// where that can be had.
+// if that can be had.
 fn connect<R: Net<Listener = TcpListener, Stream = TcpStream>>(
     rt: &R,
     port: u16,

@@ -16,7 +16,7 @@ use Rattle.kx_model.specs.Client.{command, is_ending, is_init, is_spent}
 use Rattle.kx_model.specs.Replies.{is_answer_to, is_awaited, take_reply, told}
 use Rattle.kx_model.specs.Step.{Commands, serves}
 use Rattle.kx_processor.specs.Calls as call
-use Rattle.kx_processor.specs.Calls.{IsRefused}
+use Rattle.kx_processor.specs.Calls.{IsRefused, MaySend}
 use Rattle.kx_processor.specs.Internal.{IsRefusedOrUnlisted}
 use Rattle.kx_system.specs.Processor.{Aborting, Committing, Fetching, Joining, Locating, Overflown}
 use Rattle.kx_system.specs.Processor.{Processor, Stage, Stopped, Writing, at_stage, has_failed}
@@ -282,6 +282,37 @@ module _ {P : Type 0} (image_of : P → Images) (r : Running P) where
       resend_does (processor_of image_of r) (items sent) e does
   resend_answers items (Err f) e refused =
       resend_declined (processor_of image_of r) f e refused
+
+------ out of memory, which comes only for what is sent
+
+-- a fault; of a success any
+abbrev fault_in : {A : Type 0} → Result A ClientFault → ClientFault
+fault_in (Ok sent) = fault.Memory
+fault_in (Err f) = f
+
+module _ {P : Type 0} (image_of : P → Images) (r : Running P) where
+  pub init_memory : (after : Client) (result : Result Message ClientFault)
+      → has_failed (processor_of image_of r) ≡ false
+      → Answers (λ sent. sent ∷ []) r.client after (command r.client Init) result
+      → result ≡ Err fault.Memory → MaySend (processor_of image_of r) Init
+  init_memory after (Ok sent) e does is = absurd cc
+  init_memory after (Err f) e (refused, same) is = record {
+    not_failed = e;
+    sends = subst (λ other. client.IsRefused other (command r.client Init)) (ap fault_in is)
+        refused;
+  }
+
+  pub resend_memory : {A : Type 0} (items : A → List Message) (result : Result A ClientFault)
+      → has_failed (processor_of image_of r) ≡ false
+      → MatchResult result (λ sent. command r.client Resend ≡ Does r.client (items sent))
+      (λ f. client.IsRefused f (command r.client Resend))
+      → result ≡ Err fault.Memory → MaySend (processor_of image_of r) Resend
+  resend_memory items (Ok sent) e does is = absurd cc
+  resend_memory items (Err f) e refused is = record {
+    not_failed = e;
+    sends = subst (λ other. client.IsRefused other (command r.client Resend)) (ap fault_in is)
+        refused;
+  }
 
 ------ replies
 

@@ -44,7 +44,7 @@ abbrev pub is_page : Message → Bool
 is_page (msg.FetchReply it) = true
 is_page other = false
 
--- what comes of a command in a transaction, which is begun where there is none
+-- what comes of a command in a transaction, which is begun if there is none
 abbrev pub told_inside : Client → Command → Commanded
 told_inside c what = told_all c (in_transaction c what)
 
@@ -58,7 +58,7 @@ abbrev pub IsRefusedOrUnlisted : ClientFault → Commanded → Type 0
 IsRefusedOrUnlisted fault.Memory answer = ⊤
 IsRefusedOrUnlisted other answer = IsRefused other answer
 
--- where the page of a reply leads, if it has one that is awaited
+-- if the page of a reply leads, if it has one that is awaited
 abbrev pub IsPaged : Processing → Message → Option running.Stage → Type 0
 IsPaged p reply None = fetched p p.stage reply ≡ p.stage
 IsPaged p reply (Some stage) =

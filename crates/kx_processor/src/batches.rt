@@ -41,7 +41,7 @@ fn add(values: &mut Values, image: Bytes) -> Result<Option<Bytes>, AllocError>
     }
 }
 
-// Puts an image into the last of some batches, or into one of its own where that is full. Where
+// Puts an image into the last of some batches, or into one of its own if that is full. If
 // memory is refused, they are no longer of use.
 pub(crate) fn put(batches: &mut Vec<Values>, image: Bytes) -> Result<(), AllocError>
     ensures { IfOk result (λ _. batches.new.items ≡ with_image batches.old.items image) }

@@ -31,7 +31,7 @@ fn images_of<P: Process>(
     Ok(batches)
 }
 
-// Where a page leads: to the writing of its images, or onward where it has nothing new.
+// Where a page leads: to the writing of its images, or onward if it has nothing new.
 pub(crate) fn behind<P: Process>(
     process: &P,
     alloc: Global,

@@ -18,7 +18,7 @@ use crate::stage::{Sequel, Stage, from_of};
 use kx_client::{ClientFault, ProducerClient, Values};
 use kx_message::{Message, PartitionId, PartitionOffset};
 
-// Commits an offset with the transaction, which is begun where there is none.
+// Commits an offset with the transaction, which is begun if there is none.
 fn commit(asker: &mut ProducerClient, offset: PartitionOffset) -> Result<Message, ClientFault>
     ensures { MatchResult result
         (λ sent. told_inside asker.old (SendOffsets offset []) ≡ Does asker.new (sent ∷ []))
@@ -32,7 +32,7 @@ fn commit(asker: &mut ProducerClient, offset: PartitionOffset) -> Result<Message
     }
 }
 
-// Sends a batch of images in the transaction, which is begun where there is none.
+// Sends a batch of images in the transaction, which is begun if there is none.
 fn send(
     asker: &mut ProducerClient,
     output: PartitionId,
@@ -52,7 +52,7 @@ fn send(
     }
 }
 
-// Aborts the transaction, which is begun where there is none.
+// Aborts the transaction, which is begun if there is none.
 fn abort(asker: &mut ProducerClient) -> Result<Message, ClientFault>
     ensures { MatchResult result
         (λ sent. told_inside asker.old (End Outcome.Abort) ≡ Does asker.new (sent ∷ []))
@@ -66,7 +66,7 @@ fn abort(asker: &mut ProducerClient) -> Result<Message, ClientFault>
     }
 }
 
-// Writes the first of some batches, or the offset after them where none is left. Where an image
+// Writes the first of some batches, or the offset after them if none is left. If an image
 // fits no batch, the transaction is aborted.
 fn write(
     asker: &mut ProducerClient,
@@ -176,12 +176,12 @@ impl<P: Process> Processor<P> {
     ///
     /// # Errors
     ///
-    /// The first that fits: [`Failed`](ClientFault::Failed) where it has failed or stopped for
-    /// good; [`NotReady`](ClientFault::NotReady) where it has no id and asks for none;
-    /// [`TooLarge`](ClientFault::TooLarge) once, where an image fitted no batch and the transaction
+    /// The first that fits: [`Failed`](ClientFault::Failed) if it has failed or stopped for
+    /// good; [`NotReady`](ClientFault::NotReady) if it has no id and asks for none;
+    /// [`TooLarge`](ClientFault::TooLarge) once, if an image fitted no batch and the transaction
     /// was aborted, after which it has stopped for good;
-    /// [`NotTransactional`](ClientFault::NotTransactional) where a transaction is to be begun
-    /// without a transactional id; [`UsedUp`](ClientFault::UsedUp) where no number or sequence is
+    /// [`NotTransactional`](ClientFault::NotTransactional) if a transaction is to be begun
+    /// without a transactional id; [`UsedUp`](ClientFault::UsedUp) if no number or sequence is
     /// left for the request. [`Memory`](ClientFault::Memory) may come in place of the last two, and
     /// of no other. Nothing is changed then, but by `TooLarge`.
     pub fn poll(&mut self) -> Result<Vec<Message>, ClientFault>

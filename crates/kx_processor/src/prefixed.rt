@@ -1,4 +1,4 @@
-//! A process that tells an image from its record by one byte.
+//! A process that reports an image from its record by one byte.
 use crate::process::Process;
 use kx_batch::RecordView;
 use std::alloc::{AllocError, Global};

@@ -17,7 +17,7 @@ pub trait Process: Drop {
     ///
     /// # Errors
     ///
-    /// Only where memory runs out.
+    /// Only if memory runs out.
     fn image(&self, of: &RecordView<'_>) -> Result<Vec<u8>, AllocError>
         ensures { IfOk result (λ image. image.items ≡ image_of self.now of.now) };
 

@@ -1,9 +1,9 @@
 //! The processor: what it is told, and what it makes of replies.
-ghost use Rattle.std.specs.Prelude.{◌≡◌, ◌∷◌, [], true, IfOk, OnErr, MatchResult, is_some};
+ghost use Rattle.std.specs.Prelude.{◌≡◌, ◌∷◌, [], true, Err, IfOk, OnErr, MatchResult, is_some};
 ghost use Rattle.kx_model.specs.Client as model;
 ghost use Rattle.kx_model.specs.Step.{Commands, serves};
 ghost use Rattle.kx_model.specs.Replies.{is_awaited};
-ghost use Rattle.kx_processor.specs.Calls.{HasPage, IsRefused};
+ghost use Rattle.kx_processor.specs.Calls.{HasPage, IsRefused, MaySend};
 ghost use Rattle.kx_processor.specs.Internal.{IsPaged};
 ghost use Rattle.kx_processor.specs.Running.{processing_of, processor_of};
 ghost use Rattle.kx_system.specs.Processor as pass;
@@ -106,14 +106,17 @@ impl<P: Process> Processor<P> {
     ///
     /// # Errors
     ///
-    /// Those of [`ProducerClient::init`]; [`Failed`](ClientFault::Failed) also where the processor
+    /// Those of [`ProducerClient::init`]; [`Failed`](ClientFault::Failed) also if the processor
     /// has stopped for good. Nothing is changed then.
     pub fn init(&mut self) -> Result<Message, ClientFault>
-        ensures { MatchResult result
+        ensures answer { MatchResult result
             (λ sent. processor_step (processor_of P.image_of self.old) (Commands model.Init)
             ≡ serves (processor_of P.image_of self.new) (sent ∷ []))
             (λ fault. IsRefused (processor_of P.image_of self.old) model.Init fault
             (processor_of P.image_of self.new) × (self.new ≡ self.old)) }
+        // Memory is asked for only for the request.
+        ensures memory { result ≡ Err ClientFault.Memory
+            → MaySend (processor_of P.image_of self.old) model.Init }
     {
         if self.has_failed() {
             return Err(ClientFault::Failed);
@@ -125,14 +128,17 @@ impl<P: Process> Processor<P> {
     ///
     /// # Errors
     ///
-    /// [`Failed`](ClientFault::Failed) where the processor has failed or stopped for good, and then
+    /// [`Failed`](ClientFault::Failed) if the processor has failed or stopped for good, and then
     /// [`Memory`](ClientFault::Memory).
     pub fn resend(&self) -> Result<Vec<Message>, ClientFault>
-        ensures { MatchResult result
+        ensures answer { MatchResult result
             (λ sent. processor_step (processor_of P.image_of self.now) (Commands model.Resend)
             ≡ serves (processor_of P.image_of self.now) sent.items)
             (λ fault. IsRefused (processor_of P.image_of self.now) model.Resend fault
             (processor_of P.image_of self.now)) }
+        // Memory is asked for only if something is unanswered.
+        ensures memory { result ≡ Err ClientFault.Memory
+            → MaySend (processor_of P.image_of self.now) model.Resend }
     {
         if self.has_failed() {
             return Err(ClientFault::Failed);
@@ -140,7 +146,7 @@ impl<P: Process> Processor<P> {
         self.client.resend()
     }
 
-    // Where the page that a reply has leads, if it has one and a page is awaited.
+    // If the page that a reply has leads, if it has one and a page is awaited.
     fn paged(&self, reply: &Message) -> Result<Option<Stage>, AllocError>
         ensures ok { IfOk result (λ paged.
             IsPaged (processing_of P.image_of self.now) reply.now paged) }
@@ -161,7 +167,7 @@ impl<P: Process> Processor<P> {
         }
     }
 
-    /// Takes a message that has come. It changes something only where it is a reply to this
+    /// Takes a message that has come. It changes something only if it is a reply to this
     /// processor's client and a request of its kind and number waits; then the client takes it, as
     /// [`ProducerClient::take`] says, and the pass goes on.
     ///
@@ -173,7 +179,7 @@ impl<P: Process> Processor<P> {
     ///
     /// # Errors
     ///
-    /// Only where memory is refused, which is asked for only for an awaited reply that carries a
+    /// Only if memory is refused, which is asked for only for an awaited reply that carries a
     /// page. Nothing is changed then, so that the reply may come again.
     pub fn take(&mut self, reply: &Message) -> Result<(), AllocError>
         ensures taken { MatchResult result

@@ -117,7 +117,7 @@ module _ (entries : List (Placed Entry)) (p : Placed Entry) (id : ℕ) where
       ap (λ log. marked_by log id) (map-append _ entries (p ∷ []))
       ∙ marked_by-push (items entries) p.item id
 
--- what is known where there is an epoch
+-- what is known if there is an epoch
 known_is : (entries : List (Placed Entry)) (id epoch : ℕ) (batches : List (Placed Sequenced))
     (marked : Option ℤ) → epoch_of (items entries) id ≡ Some epoch
     → batches_in entries id epoch ≡ batches → marked_by (items entries) id ≡ marked

@@ -75,7 +75,7 @@ entry_changed before after table id epoch known new change held there changed wr
     (sym there ∙ ap (λ o. unwrap_or o (fresh epoch)) (sym (known_of_entries before id))))
     ∙ ap (λ t. insert t id (change (known_or_fresh t id epoch))) held
 
--- an id is known where the hash map has it
+-- an id is known if the hash map has it
 pub known_where : (entries : List (ℕ × Known)) (table : Table) (id : ℕ)
     → from_entries entries ≡ table
     → is_some (known_of table id) ≡ is_some (lookup (λ k. id == k) entries)
@@ -93,7 +93,7 @@ pub unknown_there : (entries : List (ℕ × Known)) (table : Table) (id : ℕ)
 unknown_there entries table id held none =
     ap (λ t. known_of t id) (sym held) ∙ known_of_entries entries id ∙ none
 
--- there is no room where the hash map has none, or no buffer is ready
+-- there is no room if the hash map has none, or no buffer is ready
 pub no_spare : (spare : ℕ) (ready : Bool) → (0 < spare → ⊥) → (nat_lt 0 spare && ready) ≡ false
 no_spare spare ready none =
     let empty : nat_lt 0 spare ≡ false = grind (arith, nat_tests) in ap (λ b. b && ready) empty

@@ -12,7 +12,7 @@ use Rattle.kx_producer.specs.declared.verdict.Verdict.{Verdict}
 use Rattle.kx_producer.specs.declared.verdict.Verdict.TheVariants.{Next, Duplicate, OldEpoch}
 use Rattle.kx_producer.specs.declared.verdict.Verdict.TheVariants.{OutOfOrder}
 
--- one above the last sequence of the newest, 0 where there is none
+-- one above the last sequence of the newest, 0 if there is none
 abbrev pub sequence_behind : List RememberedBatch → ℤ
 sequence_behind [] = pos 0
 sequence_behind (batch ∷ []) = batch.last +ℤ pos 1

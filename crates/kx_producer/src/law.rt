@@ -12,7 +12,7 @@ ghost use Rattle.kx_producer.specs.declared.noted.Noted.{Noted};
 
 /// What is kept stands for a log's entries, each with its offset: nothing for the empty log, and
 /// what is noted of one more entry, or of all of a log, for the log with them. Of a log whose
-/// entries stand after each other from 0 on, it gives the verdict of the produce table's lines on
+/// entries are after each other from 0 on, it gives the verdict of the produce table's lines on
 /// epochs, remembered batches and sequences, the epoch of each producer, and the coordinator of its
 /// last marker.
 pub fn the_table_follows_the_log()

@@ -23,7 +23,7 @@ pub(crate) type Remembered = HeapCircularBuffer<RememberedBatch>;
 ///
 /// # Errors
 ///
-/// Only where memory runs out.
+/// Only if memory runs out.
 pub(crate) fn room(alloc: Global) -> Result<Remembered, AllocError>
     ensures { IfOk result (λ room. room ≡ buffer [] 5) }
 {
@@ -76,7 +76,7 @@ impl Producer {
     ///
     /// # Errors
     ///
-    /// Only where memory runs out, where there was no room.
+    /// Only if memory runs out, if there was no room.
     pub(crate) fn fresh(
         alloc: Global,
         made: Option<Remembered>,

@@ -61,7 +61,7 @@ impl Producers {
     ///
     /// # Errors
     ///
-    /// Only where memory runs out, which no log without entries meets.
+    /// Only if memory runs out, which no log without entries meets.
     // A whole list of entries in one call, for who has a log's entries at hand; a partition judges
     // each batch before it notes it, and so doesn't use it.
     pub fn rebuild(alloc: Global, entries: &[Noted]) -> Result<Producers, AllocError>
@@ -98,7 +98,7 @@ impl Producers {
     ///
     /// # Errors
     ///
-    /// Only where memory runs out, where the id isn't known and there was no room.
+    /// Only if memory runs out, if the id isn't known and there was no room.
     pub fn reserve(&mut self, id: ProducerId) -> Result<(), AllocError>
         ensures table { self.new.table ≡ self.old.table }
         ensures room { IfOk result (λ done.
@@ -121,7 +121,7 @@ impl Producers {
     ///
     /// # Errors
     ///
-    /// Only where memory runs out, where the id isn't known and there was no room. What is known
+    /// Only if memory runs out, if the id isn't known and there was no room. What is known
     /// stays.
     pub fn note_data(
         &mut self,
@@ -142,7 +142,7 @@ impl Producers {
     ///
     /// # Errors
     ///
-    /// Only where memory runs out, where the id isn't known and there was no room. What is known
+    /// Only if memory runs out, if the id isn't known and there was no room. What is known
     /// stays.
     pub fn note_marker(
         &mut self,
@@ -182,7 +182,7 @@ impl Producers {
         }
     }
 
-    /// The epoch of a producer: the greatest of its batches and markers, or `None` where none came.
+    /// The epoch of a producer: the greatest of its batches and markers, or `None` if none came.
     /// Takes no memory.
     pub fn epoch(&self, id: ProducerId) -> Option<Epoch>
         ensures { result ≡ option_map (λ known. known.epoch) (known_of self.now.table id) }
@@ -191,7 +191,7 @@ impl Producers {
         Some(producer.epoch())
     }
 
-    /// The epoch of the coordinator that sent the last marker of a producer, or `None` where none
+    /// The epoch of the coordinator that sent the last marker of a producer, or `None` if none
     /// came. No memory is asked for.
     pub fn marked_by(&self, id: ProducerId) -> Option<i32>
         ensures { result ≡ marked_in (known_of self.now.table id) }

@@ -6,7 +6,7 @@
 pub enum Verdict {
     /// The batch is the next of its epoch.
     Next,
-    /// The batch stands in the log already, at this offset.
+    /// The batch is in the log already, at this offset.
     Duplicate(i64),
     /// The producer has a newer epoch (INVALID_PRODUCER_EPOCH).
     OldEpoch,

@@ -27,7 +27,7 @@ is_found name_of rows_of None name rows named rowed = absurd cc
 is_found name_of rows_of (Some x) name rows named rowed =
     ap₂ (λ (n : Text) (r : List Row). let pair : Text × List Row = (n, r) in Some pair) (sym (unsome _ _ named)) (sym (unsome _ _ rowed))
 
--- what the words ask for, where clap found this subcommand
+-- what the words ask for, if clap found this subcommand
 pub asks : (found : ArgMatches) (name : Text) (rows : List Row) (is_watched : Bool) (what : Task)
     → Some name ≡ subcommand_name_of found
     → Some rows ≡ option_map (λ (p : Text × List Row). p.1) (subcommand_rows_of found)

@@ -7,13 +7,13 @@ use Rattle.kx_server_audit.specs.declared.fault.AuditFault.{AuditFault}
 use Rattle.kx_text.specs.declared.program.Ending.{Ending}
 use Rattle.kx_text.specs.declared.program.Ending.TheVariants as ending
 
--- a demonstration ends well where the audit said yes
+-- a demonstration ends well if the audit said yes
 abbrev pub ending_of_demo : Result Bool DemoFault → Ending
 ending_of_demo (Ok true) = ending.Done
 ending_of_demo (Ok false) = ending.Failed
 ending_of_demo (Err fault) = ending.Failed
 
--- an audit of a server ends well where it said yes
+-- an audit of a server ends well if it said yes
 abbrev pub ending_of_audit : Result Bool AuditFault → Ending
 ending_of_audit (Ok true) = ending.Done
 ending_of_audit (Ok false) = ending.Failed

@@ -3,4 +3,5 @@ pub mod Drawing
 pub mod Endings
 pub mod Program
 pub mod Tasks
+pub mod Telling
 pub mod Usage

@@ -1,12 +1,14 @@
 -- What the program does for its words: what it reads and writes, and how it ends.
-use Rattle.std.specs.Prelude.{◌≡◌, ◌⊎◌, Bool, List, ℕ, Option, Result, IfSome, MatchOption}
-use Rattle.std.specs.Prelude.{◌||◌, IsTrue, OnOk, is_some}
+use Rattle.std.specs.Prelude.{◌≡◌, ◌⊎◌, Bool, List, ℕ, Option, None, Some, Result, IfSome}
+use Rattle.std.specs.Prelude.{◌||◌, IsTrue, MatchOption, OnOk, is_some}
 use Rattle.std.specs.Io.KnownBytes.{Keeps}
 use Rattle.std.specs.declared.io.ErrorKind.{ErrorKind as IoKind}
 use Rattle.std.specs.declared.io.ErrorKind.TheVariants as io
 use Rattle.clap.specs.Words.{Text}
 use Rattle.kx_demo.specs.Telling.{Tells}
 use Rattle.kx_demo.specs.declared.fault.DemoFault.{DemoFault}
+use Rattle.kx_kafka_server.specs.Advertised.{Advertises}
+use Rattle.kx_kafka_server.specs.declared.advertised.Advertised.{Advertised}
 use Rattle.kx_program.specs.Asking.{EndsRefused, IsRefusedFor}
 use Rattle.kx_program.specs.Endings.{ending_of_audit, ending_of_demo}
 use Rattle.kx_program.specs.Tasks.{WordsAskFor}
@@ -40,7 +42,7 @@ abbrev pub Answers : Option (List ℕ) → Option (List ℕ) → Option (List �
 Answers input old new = IfSome input (λ script. (ran : Result (Unit {0}) ScriptFault)
     × Ends script old new ran)
 
--- the script was run, and drawn where that was asked for; or the program failed, since a picture
+-- the script was run, and drawn if that was asked for; or the program failed, since a picture
 -- couldn't be written after the answers, or since the script couldn't be read
 abbrev pub Draws : Pictures → Option (List ℕ) → Option (List ℕ) → Option (List ℕ) → Ending
     → Type 0
@@ -64,6 +66,13 @@ abbrev pub ServesAll : ℕ → Option (List ℕ) → Option (List ℕ) → Endin
 ServesAll connections old new how = (served : Result (Unit {0}) ServeFault)
     × OnOk served (Prints connections old new) × (how ≡ ending_of served)
 
+-- what is written is where clients are told to find the broker; nothing if nothing is written
+abbrev pub IsAddressIn : Option Text → Option Advertised → Type 0
+IsAddressIn None None = Unit {0}
+IsAddressIn None (Some address) = ⊥
+IsAddressIn (Some text) None = ⊥
+IsAddressIn (Some text) (Some address) = Advertises text address
+
 -- stock clients were served, from when the port was told; where the topics are wrong nothing was
 -- written
 abbrev pub ServesStock : Option (List ℕ) → Option (List ℕ) → Ending → Type 0
@@ -76,7 +85,7 @@ abbrev pub Plays : Option (List ℕ) → Option (List ℕ) → Ending → Type 0
 Plays old new how = (how ≡ ending.Failed) ⊎ ((played : Result Bool DemoFault)
     × Tells old new played × (how ≡ ending_of_demo played))
 
--- a server was audited and told, its logs too where they were to be compared; else the program
+-- a server was audited and told, its logs too if they were to be compared; else the program
 -- failed
 abbrev pub Audits : Bool → Option (List ℕ) → Option (List ℕ) → Ending → Type 0
 Audits compares old new how = (how ≡ ending.Failed) ⊎ ((audited : Result Bool AuditFault)

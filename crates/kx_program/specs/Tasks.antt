@@ -20,7 +20,7 @@ Writes bits None n = ⊥
 Writes bits (Some text) n = IsNumeral 10 (without_leading_plus text) × (n < 2 ^ bits)
     × (n ≡ digits_value 10 (without_leading_plus text))
 
--- a flag is on where it was given
+-- a flag is on if it was given
 abbrev pub Flags : Option Text → Bool → Type 0
 Flags None on = on ≡ false
 Flags (Some text) on = (text ≡ codes "true" → on ≡ true) × (text ≡ codes "false" → on ≡ false)
@@ -43,6 +43,7 @@ pub record IsServe (rows : List Row) (is_watched : Bool) (options : ServeOptions
   pub port : Writes 16 (one_of (codes "port") rows) options.port
   pub dir : option_map (λ d. d.now) options.dir ≡ first_of (codes "dir") rows
   pub traces : option_map (λ d. d.now) options.traces ≡ first_of (codes "trace") rows
+  pub renews : Flags (one_of (codes "new-traces") rows) options.new_traces
   pub tells : options.tells_progress ≡ is_watched
   pub expires : Flags (one_of (codes "expire") rows) options.expires
   pub session : Writes 32 (one_of (codes "session-timeout") rows)
@@ -53,8 +54,10 @@ pub record IsServe (rows : List Row) (is_watched : Bool) (options : ServeOptions
 pub record IsKafka (rows : List Row) (is_watched : Bool) (asked : StockClients) : Type 0 where
   pub topics : option_map (λ t. t.now) asked.topics ≡ first_of (codes "topics") rows
   pub port : Writes 16 (one_of (codes "port") rows) asked.port
+  pub advertise : option_map (λ a. a.now) asked.advertise ≡ first_of (codes "advertise") rows
   pub dir : option_map (λ d. d.now) asked.dir ≡ first_of (codes "dir") rows
   pub traces : option_map (λ d. d.now) asked.traces ≡ first_of (codes "trace") rows
+  pub renews : Flags (one_of (codes "new-traces") rows) asked.new_traces
   pub makes : Flags (one_of (codes "no-auto-topics") rows) asked.no_auto_topics
   pub tells : asked.tells_progress ≡ is_watched
 

@@ -32,9 +32,16 @@ svg_rule = read_by parser.NonEmptyString (option_of (codes "svg"))
 abbrev pub sim_app : App
 sim_app = with_rule (with_rule (new_app (codes "sim")) page_rule) svg_rule
 
+-- an argument that has to be given, in its place
+abbrev pub argument_of : Text → Rule
+argument_of name =
+    read_by parser.NonEmptyString (needed (record (new_rule name) { action = Some Set }))
+
+abbrev pub dumped_rule : Rule
+dumped_rule = argument_of (codes "FILE")
+
 abbrev pub dump_app : App
-dump_app = with_rule (new_app (codes "dump"))
-    (needed (record (new_rule (codes "FILE")) { action = Some Set }))
+dump_app = with_rule (new_app (codes "dump")) dumped_rule
 
 abbrev pub partitions_rule : Rule
 partitions_rule = read_by (between 1 16) (needed (option_of (codes "partitions")))
@@ -51,6 +58,12 @@ dir_rule = read_by parser.NonEmptyString (option_of (codes "dir"))
 abbrev pub traces_rule : Rule
 traces_rule = read_by parser.NonEmptyString (option_of (codes "trace"))
 
+abbrev pub new_traces_rule : Rule
+new_traces_rule = record (new_rule (codes "new-traces")) {
+  long = Some (codes "new-traces");
+  action = Some SetTrue;
+}
+
 abbrev pub expire_rule : Rule
 expire_rule = record (new_rule (codes "expire")) {
   long = Some (codes "expire");
@@ -62,15 +75,18 @@ session_timeout_rule =
     read_by (between 0 900000) (with_default (codes "0") (option_of (codes "session-timeout")))
 
 abbrev pub serve_app : App
-serve_app = with_rule (with_rule (with_rule (with_rule (with_rule (with_rule (with_rule
+serve_app = with_rule (with_rule (with_rule (with_rule (with_rule (with_rule (with_rule (with_rule
     (new_app (codes "serve")) partitions_rule) connections_rule) port_rule) dir_rule) traces_rule)
-    expire_rule) session_timeout_rule
+    new_traces_rule) expire_rule) session_timeout_rule
 
 abbrev pub topics_rule : Rule
 topics_rule = read_by parser.NonEmptyString (option_of (codes "topics"))
 
 abbrev pub kafka_port_rule : Rule
 kafka_port_rule = read_by (between 0 65535) (with_default (codes "9092") (option_of (codes "port")))
+
+abbrev pub advertise_rule : Rule
+advertise_rule = read_by parser.NonEmptyString (option_of (codes "advertise"))
 
 abbrev pub no_auto_topics_rule : Rule
 no_auto_topics_rule = record (new_rule (codes "no-auto-topics")) {
@@ -79,8 +95,9 @@ no_auto_topics_rule = record (new_rule (codes "no-auto-topics")) {
 }
 
 abbrev pub kafka_app : App
-kafka_app = with_rule (with_rule (with_rule (with_rule (with_rule (new_app (codes "kafka"))
-    topics_rule) kafka_port_rule) dir_rule) traces_rule) no_auto_topics_rule
+kafka_app = with_rule (with_rule (with_rule (with_rule (with_rule (with_rule (with_rule
+    (new_app (codes "kafka")) topics_rule) kafka_port_rule) advertise_rule) dir_rule) traces_rule)
+    new_traces_rule) no_auto_topics_rule
 
 abbrev pub workers_rule : Rule
 workers_rule = read_by (between 1 16) (with_default (codes "4") (option_of (codes "workers")))
@@ -99,7 +116,7 @@ abbrev pub hold_rule : Rule
 hold_rule = read_by (between 0 8) (with_default (codes "0") (option_of (codes "hold")))
 
 abbrev pub trace_rule : Rule
-trace_rule = option_of (codes "trace")
+trace_rule = read_by parser.NonEmptyString (option_of (codes "trace"))
 
 abbrev pub demo_app : App
 demo_app = with_rule (with_rule (with_rule (with_rule (with_rule (with_rule (with_rule
@@ -107,10 +124,10 @@ demo_app = with_rule (with_rule (with_rule (with_rule (with_rule (with_rule (wit
     trace_rule) page_rule
 
 abbrev pub audited_rule : Rule
-audited_rule = needed (record (new_rule (codes "DIR")) { action = Some Set })
+audited_rule = argument_of (codes "DIR")
 
 abbrev pub logs_rule : Rule
-logs_rule = option_of (codes "dir")
+logs_rule = read_by parser.NonEmptyString (option_of (codes "dir"))
 
 abbrev pub audit_app : App
 audit_app =
@@ -123,5 +140,5 @@ with_needed_subcommand app = record app { top = record app.top { subcommand_requ
 -- the whole command line
 abbrev pub program_app : App
 program_app = with_subcommand (with_subcommand (with_subcommand (with_subcommand (with_subcommand
-    (with_subcommand (with_needed_subcommand (new_app (codes "kx_main"))) sim_app.top)
+    (with_subcommand (with_needed_subcommand (new_app (codes "kx"))) sim_app.top)
     dump_app.top) serve_app.top) kafka_app.top) demo_app.top) audit_app.top

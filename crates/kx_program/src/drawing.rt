@@ -18,7 +18,7 @@ use std::fs;
 use std::fs::{File, Files};
 use std::io::{BufRead, BufWriter, Read, Write};
 
-// Writes a picture into a file, and says whether it stands there; if not, a line on standard error
+// Writes a picture into a file, and says whether it is there; if not, a line on standard error
 // says why.
 fn drawn<R: Files<File = File>, E: Write>(
     rt: &R,
@@ -143,7 +143,7 @@ fn server_run(alloc: Global, steps: &[ToldStep]) -> Result<Run, AllocError>
 }
 
 /// Draws the steps of a server into the file at this path, by the traces that it left, and says
-/// whether the page stands there. If not, a line on standard error says why.
+/// whether the page is there. If not, a line on standard error says why.
 pub(crate) fn draw_server<R: Files<File = File> + AllocGlobal + Eprint, E: Write>(
     rt: &R,
     options: &AuditOptions<'_>,

@@ -1,13 +1,15 @@
 //! Serving stock Kafka clients.
-ghost use Rattle.std.specs.Prelude.{◌≡◌, ◌⊎◌};
+ghost use Rattle.std.specs.Prelude.{◌≡◌, ◌⊎◌, MatchResult, Option, option_map};
 ghost use Rattle.std.specs.Io.Buffered.{writer_contents};
-ghost use Rattle.kx_program.specs.Program.{ServesStock};
+ghost use Rattle.kx_kafka_server.specs.declared.advertised.Advertised.{Advertised as Asked};
+ghost use Rattle.kx_program.specs.Program.{IsAddressIn, ServesStock};
 ghost use Rattle.kx_text.specs.declared.program.Ending.TheVariants as ending;
 
-use crate::streams::{failed, served_ending};
+use crate::streams::failed;
 use crate::task::StockClients;
-use kx_kafka_server::{AskFault, TopicFault, Topics, topics_asked};
-use kx_serve::{KafkaOptions, serve_kafka};
+use crate::telling::served_ending;
+use kx_kafka_server::{Advertised, AskFault, TopicFault, Topics, advertised_in, topics_asked};
+use kx_serve::{Folders, KafkaOptions, serve_kafka};
 use kx_server::{Connections, Until};
 use kx_text::Ending;
 use std::alloc::Global;
@@ -22,25 +24,53 @@ use std::time::Clock;
 const MOST_CONNECTIONS: u16 = 1024;
 
 // The topics that are asked for.
-fn topics_of(alloc: Global, asked: Option<&str>) -> Result<Topics, AskFault> {
+fn topics_of<'a>(alloc: Global, asked: Option<&'a str>) -> Result<Topics, AskFault<'a>> {
     match asked {
         Some(text) => topics_asked(alloc, text),
         None => Ok(Topics::new(alloc)),
     }
 }
 
-// How the program ends where the topics that are asked for are wrong, or out of memory.
-fn refuse_topics<E: Write>(fault: AskFault, errors: &mut E) -> Ending
+// How the program ends if the topics that are asked for are wrong, or out of memory.
+fn refuse_topics<E: Write>(fault: AskFault<'_>, errors: &mut E) -> Ending
     ensures { (result ≡ ending.Failed) ⊎ (result ≡ ending.WrongArguments) }
 {
-    if fault == AskFault::Refused(TopicFault::Memory) {
+    if matches!(
+        fault,
+        AskFault::Refused {
+            fault: TopicFault::Memory,
+            ..
+        }
+    ) {
         return failed(errors, "out of memory");
     }
-    let _ = writeln!(errors, "kx_main: --topics: {fault}");
+    let _ = writeln!(errors, "kx: --topics {fault}");
     Ending::WrongArguments
 }
 
-// Serves stock clients, who find these topics.
+// If clients are told to find the broker, None if nothing is asked for; or how the program
+// ends if something else than `HOST:PORT` is asked for.
+fn address_of<'a, E: Write>(
+    asked: Option<&'a str>,
+    errors: &mut E,
+) -> Result<Option<Advertised<'a>>, Ending>
+    ensures { let text = option_map (λ a. a.now) asked.entry in MatchResult result
+        (IsAddressIn text) (λ how. (how ≡ ending.WrongArguments)
+        × ((address : Option Asked) → IsAddressIn text address → ⊥)) }
+{
+    let Some(text) = asked else {
+        return Ok(None);
+    };
+    match advertised_in(text) {
+        Some(address) => Ok(Some(address)),
+        None => {
+            let _ = writeln!(errors, "kx: --advertise {text}: HOST:PORT is wanted");
+            Err(Ending::WrongArguments)
+        }
+    }
+}
+
+// Serves stock clients, who find these topics and are told this address.
 fn serve_stock<
     R: Files<File = File>
         + Net<Listener = TcpListener, Stream = TcpStream>
@@ -60,6 +90,7 @@ fn serve_stock<
     rt: &R,
     asked: &StockClients<'_>,
     topics: &Topics,
+    advertise: Option<Advertised<'_>>,
     out: &mut BufWriter<O>,
     errors: &mut E,
 ) -> Ending
@@ -72,15 +103,53 @@ fn serve_stock<
     let options = KafkaOptions {
         topics,
         makes_topics: !asked.no_auto_topics,
+        advertise,
         port: asked.port,
         dir: asked.dir,
         traces: asked.traces,
+        new_traces: asked.new_traces,
         connections,
         until: Until::Killed,
         tells_progress: asked.tells_progress,
     };
+    let folders = Folders {
+        logs: asked.dir,
+        traces: asked.traces,
+    };
     let served = serve_kafka(*rt, &options, out);
-    served_ending(served, errors)
+    served_ending(rt, folders, served, errors)
+}
+
+// Serves stock clients, who are told this address.
+fn serve_told<
+    R: Files<File = File>
+        + Net<Listener = TcpListener, Stream = TcpStream>
+        + AllocGlobal
+        + Eprint
+        + Threads
+        + Wait
+        + Clock
+        + Copy
+        + Send
+        + Sync
+        + Drop
+        + 'static,
+    O: Write + Drop,
+    E: Write,
+>(
+    rt: &R,
+    asked: &StockClients<'_>,
+    advertise: Option<Advertised<'_>>,
+    out: &mut BufWriter<O>,
+    errors: &mut E,
+) -> Ending
+    ensures { ServesStock (writer_contents O.contents out.old) (writer_contents O.contents out.new)
+        result }
+{
+    match topics_of(rt.alloc(), asked.topics) {
+        Ok(topics) => serve_stock(rt, asked, &topics, advertise, out, errors),
+        Err(fault) => refuse_topics(fault, errors),
+    }
 }
 
 /// Serves stock clients until the process is killed.
@@ -103,8 +172,8 @@ pub(crate) fn kafka<
     ensures { ServesStock (writer_contents O.contents out.old) (writer_contents O.contents out.new)
         result }
 {
-    match topics_of(rt.alloc(), asked.topics) {
-        Ok(topics) => serve_stock(rt, asked, &topics, out, errors),
-        Err(fault) => refuse_topics(fault, errors),
+    match address_of(asked.advertise, errors) {
+        Ok(advertise) => serve_told(rt, asked, advertise, out, errors),
+        Err(ending) => ending,
     }
 }

@@ -6,14 +6,17 @@ ghost use Rattle.std.specs.IoError.{error_kind};
 ghost use Rattle.kx_program.specs.Asking.{EndsRefused};
 ghost use Rattle.kx_program.specs.Endings.{ending_of_demo};
 ghost use Rattle.kx_program.specs.Program.{Audits, DoesWords, IsWithoutWords, Performs, Plays};
+ghost use Rattle.kx_program.specs.Program.{ServesAll};
 ghost use Rattle.kx_text.specs.declared.program.Ending.TheVariants as ending;
 
 use crate::asking::{Refusal, asked};
 use crate::drawing::{draw_server, sim_with};
 use crate::kafka::kafka;
-use crate::streams::{audit_ending, dump_read, failed, played_ending, served_ending, usage_ending};
+use crate::streams::{dump_read, failed, played_ending, usage_ending};
 use crate::task::{Auditing, Demonstration, Task};
+use crate::telling::{audit_ending, finds_folder, served_ending};
 use kx_demo::DemoFault;
+use kx_serve::{Folders, ServeOptions};
 use kx_server_audit::{AuditOptions, audit_server};
 use kx_text::Ending;
 use std::alloc::Global;
@@ -25,7 +28,7 @@ use std::thread::Threads;
 use std::time::Clock;
 use std::{fs, io};
 
-// Makes a file anew that is asked for. Where that fails, a line on standard error says why.
+// Makes a file anew that is asked for. If that fails, a line on standard error says why.
 fn created<R: Files<File = File> + AllocGlobal, E: Write>(
     rt: &R,
     path: Option<&str>,
@@ -151,7 +154,7 @@ fn demo<
     }
 }
 
-// Flushes what was written by a program that ends so; where that fails, it failed.
+// Flushes what was written by a program that ends so; if that fails, it failed.
 fn flushed<O: Write, E: Write>(how: Ending, out: &mut O, errors: &mut E) -> Ending
     ensures keeps { Keeps (O.contents out.old) (O.contents out.new) }
     ensures ends { (result ≡ ending.Failed) ⊎ (result ≡ how) }
@@ -176,11 +179,11 @@ fn audit_and_draw<R: Files<File = File> + AllocGlobal + Eprint, O: Write, E: Wri
     if audited.is_ok() && !draw_server(rt, options, path, errors) {
         return Ending::Failed;
     }
-    audit_ending(audited, errors)
+    audit_ending(rt, options, audited, errors)
 }
 
-// Audits a server that ran.
-fn audit<R: Files<File = File> + AllocGlobal + Eprint, O: Write, E: Write>(
+// Audits a server whose logs are there, if they are to be compared.
+fn audit_left<R: Files<File = File> + AllocGlobal + Eprint, O: Write, E: Write>(
     rt: &R,
     asked: &Auditing<'_>,
     out: &mut O,
@@ -193,7 +196,52 @@ fn audit<R: Files<File = File> + AllocGlobal + Eprint, O: Write, E: Write>(
         return audit_and_draw(rt, &asked.options, path, out, errors);
     }
     let audited = audit_server(rt, &asked.options, out);
-    audit_ending(audited, errors)
+    audit_ending(rt, &asked.options, audited, errors)
+}
+
+// Audits a server that ran.
+fn audit<R: Files<File = File> + AllocGlobal + Eprint, O: Write, E: Write>(
+    rt: &R,
+    asked: &Auditing<'_>,
+    out: &mut O,
+    errors: &mut E,
+) -> Ending
+    ensures { Audits (is_some asked.now.options.logs) (O.contents out.old) (O.contents out.new)
+        result }
+{
+    if let Some(folder) = asked.options.logs {
+        if !finds_folder(rt, folder, errors) {
+            return Ending::Failed;
+        }
+    }
+    audit_left(rt, asked, out, errors)
+}
+
+// Serves clients.
+fn serve<
+    R: Files<File = File>
+        + Net<Listener = TcpListener, Stream = TcpStream>
+        + AllocGlobal
+        + Eprint
+        + Threads
+        + Wait
+        + Clock
+        + Copy
+        + Send
+        + Sync
+        + Drop
+        + 'static,
+    O: Write,
+    E: Write,
+>(rt: &R, options: &ServeOptions<'_>, out: &mut O, errors: &mut E) -> Ending
+    ensures { ServesAll options.now.connections (O.contents out.old) (O.contents out.new) result }
+{
+    let folders = Folders {
+        logs: options.dir,
+        traces: options.traces,
+    };
+    let served = kx_serve::serve(*rt, options, out);
+    served_ending(rt, folders, served, errors)
 }
 
 // Does what is asked for.
@@ -219,8 +267,8 @@ fn perform<
 {
     match task {
         Task::Sim(asked) => sim_with(rt, *asked, input, out, errors),
-        Task::Dump(path) => dump_read(path, fs::read(rt, *path), out, errors),
-        Task::Serve(options) => served_ending(kx_serve::serve(*rt, options, out), errors),
+        Task::Dump(path) => dump_read(rt.alloc(), path, fs::read(rt, *path), out, errors),
+        Task::Serve(options) => serve(rt, options, out, errors),
         Task::Kafka(asked) => kafka(rt, asked, out, errors),
         Task::Demo(asked) => {
             let ending = demo(rt, asked, out, errors);
@@ -233,25 +281,25 @@ fn perform<
     }
 }
 
-// How the program ends where its words can't be had; those that aren't text are wrong.
+// How the program ends if its words can't be had; those that aren't text are wrong.
 fn no_words<E: Write>(error: io::Error, errors: &mut E) -> Ending
     ensures { IsWithoutWords (error_kind error) result }
 {
     if error.kind() == ErrorKind::InvalidData {
-        let _ = writeln!(errors, "kx_main: an argument is not text");
+        let _ = writeln!(errors, "kx: an argument is not text");
         return Ending::WrongArguments;
     }
     failed(errors, error)
 }
 
-// How the program ends where its words ask for nothing.
+// How the program ends if its words ask for nothing.
 fn refuse<O: Write, E: Write>(why: &Refusal, out: &mut O, errors: &mut E) -> Ending
     ensures { EndsRefused why.now result }
 {
     match why {
         Refusal::Usage(error) => usage_ending(error, out, errors),
         Refusal::Nothing => {
-            let _ = writeln!(errors, "kx_main: the arguments are wrong");
+            let _ = writeln!(errors, "kx: the arguments are wrong");
             Ending::WrongArguments
         }
         Refusal::Memory => failed(errors, "out of memory"),

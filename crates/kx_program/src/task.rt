@@ -54,10 +54,14 @@ pub struct StockClients<'a> {
     pub topics: Option<&'a str>,
     /// The port on 127.0.0.1 on which it listens; 0 takes any that is free.
     pub port: u16,
+    /// If clients are told to find the broker, as `HOST:PORT`, if that is asked for.
+    pub advertise: Option<&'a str>,
     /// The folder of its files, if any.
     pub dir: Option<&'a str>,
     /// The folder of its traces, if any.
     pub traces: Option<&'a str>,
+    /// Whether its traces begin anew.
+    pub new_traces: bool,
     /// Whether no topic is made when a client first asks for it.
     pub no_auto_topics: bool,
     /// Whether it tells on standard error which log it opens.
@@ -124,7 +128,7 @@ fn session_of(millis: u32) -> Option<Option<Timeout>>
     }
 }
 
-// For how long a member of a group may be silent; None where 0 is written.
+// For how long a member of a group may be silent; None if 0 is written.
 fn session_in(given: &ArgMatches<'_>) -> Option<Option<Timeout>>
     ensures { MatchOption result
         ((timeout : Option ℕ) → Writes 32 (one_of (codes "session-timeout")
@@ -148,6 +152,7 @@ fn serve_options<'a>(given: &ArgMatches<'a>, is_watched: bool) -> Option<ServeOp
         port: number_in(given, "port")?,
         dir: given.get_str("dir"),
         traces: given.get_str("trace"),
+        new_traces: given.get_flag("new-traces"),
         tells_progress: is_watched,
         expires: given.get_flag("expire"),
         session_timeout: session_in(given)?,
@@ -163,8 +168,10 @@ fn kafka_in<'a>(given: &ArgMatches<'a>, is_watched: bool) -> Option<StockClients
     Some(StockClients {
         topics: given.get_str("topics"),
         port: number_in(given, "port")?,
+        advertise: given.get_str("advertise"),
         dir: given.get_str("dir"),
         traces: given.get_str("trace"),
+        new_traces: given.get_flag("new-traces"),
         no_auto_topics: given.get_flag("no-auto-topics"),
         tells_progress: is_watched,
     })
@@ -227,7 +234,7 @@ fn audit_in<'a>(given: &ArgMatches<'a>, is_watched: bool) -> Option<Auditing<'a>
     }
 }
 
-/// What the words of a command line ask for, as clap found them; None where they name no
+/// What the words of a command line ask for, as clap found them; None if they name no
 /// subcommand, or an option has a value out of its range. `is_watched` says whether somebody
 /// watches standard error, so that a server tells there which logs it opens, and a long audit how
 /// far it is.

@@ -2,10 +2,12 @@
 ghost use Rattle.std.specs.Prelude.{◌≡◌, IfOk, codes, false};
 ghost use Rattle.clap.specs.Words.{app_of, new_app, rule_of};
 ghost use Rattle.clap.specs.declared.builder.command.Command.TheViews.{out-Command};
-ghost use Rattle.kx_program.specs.Usage.{audit_app, audited_rule, session_timeout_rule};
-ghost use Rattle.kx_program.specs.Usage.{connections_rule, demo_app, dir_rule, dump_app, expire_rule};
+ghost use Rattle.kx_program.specs.Usage.{advertise_rule, audit_app, audited_rule};
+ghost use Rattle.kx_program.specs.Usage.{session_timeout_rule};
+ghost use Rattle.kx_program.specs.Usage.{connections_rule, demo_app, dir_rule, dump_app};
+ghost use Rattle.kx_program.specs.Usage.{dumped_rule, expire_rule};
 ghost use Rattle.kx_program.specs.Usage.{hold_rule, kafka_app, kafka_port_rule, logs_rule, lose_rule};
-ghost use Rattle.kx_program.specs.Usage.{needed};
+ghost use Rattle.kx_program.specs.Usage.{needed, new_traces_rule};
 ghost use Rattle.kx_program.specs.Usage.{no_auto_topics_rule, option_of, page_rule};
 ghost use Rattle.kx_program.specs.Usage.{partitions_rule, port_rule, svg_rule};
 ghost use Rattle.kx_program.specs.Usage.{program_app, records_rule, seed_rule, serve_app, sim_app};
@@ -75,7 +77,7 @@ fn port<'a>(alloc: Global) -> Arg<'a>
     number(alloc, "port", "PORT", "0", help).value_parser(clap::value_parser!(u16))
 }
 
-// The folder of a server's logs. An empty name is wrong: its files would stand at the root.
+// The folder of a server's logs. An empty name is wrong: its files would be at the root.
 fn dir<'a>(alloc: Global) -> Arg<'a>
     ensures rule { rule_of result ≡ dir_rule }
     ensures local { result.global ≡ false }
@@ -99,6 +101,17 @@ fn traces<'a>(alloc: Global) -> Arg<'a>
         .action(ArgAction::Set)
         .value_parser(ValueParser::NonEmptyString)
         .help("Writes what each node does into files of this folder, for the audit")
+}
+
+// Whether a server's traces begin anew.
+fn new_traces<'a>(alloc: Global) -> Arg<'a>
+    ensures rule { rule_of result ≡ new_traces_rule }
+    ensures local { result.global ≡ false }
+{
+    Arg::new(alloc, "new-traces")
+        .long("new-traces")
+        .action(ArgAction::SetTrue)
+        .help("Removes the traces that are there; they begin anew, with the logs")
 }
 
 // Whether a server's clock aborts transactions.
@@ -144,6 +157,19 @@ fn kafka_port<'a>(alloc: Global) -> Arg<'a>
 {
     let help = "The port on 127.0.0.1; 0 takes any that is free";
     number(alloc, "port", "PORT", "9092", help).value_parser(clap::value_parser!(u16))
+}
+
+// Where clients of a server of stock clients are told to find the broker.
+fn advertise<'a>(alloc: Global) -> Arg<'a>
+    ensures rule { rule_of result ≡ advertise_rule }
+    ensures local { result.global ≡ false }
+{
+    Arg::new(alloc, "advertise")
+        .long("advertise")
+        .value_name("HOST:PORT")
+        .action(ArgAction::Set)
+        .value_parser(ValueParser::NonEmptyString)
+        .help("Where clients are told to find the server; port 0 is the one on which it listens")
 }
 
 // Whether topics are made when clients first ask for them.
@@ -213,6 +239,7 @@ fn trace<'a>(alloc: Global) -> Arg<'a>
         .long("trace")
         .value_name("FILE")
         .action(ArgAction::Set)
+        .value_parser(ValueParser::NonEmptyString)
         .help("Writes what happened into this file, one line an event")
 }
 
@@ -253,18 +280,26 @@ fn sim_usage<'a>(alloc: Global) -> Result<Command<'a>, AllocError>
         .arg(svg(alloc))
 }
 
+// The file of record batches that are printed.
+fn dumped<'a>(alloc: Global) -> Arg<'a>
+    ensures rule { rule_of result ≡ dumped_rule }
+    ensures local { result.global ≡ false }
+{
+    Arg::new(alloc, "FILE")
+        .required(true)
+        .action(ArgAction::Set)
+        .value_parser(ValueParser::NonEmptyString)
+        .help("Record batches, one after the other")
+}
+
 // `dump`.
 fn dump_usage<'a>(alloc: Global) -> Result<Command<'a>, AllocError>
     ensures app { IfOk result (λ command. app_of command ≡ dump_app) }
     ensures local { IfOk result (λ command. (out-Command command).has_globals ≡ false) }
 {
-    let file = Arg::new(alloc, "FILE")
-        .required(true)
-        .action(ArgAction::Set)
-        .help("Record batches, one after the other");
     Command::new(alloc, "dump")
         .about("Prints the record batches of a file, one line for each batch and record")
-        .arg(file)
+        .arg(dumped(alloc))
 }
 
 // `serve`.
@@ -279,6 +314,7 @@ fn serve_usage<'a>(alloc: Global) -> Result<Command<'a>, AllocError>
         .arg(port(alloc))?
         .arg(dir(alloc))?
         .arg(traces(alloc))?
+        .arg(new_traces(alloc))?
         .arg(expire(alloc))?
         .arg(session_timeout(alloc))
 }
@@ -292,8 +328,10 @@ fn kafka_usage<'a>(alloc: Global) -> Result<Command<'a>, AllocError>
         .about("Serves stock Kafka clients, which speak Kafka's own protocol")
         .arg(topics(alloc))?
         .arg(kafka_port(alloc))?
+        .arg(advertise(alloc))?
         .arg(dir(alloc))?
         .arg(traces(alloc))?
+        .arg(new_traces(alloc))?
         .arg(no_auto_topics(alloc))
 }
 
@@ -321,10 +359,11 @@ fn audited<'a>(alloc: Global) -> Arg<'a>
     Arg::new(alloc, "DIR")
         .required(true)
         .action(ArgAction::Set)
+        .value_parser(ValueParser::NonEmptyString)
         .help("The folder of the traces")
 }
 
-// The folder of the logs that are compared. Any name may be that of a folder to be read.
+// The folder of the logs that are compared.
 fn logs<'a>(alloc: Global) -> Arg<'a>
     ensures rule { rule_of result ≡ logs_rule }
     ensures local { result.global ≡ false }
@@ -333,6 +372,7 @@ fn logs<'a>(alloc: Global) -> Arg<'a>
         .long("dir")
         .value_name("LOGS")
         .action(ArgAction::Set)
+        .value_parser(ValueParser::NonEmptyString)
         .help("Compares the logs of this folder with those to which the traces lead")
 }
 
@@ -349,17 +389,18 @@ fn audit_usage<'a>(alloc: Global) -> Result<Command<'a>, AllocError>
 }
 
 // The program, of which a subcommand has to be named.
-fn program_usage<'a>(alloc: Global) -> Command<'a>
-    ensures app { app_of result ≡ with_needed_subcommand (new_app (codes "kx_main")) }
-    ensures local { (out-Command result).has_globals ≡ false }
+fn program_usage<'a>(alloc: Global) -> Result<Command<'a>, AllocError>
+    ensures app { IfOk result
+        (λ command. app_of command ≡ with_needed_subcommand (new_app (codes "kx"))) }
+    ensures local { IfOk result (λ command. (out-Command command).has_globals ≡ false) }
 {
-    Command::new(alloc, "kx_main")
+    Command::new(alloc, "kx")
         .about("An exactly-once core for Kafka's protocol")
         .subcommand_required(true)
+        .bin_name("kx")
 }
 
-/// The command line: `kx_main sim`, `kx_main dump FILE`, `kx_main serve`, `kx_main kafka`,
-/// `kx_main demo` or `kx_main audit DIR`.
+/// The command line: `kx sim`, `kx dump FILE`, `kx serve`, `kx kafka`, `kx demo` or `kx audit DIR`.
 ///
 /// # Errors
 ///
@@ -367,7 +408,7 @@ fn program_usage<'a>(alloc: Global) -> Command<'a>
 pub fn command_line<'a>(alloc: Global) -> Result<Command<'a>, AllocError>
     ensures { IfOk result (λ command. app_of command ≡ program_app) }
 {
-    program_usage(alloc)
+    program_usage(alloc)?
         .subcommand(sim_usage(alloc)?)?
         .subcommand(dump_usage(alloc)?)?
         .subcommand(serve_usage(alloc)?)?

@@ -1,9 +1,9 @@
-//! The log of what stands under a node's lock, as a published log grows by it.
+//! The log of what is under a node's lock, as a published log grows by it.
 use crate::readable::Readable;
 use kx_log::LogSlices;
 use kx_published::log::GrownLog;
 
-// The log of record batches of what stands under a lock.
+// The log of record batches of what is under a lock.
 #[derive(Drop)]
 pub(crate) struct Growing<'a, L: Readable> {
     pub(crate) locked: &'a L,

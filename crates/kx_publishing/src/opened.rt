@@ -11,7 +11,7 @@ use crate::readable::Readable;
 use kx_message::PartitionId;
 use kx_published::opened::is_written;
 
-/// Whether what stands under a node's lock, whose log was opened, wrote that log itself, so that it
+/// Whether what is under a node's lock, whose log was opened, wrote that log itself, so that it
 /// may be [published](crate::PublishedMachine::publishing): whether the log is stored as a
 /// partition writes one, as [`is_written`] finds. It stands for a partition that has parked
 /// nothing.

@@ -1,4 +1,4 @@
-//! What stands under a node's lock where its log is published: the machine, and the writer's end of
+//! What is under a node's lock if its log is published: the machine, and the writer's end of
 //! the published log.
 ghost use Rattle.std.specs.Prelude.{◌≡◌, ◌↔◌, ◌<◌, ◌^◌, ℕ, ℤ, Bool, Err, IfErr, IfOk, List};
 ghost use Rattle.std.specs.Prelude.{MatchResult, None, Ok, Some, false, option_map, true};
@@ -51,7 +51,7 @@ pub struct Served {
     /// The receipt of the step.
     pub receipt: Receipt,
     /// Whether this step found readers that enter from now on to see the log that it left. They see
-    /// what they saw where no log is published, where none is published at steps, where memory ran
+    /// what they saw if no log is published, if none is published at steps, if memory ran
     /// out, and after 2^61 publishes.
     pub is_shown: bool,
 }
@@ -79,8 +79,8 @@ pub fn marker_comes_right(input: &Input)
     }
 }
 
-/// What stands under a node's lock, and the writer's end of its published log, if it has one. The
-/// node wrote its log itself where that is published; and what was passed on to the copies of the
+/// What is under a node's lock, and the writer's end of its published log, if it has one. The
+/// node wrote its log itself if that is published; and what was passed on to the copies of the
 /// log begins it.
 #[derive(Drop)]
 pub struct PublishedMachine<L: Readable, J: Naming, R: Wait + Drop> {
@@ -129,7 +129,7 @@ impl<L: Readable, J: Naming, R: Wait + Drop> PublishedMachine<L, J, R> {
     ///
     /// # Errors
     ///
-    /// Only where memory runs out.
+    /// Only if memory runs out.
     pub fn publishing(
         rt: R,
         alloc: Global,
@@ -163,7 +163,7 @@ impl<L: Readable, J: Naming, R: Wait + Drop> PublishedMachine<L, J, R> {
         self.partition
     }
 
-    /// What stands under the lock beside the published log.
+    /// What is under the lock beside the published log.
     pub fn locked(&self) -> &L
         ensures { result.now ≡ self.now.locked }
     {
@@ -196,7 +196,7 @@ impl<L: Readable, J: Naming, R: Wait + Drop> PublishedMachine<L, J, R> {
         told.is_ok()
     }
 
-    // Publishes the log that a step left, where steps publish.
+    // Publishes the log that a step left, if steps publish.
     fn show_step(&mut self) -> bool
         ensures locked { self.new.locked ≡ self.old.locked }
         ensures publishes { self.new.publishes ≡ self.old.publishes }
@@ -214,7 +214,7 @@ impl<L: Readable, J: Naming, R: Wait + Drop> PublishedMachine<L, J, R> {
         }
     }
 
-    /// One step, and then a publish of the log that it left, where steps publish and readers don't
+    /// One step, and then a publish of the log that it left, if steps publish and readers don't
     /// see that log already: a step that appended nothing publishes nothing. The publish waits for
     /// readers that are still in the log before the one that they see now.
     ///
@@ -253,13 +253,13 @@ impl<L: Readable, J: Naming, R: Wait + Drop> PublishedMachine<L, J, R> {
     }
 
     /// What the clock does for the machine at this time, in milliseconds since 1970. A closed log
-    /// is opened again by a step, as [`step`](PublishedMachine::step) makes one. Where the log
+    /// is opened again by a step, as [`step`](PublishedMachine::step) makes one. If the log
     /// isn't closed there is no step, and the log is published if readers don't see it yet, as
     /// after a publish that failed.
     ///
     /// # Errors
     ///
-    /// Only where a closed log is to be opened, as [`step`](PublishedMachine::step); then there was
+    /// Only if a closed log is to be opened, as [`step`](PublishedMachine::step); then there was
     /// no step, and nothing was published.
     pub fn tend(&mut self, now: u64) -> Result<Tended, NodeFault>
         ensures closed { (node : NodeState) → L.stands node self.old.locked
@@ -293,7 +293,7 @@ impl<L: Readable, J: Naming, R: Wait + Drop> PublishedMachine<L, J, R> {
     ///
     /// # Errors
     ///
-    /// `NoReader` where no log is published; else `Memory`, where memory runs out and after 2^61
+    /// `NoReader` if no log is published; else `Memory`, if memory runs out and after 2^61
     /// publishes. Readers see what they saw.
     pub fn publish(&mut self) -> Result<Told<J>, PublishFault>
         ensures locked { self.new.locked ≡ self.old.locked }
@@ -324,7 +324,7 @@ impl<L: Readable, J: Naming, R: Wait + Drop> PublishedMachine<L, J, R> {
     pub fn readers_see_a_prefix(&self)
         ensures { ShowsBeginning (L.log self.now.locked) self.now.published }
     {
-        // Where a field is read, the invariant is known.
+        // If a field is read, the invariant is known.
         let _partition = self.partition;
     }
 
@@ -348,7 +348,7 @@ impl<L: Readable, J: Naming, R: Wait + Drop> PublishedMachine<L, J, R> {
     ///
     /// # Errors
     ///
-    /// `NoReader` where no log is published, and where all readers' places are taken.
+    /// `NoReader` if no log is published, and if all readers' places are taken.
     pub fn reader(&self) -> Result<PageReader<J>, PublishFault>
         ensures { IfOk result (λ r. (option_map (λ d. d.known) self.now.published ≡ Some r.known)
             × (r.is_in ≡ false)) }
@@ -382,6 +382,8 @@ impl<L: Readable, J: Naming, R: Wait + Drop> Locked for PublishedMachine<L, J, R
     ghost allows = { λ d. L.allows d.locked };
 
     ghost named = { λ d. L.named d.locked };
+
+    ghost keeps_trace = { L.keeps_trace };
 
     ghost records = { StepIsPublished L.log L.records };
 

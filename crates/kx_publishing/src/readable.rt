@@ -1,10 +1,10 @@
-//! What stands under a node's lock, as whoever publishes its log reads it.
+//! What is under a node's lock, as whoever publishes its log reads it.
 use crate::logging::Logging;
 use kx_log::LogSlices;
 use kx_machine::Machine;
 use kx_nodes::{Locked, Made, Traced, Untraced};
 
-/// What stands under a node's lock, whose log of record batches can be read.
+/// What is under a node's lock, whose log of record batches can be read.
 pub trait Readable: Locked {
     ghost use Rattle.std.specs.Prelude.{◌≡◌, List, pos};
     ghost use Rattle.kx_log.specs.Slices.{sliced};
@@ -25,7 +25,7 @@ pub trait Readable: Locked {
         ensures { result ≡ pos (end (entries (log self.now))) };
 
     /// The record batches of its log, borrowed: from the one that holds an offset on, as many as
-    /// have at most `max` bytes in all, and at least one where there is one.
+    /// have at most `max` bytes in all, and at least one if there is one.
     fn batches_from(&self, from: i64, max: u32) -> LogSlices<'_>
         ensures { result ≡ sliced (log self.now) from (pos greatest_offset) max };
 

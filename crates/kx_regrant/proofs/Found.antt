@@ -92,7 +92,7 @@ read_again log later r txn same new none =
     is_of r (grant_row (log ++ Written r ∷ later) txn) (row_of (log ++ Written r ∷ later) txn)
     (found log later r txn e new none) (has_own log later r txn e)
 
------- where a row granted the id, it has a last row
+------ if a row granted the id, it has a last row
 
 passes_one : (r : Row) (txn : List ℕ) (a b : Bool) → HasRow (cond (a && b) (Some r) None)
     → HasRow (cond a (Some r) None)

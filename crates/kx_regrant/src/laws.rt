@@ -9,8 +9,8 @@ ghost use Rattle.kx_regrant.specs.Regrant.{IsGrantOf, grant_row, granted_again, 
 
 /// A law: the grant that is read from the log has the pair of the last row that granted the
 /// transactional id, whatever rows follow that don't grant it, as all of another cause than a
-/// request for an id. Where the coordinator answered such a request and wrote a row of it, the
-/// grant has the pair of the answer. There is none only where no row granted the id.
+/// request for an id. If the coordinator answered such a request and wrote a row of it, the
+/// grant has the pair of the answer. There is none only if no row granted the id.
 pub fn the_last_grant_is_read_again()
     ensures row { (log later : List TxnEntry) (r : Row)
         → grants r ≡ true → list_any (is_granted_by r.txn) later ≡ false

@@ -57,7 +57,7 @@ fn own_pair(row: &Row) -> Held
     }
 }
 
-// The id and epoch of the transaction after a row: those of the next id where it names one.
+// The id and epoch of the transaction after a row: those of the next id if it names one.
 fn held_after(row: &Row) -> Held
     ensures { result ≡ model.held_after (row_of row.now) }
 {
@@ -118,7 +118,7 @@ impl Regrant {
         }
     }
 
-    /// The grant by the rows that were noted. None where none granted the id.
+    /// The grant by the rows that were noted. None if none granted the id.
     pub fn grant(&self) -> Option<Grant>
         ensures { result ≡ seen_grant self.now.granted self.now.last }
     {
@@ -129,7 +129,7 @@ impl Regrant {
 }
 
 /// The grant of a transactional id after a restart, from the entries of the coordinator's log:
-/// `None` where none was granted. The pair is that of the last row by which a request for an id was
+/// `None` if none was granted. The pair is that of the last row by which a request for an id was
 /// answered: a row of this cause that decides a transaction only fences its owner. Of the
 /// transaction the last row is known. The log is gone over once.
 pub fn granted_again(entries: &[Entry], txn: &TxnId) -> Option<Grant>

@@ -6,6 +6,6 @@ use Rattle.std.specs.Prelude.{ℕ, ◌+◌, ◌*◌, ◌%◌, ◌/◌, ◌^◌, 
 abbrev pub next_draw : ℕ → ℕ
 next_draw drawn = (drawn * 6364136223846793005 + 1442695040888963407) % 2 ^ 64
 
--- the draw loses its frame, where so many of a hundred are lost
+-- the draw loses its frame, if so many of a hundred are lost
 abbrev pub IsLost : ℕ → ℕ → Type 0
 IsLost losses drawn = drawn / 2 ^ 33 % 100 < losses

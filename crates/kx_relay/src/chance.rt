@@ -37,7 +37,7 @@ impl Chance {
         Chance { drawn: seed }
     }
 
-    /// Draws for the next frame: whether it is lost, where this many of a hundred are.
+    /// Draws for the next frame: whether it is lost, if this many of a hundred are.
     pub fn loses(&mut self, losses: Losses) -> bool
         ensures drawn { self.new ≡ next_draw self.old }
         ensures lost { Decides result (IsLost losses (next_draw self.old)) }

@@ -42,7 +42,7 @@ impl Delayed {
     ///
     /// # Errors
     ///
-    /// Only where memory runs out; then nothing is changed, and the copy is lost.
+    /// Only if memory runs out; then nothing is changed, and the copy is lost.
     pub fn keep(&mut self, copy: Option<Message>) -> Result<Option<Message>, AllocError>
         ensures { MatchResult result
             (λ due. (due ≡ due_of self.old copy) × (self.new ≡ delayed_after self.old copy))

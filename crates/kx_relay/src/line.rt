@@ -47,7 +47,7 @@ impl Line {
     ///
     /// # Errors
     ///
-    /// Only where memory runs out; then nothing goes out, and the line is as before.
+    /// Only if memory runs out; then nothing goes out, and the line is as before.
     pub fn pass(&mut self, message: Message, is_lost: bool) -> Result<Passed, AllocError>
         ensures { MatchResult result
             (λ passed. (passed.now ≡ (if is_lost then None else Some message))

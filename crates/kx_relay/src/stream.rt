@@ -16,7 +16,7 @@ impl FrameStream {
     ///
     /// # Errors
     ///
-    /// Only where memory runs out.
+    /// Only if memory runs out.
     pub fn new(alloc: Global, stream: TcpStream) -> Result<FrameStream, AllocError> {
         Ok(FrameStream {
             stream,

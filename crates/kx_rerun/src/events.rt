@@ -77,7 +77,7 @@ fn add_step<F: Process + Copy>(
 ///
 /// # Errors
 ///
-/// Only where memory runs out.
+/// Only if memory runs out.
 pub fn events_of<F: Process + Copy>(
     alloc: Global,
     run: &Run<AnyMaking<F>>,

@@ -4,7 +4,7 @@
 //! which the audit's schedule led, of which more can be read than of single machines.
 //!
 //! In `proofs/`: `Placing` (clients in the order of their numbers), `Making` (they are made),
-//! `Stepping` (each event leads where the step does), `Leading` (all of them, one after the other),
+//! `Stepping` (each event leads if the step does), `Leading` (all of them, one after the other),
 //! `Happening` (a world in which they happen).
 #![tactic(auto)]
 

@@ -107,7 +107,7 @@ fn place_client<F: Process + Copy>(
 ///
 /// # Errors
 ///
-/// Only where memory runs out.
+/// Only if memory runs out.
 pub(crate) fn makings_of<F: Process + Copy>(
     alloc: Global,
     run: &Run<AnyMaking<F>>,

@@ -70,7 +70,7 @@ impl Numbers {
     ///
     /// # Errors
     ///
-    /// Only where memory runs out.
+    /// Only if memory runs out.
     pub(crate) fn add_all(&mut self, messages: &[Message]) -> Result<(), AllocError>
         ensures { OnOk result (self.new ≡ self.old ++ messages.now) }
     {
@@ -117,7 +117,7 @@ impl Numbers {
     ///
     /// # Errors
     ///
-    /// Only where memory runs out.
+    /// Only if memory runs out.
     pub(crate) fn number(&self, message: &Message) -> Result<Option<usize>, AllocError>
         ensures { IfOk result (λ found. MatchOption found
             (Contains self.now message.now → ⊥)

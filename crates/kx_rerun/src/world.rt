@@ -33,7 +33,7 @@ fn new_world<F: Process + Copy>(alloc: Global) -> Result<LocalWorld<F>, AllocErr
 ///
 /// # Errors
 ///
-/// Only where memory runs out.
+/// Only if memory runs out.
 pub fn world_of<F: Process + Copy>(
     alloc: Global,
     run: &Run<AnyMaking<F>>,

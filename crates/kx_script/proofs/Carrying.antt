@@ -20,7 +20,7 @@ use Rattle.kx_script.specs.declared.world.Running.{Running}
 use Rattle.kx_system.specs.System.{System, SystemEvent, system_step}
 use Rattle.kx_text.specs.Pages.{lost_text}
 
--- a node took its step, which was printed, and its mark was taken back where its append failed
+-- a node took its step, which was printed, and its mark was taken back if its append failed
 pub happens_so : (s : Session) (event : SystemEvent) (read : EventAt) (after : Running)
     (before : Marks) (h : Happened) (first : ℕ) (old new : Option (List ℕ))
     → Means s.system read event

@@ -1,4 +1,4 @@
--- What orders print and leave where what they name is there.
+-- What orders print and leave if what they name is there.
 use Rattle.std.proofs.Common.{◌≡◌, ℕ, ℤ, List, Bool, true, false}
 use Rattle.std.proofs.Common.{Option, None, Some, Result, Ok, Err, refl, sym, ap, ◌∙◌, subst, inl}
 use Rattle.std.specs.Prelude.{is_some}
@@ -44,7 +44,7 @@ refusal_shown from mode (Err other) code old new is written =
 
 ------ orders
 
--- the world is made, where there was none
+-- the world is made, if there was none
 pub begins : (before : Option Running) (after : Running) (count : ℕ) (old new : Option (List ℕ))
     → is_some before ≡ false → StandsFor after (opening count) → Appends old new dash_text
     → (state : State) → StandsIn before state

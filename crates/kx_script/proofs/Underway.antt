@@ -44,7 +44,7 @@ pub record InFront (Stands : State → Type 0) (input rest : List ℕ) (number :
   pub stands : Stands state
   pub written : Appends old now text
 
--- the same, where the reader tells its bytes
+-- the same, if the reader tells its bytes
 abbrev pub Underway : (State → Type 0) → Option (List ℕ) → Option (List ℕ) → ℕ → Option (List ℕ)
     → Option (List ℕ) → Type 0
 Underway Stands None left number old now = Unit {0}

@@ -260,7 +260,7 @@ event_as s name.Restart words = restart_event s.system.world words
 abbrev pub event_of : Session → List (List ℕ) → Option SystemEvent
 event_of s words = front words >>= λ line. name_in line.0 >>= λ name. event_as s name line.1
 
--- the event that a line lets happen, none where what it names isn't there
+-- the event that a line lets happen, none if what it names isn't there
 abbrev pub event_in : Session → List ℕ → Option SystemEvent
 event_in s line = words_of line >>= event_of s
 

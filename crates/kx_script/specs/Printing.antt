@@ -28,7 +28,7 @@ message_line number from m =
     codes "#" ++ decimal number ++ codes " " ++ node_text from ++ codes ">"
     ++ node_text (receiver_of m) ++ codes " " ++ message_text m ++ newline
 
--- the same, where there is such a message
+-- the same, if there is such a message
 abbrev pub optional_line : ℕ → NodeId → Option Message → List ℕ
 optional_line number from None = []
 optional_line number from (Some m) = message_line number from m

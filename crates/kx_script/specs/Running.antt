@@ -22,7 +22,7 @@ StandsIn None (Some s) = ⊥
 StandsIn (Some running) None = ⊥
 StandsIn (Some running) (Some s) = StandsFor running s
 
--- where it happens in the system, it is this event of the definitions, at its node
+-- if it happens in the system, it is this event of the definitions, at its node
 pub record Means (s : System) (read : EventAt) (event : SystemEvent) : Type 0 where
   pub place_is : read.place ≡ place_of event
   pub only : (happened : OpenSystemEvent) → IsEvent images_of s read.event happened

@@ -42,12 +42,12 @@ offset_text answer = group_text answer.code answer.offset
 abbrev pub happens : Session → SystemEvent → List ℕ × State
 happens s event = (event_text s.system event, Some (session_after s event))
 
--- what is printed of a log, where there is the partition
+-- what is printed of a log, if there is the partition
 abbrev pub fetches : Session → ℕ → ℤ → Mode → ℕ → List ℕ
 fetches s partition from mode max =
     fetched_text from mode (fetched (log_at s.system.world partition) from max (is_committed mode))
 
--- what an order prints, and the state after it; none where what it names isn't there
+-- what an order prints, and the state after it; none if what it names isn't there
 abbrev pub performed : Session → Order → Option (List ℕ × State)
 performed s (order.Fail place left) = where_true (has_node s.system.world place)
     (dash_text, Some (record s { marks = with_mark s.marks place (Some left) }))
@@ -71,7 +71,7 @@ abbrev pub answer_by : Session → List ℕ → Option SystemEvent → Option (L
 answer_by s line (Some event) = Some (happens s event)
 answer_by s line None = ordered s line
 
--- a world is made, where there is none
+-- a world is made, if there is none
 abbrev pub begun : State → ℕ → Option (List ℕ × State)
 begun None count = Some (dash_text, Some (opening count))
 begun (Some s) count = None
@@ -86,12 +86,12 @@ abbrev pub answer : State → List ℕ → Option (List ℕ × State)
 answer state [] = Some ([], state)
 answer state (byte ∷ line) = answer_line state (byte ∷ line)
 
--- the state that stays where memory is refused for the line's event
+-- the state that stays if memory is refused for the line's event
 abbrev pub kept_in : State → List ℕ → Option State
 kept_in None line = None
 kept_in (Some s) line = option_map (λ event. Some s) (event_in s line)
 
--- where memory is refused, an event may print `lost` and change nothing
+-- if memory is refused, an event may print `lost` and change nothing
 abbrev pub MayGive : Option (List ℕ × State) → Option State → List ℕ → State → Type 0
 MayGive wanted kept text new =
     (wanted ≡ Some (text, new)) ⊎ ((kept ≡ Some new) × (text ≡ lost_text))
@@ -114,13 +114,13 @@ abbrev pub with_more : ℕ → (State → List ℕ) → Option (List ℕ × Stat
 with_more number more None = bad_text number
 with_more number more (Some first) = first.0 ++ more first.1
 
--- what the lines print from the one of a number on, where no memory is refused
+-- what the lines print from the one of a number on, if no memory is refused
 abbrev pub printed : List (List ℕ) → ℕ → State → List ℕ
 printed [] number state = []
 printed (line ∷ lines) number state =
     with_more number (printed lines (number + 1)) (answer state line)
 
--- what a whole script prints, where no memory is refused
+-- what a whole script prints, if no memory is refused
 abbrev pub script_text : List ℕ → List ℕ
 script_text input = printed (lines_of input) 1 None
 

@@ -19,7 +19,7 @@ use Rattle.kx_system.specs.System.{System, SystemEvent, Happens, start_system, s
 
 ------ appends that are to fail
 
--- what a node's store does, where its next append is to fail or not
+-- what a node's store does, if its next append is to fail or not
 abbrev pub store_of : Option Left → Store
 store_of None = Works
 store_of (Some Nothing) = Fails false
@@ -29,7 +29,7 @@ abbrev pub no_marks : Marks
 no_marks =
     record { coordinator = None; partitions = replicate data_partitions None; offsets = None }
 
--- what the next append of a node is to leave, where it is to fail
+-- what the next append of a node is to leave, if it is to fail
 abbrev pub mark_at : Marks → NodeId → Option Left
 mark_at marks node.Coordinator = marks.coordinator
 mark_at marks (node.Partition number) =

@@ -213,7 +213,7 @@ fn order_of(name: &[u8], words: Words<'_>) -> Option<Order>
     }
 }
 
-/// The order that a line spells, or None where it spells none: a word of it is none, its first word
+/// The order that a line spells, or None if it spells none: a word of it is none, its first word
 /// names no order, or those after it are not what that one needs.
 pub fn order_in(line: &[u8]) -> Option<Order>
     ensures { result ≡ spells.order_in line.now }
@@ -223,7 +223,7 @@ pub fn order_in(line: &[u8]) -> Option<Order>
     order_of(name, words)
 }
 
-/// How many data partitions the line `world P` gives a world, or None where it is another line.
+/// How many data partitions the line `world P` gives a world, or None if it is another line.
 pub fn world_in(line: &[u8]) -> Option<PartitionCount>
     ensures { result ≡ spells.world_in line.now }
 {

@@ -88,7 +88,7 @@ fn hand(to: &NodeId, input: Input, mark: Option<Left>) -> EventAt
     }
 }
 
-// A node is handed an input, while its next append fails where a mark says so.
+// A node is handed an input, while its next append fails if a mark says so.
 fn hand_marked(marks: &Marks, to: NodeId, input: Input) -> EventAt
     ensures { (s : Session) → marks.now ≡ s.marks
         → Means s.system result (hands s to (input_of input)) }
@@ -473,13 +473,13 @@ fn event_as(
     }
 }
 
-/// The event that a line lets happen in a world, and the node at which it is, or None where it lets
+/// The event that a line lets happen in a world, and the node at which it is, or None if it lets
 /// none happen: a word of it is none, its first word names no event, those after it are not what
 /// that one needs, or what they name isn't there.
 ///
 /// # Errors
 ///
-/// The event's own result is an error where there is no memory for its words.
+/// The event's own result is an error if there is no memory for its words.
 pub fn event_in(
     alloc: Global,
     running: &Running,

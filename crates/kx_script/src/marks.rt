@@ -11,7 +11,7 @@ use crate::order::Left;
 use kx_machine::StoreMode;
 use kx_message::NodeId;
 
-/// Of each node what its next append leaves in its store, where it is to fail. What a restart
+/// Of each node what its next append leaves in its store, if it is to fail. What a restart
 /// appends doesn't count.
 #[derive(Drop)]
 pub struct Marks {
@@ -35,7 +35,7 @@ impl Marks {
         }
     }
 
-    /// What the next append of a node is to leave, where it is to fail.
+    /// What the next append of a node is to leave, if it is to fail.
     pub fn at(&self, node: &NodeId) -> Option<Left>
         ensures { result ≡ mark_at self.now node.now }
     {
@@ -60,7 +60,7 @@ impl Marks {
     }
 }
 
-// What a node's store does in a step, where its next append is to fail or not.
+// What a node's store does in a step, if its next append is to fail or not.
 pub(crate) fn mode_of(mark: Option<Left>) -> StoreMode
     ensures { (size : Option ℕ) (store : Store) → IsMode result size store
         → store ≡ store_of mark }

@@ -13,7 +13,7 @@ use std::io::{BufRead, BufWriter, Write};
 /// Runs a script over a world of its own, in memory: reads its lines one by one, carries each out
 /// and writes its answer, up to the end or the first bad line, of which it writes `bad line N`. It
 /// writes the answers as they come and doesn't flush the writer. It makes at most 2^32 reads, and
-/// ends with `Read` where it would need more; taking lines of what a read gave is no read.
+/// ends with `Read` if it would need more; taking lines of what a read gave is no read.
 ///
 /// # Errors
 ///
@@ -37,7 +37,7 @@ pub fn run_script<R: BufRead, W: Write>(
 ///
 /// # Errors
 ///
-/// Those of [`ScriptFault`]; `Write` also where the writer can't be flushed. Of any other nothing
+/// Those of [`ScriptFault`]; `Write` also if the writer can't be flushed. Of any other nothing
 /// is left in the buffer.
 pub fn run_sim<R: BufRead, W: Write + Drop>(
     alloc: Global,

@@ -58,12 +58,12 @@ fn answer_order<W: Write>(
 }
 
 /// Answers a line that has words in a world: lets its event happen, or carries its order out, and
-/// writes what that prints; false where the line is bad, and nothing is done. An event for which
+/// writes what that prints; false if the line is bad, and nothing is done. An event for which
 /// there is no memory prints `lost`, and nothing is done either.
 ///
 /// # Errors
 ///
-/// [`ScriptFault::Write`] where the writer failed, and [`ScriptFault::Memory`] where there is none
+/// [`ScriptFault::Write`] if the writer failed, and [`ScriptFault::Memory`] if there is none
 /// for a page.
 pub fn answer_in<W: Write>(
     alloc: Global,
@@ -89,7 +89,7 @@ pub fn answer_in<W: Write>(
     }
 }
 
-// Answers a line that has words; false where it is bad, and nothing is done.
+// Answers a line that has words; false if it is bad, and nothing is done.
 fn answer_words<W: Write>(
     alloc: Global,
     running: &mut Option<Running>,
@@ -109,7 +109,7 @@ fn answer_words<W: Write>(
     }
 }
 
-// Answers a line; false where it is bad, and nothing is done.
+// Answers a line; false if it is bad, and nothing is done.
 fn answer<W: Write>(
     alloc: Global,
     running: &mut Option<Running>,

@@ -28,7 +28,7 @@ use std::alloc::Global;
 use std::io;
 use std::io::Write;
 
-// Takes the mark of a node back, where its append has failed.
+// Takes the mark of a node back, if its append has failed.
 fn settle(marks: &mut Marks, place: &NodeId, failed: bool)
     ensures { marks.new ≡ marks_after marks.old place.now failed }
 {
@@ -37,7 +37,7 @@ fn settle(marks: &mut Marks, place: &NodeId, failed: bool)
     }
 }
 
-// Writes the message of a number, where there is one.
+// Writes the message of a number, if there is one.
 fn write_one<W: Write>(
     world: &ScriptWorld,
     number: usize,
@@ -143,7 +143,7 @@ pub(crate) fn happen<W: Write>(
     Ok(true)
 }
 
-// Lets the next append of a node fail; false where there is no such node, and nothing is done.
+// Lets the next append of a node fail; false if there is no such node, and nothing is done.
 fn fail<W: Write>(
     running: &mut Running,
     place: &NodeId,
@@ -162,7 +162,7 @@ fn fail<W: Write>(
     Ok(true)
 }
 
-// Writes the records of a partition from an offset on, or the committed ones; false where there is
+// Writes the records of a partition from an offset on, or the committed ones; false if there is
 // no such partition, and nothing is done.
 fn fetch<W: Write>(
     alloc: Global,
@@ -188,7 +188,7 @@ fn fetch<W: Write>(
     Ok(true)
 }
 
-// Writes a group's committed offset of a partition; false where there is no such partition, and
+// Writes a group's committed offset of a partition; false if there is no such partition, and
 // nothing is done.
 fn offset<W: Write>(
     running: &Running,
@@ -219,7 +219,7 @@ fn rows<W: Write>(running: &Running, writer: &mut W) -> Result<bool, ScriptFault
     Ok(true)
 }
 
-// Carries an order out, and writes its answer; false where what it names isn't there, and nothing
+// Carries an order out, and writes its answer; false if what it names isn't there, and nothing
 // is done.
 pub(crate) fn perform<W: Write>(
     alloc: Global,

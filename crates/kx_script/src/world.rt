@@ -39,7 +39,7 @@ impl Running {
     ///
     /// # Errors
     ///
-    /// Only where memory runs out.
+    /// Only if memory runs out.
     pub fn new(alloc: Global, partitions: PartitionCount) -> Result<Running, AllocError>
         ensures { IfOk result (λ running. StandsFor running (opening partitions)) }
     {
@@ -55,7 +55,7 @@ impl Running {
     ///
     /// # Errors
     ///
-    /// As of [`World::happen`](kx_core::World::happen), only where memory runs out; then the world
+    /// As of [`World::happen`](kx_core::World::happen), only if memory runs out; then the world
     /// stands for what it stood for.
     pub fn happen(&mut self, event: &Event<Prefixed>) -> Result<Happened, AllocError>
         ensures step { (s : System) → IsLocal images_of self.old.world s → MatchResult result
@@ -74,7 +74,7 @@ impl Running {
         all_sent(&self.world)
     }
 
-    /// The partition of this number, borrowed, the offsets partition among them; None where it isn't
+    /// The partition of this number, borrowed, the offsets partition among them; None if it isn't
     /// there.
     pub fn partition(&self, number: PartitionId) -> Option<&Partition<LocalStore>>
         ensures { (s : System) → IsLocal images_of self.now.world s → MatchOption result

@@ -16,7 +16,7 @@ in_order_more first [] opened is next = (omega (arith, next), tt)
 in_order_more first (book ∷ books) opened is next =
     (is.0, in_order_more (first + 1) books opened is.1 (omega (arith, next)))
 
--- the book of a partition, where it is among these; else the other one
+-- the book of a partition, if it is among these; else the other one
 abbrev pub book_in : List Opened → Book → ℕ → Book
 book_in [] other number = other
 book_in (opened ∷ more) other number =

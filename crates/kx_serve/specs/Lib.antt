@@ -2,3 +2,4 @@ pub mod Faults
 pub mod Files
 pub mod Opening
 pub mod Owed
+pub mod Tying

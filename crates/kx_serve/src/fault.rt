@@ -1,6 +1,6 @@
 //! Why a server doesn't serve.
 ghost use Rattle.std.specs.Prelude.{◌≡◌};
-ghost use Rattle.kx_serve.specs.Faults.{fault_number};
+ghost use Rattle.kx_serve.specs.Faults.{about_of, fault_number};
 
 use crate::files::LogFile;
 use kx_kafka_server::GatewayFault;
@@ -8,7 +8,23 @@ use kx_log::OpenFault;
 use kx_server::{NetFault, ServerFault};
 use kx_trace_files::{TraceFileFault, TraceName};
 use std::alloc::AllocError;
+use std::io::ErrorKind;
 use thiserror::Error;
+
+/// What a fault of a server is about.
+#[derive(Clone, Copy, Debug, PartialEq, Eq)]
+pub enum About {
+    /// Nothing that is in a folder.
+    Neither,
+    /// The folder of the logs.
+    Logs,
+    /// The folder of the traces.
+    Traces,
+    /// A file in the folder of the logs, with whose name the fault's words begin.
+    InLogs,
+    /// A file in the folder of the traces, with whose name the fault's words begin.
+    InTraces,
+}
 
 /// Why a server doesn't serve its connections to the end.
 #[derive(Clone, Copy, Debug, PartialEq, Eq, Error)]
@@ -16,7 +32,7 @@ pub enum ServeFault {
     /// The port can't be had, or no connection can be taken on it.
     #[error("port {port} {fault}")]
     Net {
-        /// The port, 0 where any was asked for and none could be had.
+        /// The port, 0 if any was asked for and none could be had.
         port: u16,
         /// Why.
         fault: NetFault,
@@ -37,8 +53,11 @@ pub enum ServeFault {
     #[error("out of memory")]
     Memory,
     /// The folder of the logs has the empty name or can't be made, or its lock can't be had.
-    #[error("the folder cannot be used")]
-    Folder,
+    #[error("the folder cannot be used: {why}")]
+    Folder {
+        /// What the system says.
+        why: ErrorKind,
+    },
     /// Another server keeps its logs in the folder.
     #[error("another server has the folder")]
     InUse,
@@ -51,8 +70,11 @@ pub enum ServeFault {
         file: LogFile,
     },
     /// The folder of the traces has the empty name or can't be made, or its lock can't be had.
-    #[error("the folder of traces cannot be used")]
-    TraceFolder,
+    #[error("the folder of traces cannot be used: {why}")]
+    TraceFolder {
+        /// What the system says.
+        why: ErrorKind,
+    },
     /// Another server keeps its traces in the folder.
     #[error("another server has the folder of traces")]
     TracesInUse,
@@ -78,6 +100,12 @@ pub enum ServeFault {
         /// The file.
         file: TraceName,
     },
+    /// A server ran on the logs without the traces of which this is one: they don't tell its steps.
+    #[error("{file}: a server ran on these logs without it; --new-traces begins the traces anew")]
+    Elsewhere {
+        /// The file.
+        file: TraceName,
+    },
     /// Stock clients can't be served.
     #[error("{0}")]
     Gateway(GatewayFault),
@@ -86,7 +114,7 @@ pub enum ServeFault {
 impl ServeFault {
     /// The number of the fault, by which another program knows it: `Net` 1, `Write` 2, `Open` 3,
     /// `Memory` 4, `Folder` 6, `InUse` 7, `NotWhole` 9, `TraceFolder` 10, `TracesInUse` 11, `Trace`
-    /// 12, `Untold` 13, `Gone` 14, `Gateway` 15.
+    /// 12, `Untold` 13, `Gone` 14, `Gateway` 15, `Elsewhere` 16.
     pub fn number(self) -> u8
         ensures { result ≡ fault_number self }
     {
@@ -95,15 +123,31 @@ impl ServeFault {
             ServeFault::Write => 2,
             ServeFault::Open { .. } => 3,
             ServeFault::Memory => 4,
-            ServeFault::Folder => 6,
+            ServeFault::Folder { .. } => 6,
             ServeFault::InUse => 7,
             ServeFault::NotWhole { .. } => 9,
-            ServeFault::TraceFolder => 10,
+            ServeFault::TraceFolder { .. } => 10,
             ServeFault::TracesInUse => 11,
             ServeFault::Trace { .. } => 12,
             ServeFault::Untold { .. } => 13,
             ServeFault::Gone { .. } => 14,
             ServeFault::Gateway(_) => 15,
+            ServeFault::Elsewhere { .. } => 16,
+        }
+    }
+
+    /// What the fault is about.
+    pub fn about(self) -> About
+        ensures { result ≡ about_of self }
+    {
+        match self {
+            ServeFault::Net { .. } | ServeFault::Write | ServeFault::Memory => About::Neither,
+            ServeFault::Folder { .. } | ServeFault::InUse => About::Logs,
+            ServeFault::TraceFolder { .. } | ServeFault::TracesInUse => About::Traces,
+            ServeFault::Open { .. } | ServeFault::NotWhole { .. } => About::InLogs,
+            ServeFault::Untold { .. } | ServeFault::Gateway(_) => About::InLogs,
+            ServeFault::Trace { .. } | ServeFault::Gone { .. } => About::InTraces,
+            ServeFault::Elsewhere { .. } => About::InTraces,
         }
     }
 }

@@ -12,7 +12,7 @@ use std::io::ErrorKind;
 pub(crate) trait Folder: Drop {
     type Kept: Store + Send + Sync + 'static;
 
-    /// The store of a log, which is made where there is none.
+    /// The store of a log, which is made if there is none.
     fn store(&self, alloc: Global, file: LogFile) -> Result<Self::Kept, ServeFault>;
 
     /// Whether the store of a log was made before.
@@ -21,7 +21,7 @@ pub(crate) trait Folder: Drop {
     /// How many bytes the store of a log has.
     fn len(&self, alloc: Global, file: LogFile) -> Result<u64, ServeFault>;
 
-    /// The bytes of a log; none where there is no store of it.
+    /// The bytes of a log; none if there is no store of it.
     fn bytes(&self, alloc: Global, file: LogFile) -> Result<Vec<u8>, ServeFault>;
 
     /// Tells whoever runs the server what is odd about a log.
@@ -63,7 +63,7 @@ pub(crate) struct InFiles<'a, R: Drop> {
 }
 
 impl<'a, R: Files<File = File> + Eprint + Drop> InFiles<'a, R> {
-    // Tells that a log is opened, which may take a while.
+    // Reports that a log is opened, which may take a while.
     fn tell(&self, path: &str) {
         if let Ok(held) = fs::metadata(&self.rt, path) {
             // Whoever watches sees no more than that.

@@ -59,6 +59,7 @@ fn gateway<R: Files<File = File> + AllocGlobal + Clock>(
     let asked = GatewayOptions {
         topics: options.topics,
         makes_topics: options.makes_topics,
+        advertise: options.advertise,
         dir: options.dir,
     };
     Ok(Kafka::open(rt, &asked, log.entries())?)
@@ -76,6 +77,7 @@ impl<'a> KafkaOptions<'a> {
             port: self.port,
             dir: self.dir,
             traces: self.traces,
+            new_traces: self.new_traces,
             expires: true,
             session_timeout: None,
             tells_progress: self.tells_progress,

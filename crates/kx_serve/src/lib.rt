@@ -1,5 +1,5 @@
 //! What `serve` and `kafka` do: nodes whose logs are in memory or in the files of a folder, and whose
-//! steps are written to traces where that is asked for, are served to clients.
+//! steps are written to traces if that is asked for, are served to clients.
 //!
 //! A server has its folders alone. A log that another program wrote, in part, isn't published; its
 //! pages are steps of its node.
@@ -15,11 +15,14 @@ mod opening;
 mod options;
 mod owed;
 mod placing;
+mod reasons;
 mod server;
 mod tracing;
+mod tying;
 
-pub use fault::ServeFault;
+pub use fault::{About, ServeFault};
 pub use files::LogFile;
 pub use kafka::serve_kafka;
 pub use options::{KafkaOptions, ServeOptions};
+pub use reasons::{Folders, refusal};
 pub use server::serve;

@@ -4,29 +4,55 @@ ghost use Rattle.kx_serve.specs.Files.{IsNamed};
 
 use crate::fault::ServeFault;
 use kx_files::make_folder;
-use std::alloc::{AllocError, Global};
+use std::alloc::Global;
 use std::fs::{File, Files, OpenOptions, TryLockError};
+use std::io::ErrorKind;
+use std::{fs, io};
 
 // Why a folder isn't this server's alone.
 #[derive(Clone, Copy)]
 enum LockFault {
     // It has the empty name or can't be made, or its lock can't be had.
-    Unusable,
+    Unusable(ErrorKind),
     // Another server has it.
     InUse,
     // Memory ran out.
     Memory,
 }
 
-impl From<AllocError> for LockFault {
-    fn from(_: AllocError) -> Self {
-        LockFault::Memory
+// What it is to a folder's lock that the system refuses something.
+fn refused(error: &io::Error) -> LockFault {
+    match error.kind() {
+        ErrorKind::OutOfMemory => LockFault::Memory,
+        kind => LockFault::Unusable(kind),
     }
 }
 
-// Keeps other servers out of a folder, which is made where there is none, for as long as the file of
+// Opens the file of this name in a folder. Whoever runs the server is told of a folder that wasn't
+// there, and is made: its name may be mistyped.
+fn open_lock<R: Files<File = File> + AllocGlobal + Eprint>(
+    rt: &R,
+    alloc: Global,
+    dir: &str,
+    name: &str,
+) -> io::Result<File> {
+    let is_new = fs::metadata(rt, dir).is_err();
+    make_folder(rt, dir)?;
+    let path = format!(in alloc; "{dir}/{name}")?;
+    let file = OpenOptions::new()
+        .write(true)
+        .create(true)
+        .open(rt, path.as_str())?;
+    if is_new {
+        // Nobody may watch.
+        let _ = eprintln!(rt; "{dir}: new folder");
+    }
+    Ok(file)
+}
+
+// Keeps other servers out of a folder, which is made if there is none, for as long as the file of
 // this name in it is open.
-fn lock_in<R: Files<File = File> + AllocGlobal>(
+fn lock_in<R: Files<File = File> + AllocGlobal + Eprint>(
     rt: &R,
     alloc: Global,
     dir: &str,
@@ -34,26 +60,22 @@ fn lock_in<R: Files<File = File> + AllocGlobal>(
 ) -> Result<File, LockFault>
     ensures { OnOk result (dir.now ≡ [] → ⊥) }
 {
-    if dir.is_empty() || make_folder(rt, dir).is_err() {
-        return Err(LockFault::Unusable);
+    if dir.is_empty() {
+        return Err(LockFault::Unusable(ErrorKind::InvalidInput));
     }
-    let path = format!(in alloc; "{dir}/{name}")?;
-    let opened = OpenOptions::new()
-        .write(true)
-        .create(true)
-        .open(rt, path.as_str());
-    let Ok(file) = opened else {
-        return Err(LockFault::Unusable);
+    let file = match open_lock(rt, alloc, dir, name) {
+        Ok(file) => file,
+        Err(error) => return Err(refused(&error)),
     };
     match file.try_lock() {
         Ok(()) => Ok(file),
         Err(TryLockError::WouldBlock) => Err(LockFault::InUse),
-        Err(TryLockError::Error(_)) => Err(LockFault::Unusable),
+        Err(TryLockError::Error(error)) => Err(refused(&error)),
     }
 }
 
 // Keeps other servers out of the folder of the logs, if there is one.
-fn lock_logs<R: Files<File = File> + AllocGlobal>(
+fn lock_logs<R: Files<File = File> + AllocGlobal + Eprint>(
     rt: &R,
     dir: Option<&str>,
 ) -> Result<Option<File>, ServeFault>
@@ -64,14 +86,14 @@ fn lock_logs<R: Files<File = File> + AllocGlobal>(
     };
     match lock_in(rt, rt.alloc(), dir, "lock") {
         Ok(file) => Ok(Some(file)),
-        Err(LockFault::Unusable) => Err(ServeFault::Folder),
+        Err(LockFault::Unusable(why)) => Err(ServeFault::Folder { why }),
         Err(LockFault::InUse) => Err(ServeFault::InUse),
         Err(LockFault::Memory) => Err(ServeFault::Memory),
     }
 }
 
 // Keeps other servers out of the folder of the traces, if there is one. It may be that of the logs.
-fn lock_traces<R: Files<File = File> + AllocGlobal>(
+fn lock_traces<R: Files<File = File> + AllocGlobal + Eprint>(
     rt: &R,
     dir: Option<&str>,
 ) -> Result<Option<File>, ServeFault>
@@ -82,7 +104,7 @@ fn lock_traces<R: Files<File = File> + AllocGlobal>(
     };
     match lock_in(rt, rt.alloc(), dir, "trace.lock") {
         Ok(file) => Ok(Some(file)),
-        Err(LockFault::Unusable) => Err(ServeFault::TraceFolder),
+        Err(LockFault::Unusable(why)) => Err(ServeFault::TraceFolder { why }),
         Err(LockFault::InUse) => Err(ServeFault::TracesInUse),
         Err(LockFault::Memory) => Err(ServeFault::Memory),
     }
@@ -95,14 +117,14 @@ pub(crate) struct Locks {
     _traces: Option<File>,
 }
 
-/// Keeps other servers out of the folders of the logs and of the traces, which are made where there
+/// Keeps other servers out of the folders of the logs and of the traces, which are made if there
 /// are none. No folder has the empty name.
 ///
 /// # Errors
 ///
-/// `Folder` and `TraceFolder` where one can't be used, `InUse` and `TracesInUse` where another
+/// `Folder` and `TraceFolder` if one can't be used, `InUse` and `TracesInUse` if another
 /// server has it, `Memory`.
-pub(crate) fn lock_folders<R: Files<File = File> + AllocGlobal>(
+pub(crate) fn lock_folders<R: Files<File = File> + AllocGlobal + Eprint>(
     rt: &R,
     logs: Option<&str>,
     traces: Option<&str>,

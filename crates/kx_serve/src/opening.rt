@@ -72,11 +72,11 @@ pub(crate) struct Opening<'a, F: Folder, R: Drop> {
     pub(crate) partitions: Partitions,
     /// the time, in milliseconds since 1970
     pub(crate) time: u64,
-    /// where the nodes write what they do, if they do
+    /// if the nodes write what they do, if they do
     pub(crate) traces: Option<Traces<'a, R>>,
 }
 
-/// What stands under the lock of a server's node.
+/// What is under the lock of a server's node.
 pub(crate) type Kept<F, R> = Untraced<ServerMachine<<F as Folder>::Kept, R>>;
 
 impl<'a, F: Folder, R: Files<File = File> + AllocGlobal + Eprint + Drop + Copy> Opening<'a, F, R> {
@@ -107,6 +107,15 @@ impl<'a, F: Folder, R: Files<File = File> + AllocGlobal + Eprint + Drop + Copy> 
         Ok(())
     }
 
+    // The coordinator's log, if the log of a partition is missing that is served; else nothing. These
+    // logs were made before.
+    fn log_to_warn_by(&self, kept: &[PartitionId]) -> Result<Vec<u8>, ServeFault> {
+        if kept.len() > usize::from(self.partitions.get()) {
+            return Ok(Vec::new(self.alloc));
+        }
+        self.folder.bytes(self.alloc, LogFile::Coordinator)
+    }
+
     // Warns of a partition whose log is missing, if the coordinator's log names it.
     fn warn_of(&self, log: &[u8], kept: &[PartitionId], partition: PartitionId) {
         if !kept.contains(&partition) && names(self.alloc, log, partition) {
@@ -118,20 +127,15 @@ impl<'a, F: Folder, R: Files<File = File> + AllocGlobal + Eprint + Drop + Copy> 
         }
     }
 
-    // Warns of what is odd about the folder, of whose logs these were made before.
-    fn warn_of_files(&self, kept: &[PartitionId]) -> Result<(), ServeFault> {
-        self.warn_of_more()?;
-        if kept.len() > usize::from(self.partitions.get()) {
-            return Ok(());
-        }
-        let log = self.folder.bytes(self.alloc, LogFile::Coordinator)?;
+    // Warns of each partition whose log is missing and that the coordinator's log names, once it is
+    // known that no transaction needs it. These logs were made before.
+    fn warn_of_missing(&self, log: &[u8], kept: &[PartitionId]) {
         for number in 0..self.partitions.get() {
             if let Ok(partition) = PartitionId::try_from(number) {
-                self.warn_of(log.as_slice(), kept, partition);
+                self.warn_of(log, kept, partition);
             }
         }
-        self.warn_of(log.as_slice(), kept, PartitionId::OFFSETS);
-        Ok(())
+        self.warn_of(log, kept, PartitionId::OFFSETS);
     }
 
     // The coordinator of a log that is opened at this time, in a folder of whose logs these were
@@ -346,7 +350,7 @@ impl<'a, F: Folder, R: Files<File = File> + AllocGlobal + Eprint + Drop + Copy> 
         }
     }
 
-    // The trace of a partition whose log was opened. Where the coordinator's begins it begins on the
+    // The trace of a partition whose log was opened. If the coordinator's begins it begins on the
     // log, with the record of its opening, by which a later start knows that it was begun.
     fn trace_of(
         &self,
@@ -477,8 +481,10 @@ impl<'a, F: Folder, R: Files<File = File> + AllocGlobal + Eprint + Drop + Copy> 
             All (IsServing J.book) nodes.partitions.items) }
     {
         let kept = self.kept()?;
-        self.warn_of_files(kept.as_slice())?;
+        self.warn_of_more()?;
+        let log = self.log_to_warn_by(kept.as_slice())?;
         let (machine, begins) = self.coordinator(kept.as_slice())?;
+        self.warn_of_missing(log.as_slice(), kept.as_slice());
         let coordinator = Untraced::new(NodeId::Coordinator, machine);
         let mut partitions = Vec::new(self.alloc);
         match self.open_partitions::<J>(&mut partitions, books, offsets, begins) {

@@ -1,5 +1,6 @@
 //! What a server is asked for.
 use kx_gateway::Topics;
+use kx_kafka_server::Advertised;
 use kx_message::Timeout;
 use kx_server::{Connections, Partitions, ServerOptions, Until};
 
@@ -12,12 +13,14 @@ pub struct ServeOptions<'a> {
     pub connections: Connections,
     /// The port on 127.0.0.1 on which it listens; 0 takes any that is free.
     pub port: u16,
-    /// The folder in which it keeps its logs, as files, which is made where there is none; None
+    /// The folder in which it keeps its logs, as files, which is made if there is none; None
     /// keeps them in memory. No folder has the empty name.
     pub dir: Option<&'a str>,
-    /// The folder into which its nodes write what they do, which is made where there is none; None
+    /// The folder into which its nodes write what they do, which is made if there is none; None
     /// writes nothing. No folder has the empty name.
     pub traces: Option<&'a str>,
+    /// Whether traces that are there are removed, so that they begin anew.
+    pub new_traces: bool,
     /// Whether its clock ends transactions that have lasted longer than they asked for. Else none
     /// ends by itself.
     pub expires: bool,
@@ -46,14 +49,18 @@ pub struct KafkaOptions<'a> {
     pub topics: &'a Topics,
     /// Whether a topic is made, with one partition, when a client first asks for it.
     pub makes_topics: bool,
+    /// Where clients are told to find the broker; None is 127.0.0.1 and the port on which it listens.
+    pub advertise: Option<Advertised<'a>>,
     /// The port on 127.0.0.1 on which it listens; 0 takes any that is free.
     pub port: u16,
-    /// The folder in which it keeps its logs and tables, as files, which is made where there is
+    /// The folder in which it keeps its logs and tables, as files, which is made if there is
     /// none; None keeps them in memory. No folder has the empty name.
     pub dir: Option<&'a str>,
-    /// The folder into which its nodes write what they do, which is made where there is none; None
+    /// The folder into which its nodes write what they do, which is made if there is none; None
     /// writes nothing. No folder has the empty name.
     pub traces: Option<&'a str>,
+    /// Whether traces that are there are removed, so that they begin anew.
+    pub new_traces: bool,
     /// How many connections it serves: at a time, or in all.
     pub connections: Connections,
     /// When it ends.

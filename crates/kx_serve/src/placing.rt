@@ -82,7 +82,7 @@ pub(crate) struct Placing<'a, F: Folder, R: Drop> {
 }
 
 impl<'a, F: Folder, R: Wait + Drop + Copy> Placing<'a, F, R> {
-    // Places a partition's node, and warns where its log isn't published.
+    // Places a partition's node, and warns if its log isn't published.
     fn place<L: Readable, J: Naming>(
         &self,
         node: OpenedNode<L>,
@@ -121,7 +121,7 @@ impl<'a, F: Folder, R: Wait + Drop + Copy> Placing<'a, F, R> {
     ///
     /// # Errors
     ///
-    /// Only where memory runs out.
+    /// Only if memory runs out.
     pub(crate) fn place_all<L: Readable, J: Naming>(
         &self,
         nodes: OpenedNodes<L>,

@@ -13,6 +13,7 @@ use crate::opening::{Kept, Opening};
 use crate::options::ServeOptions;
 use crate::placing::{OpenedNodes, Placing};
 use crate::tracing::Traces;
+use crate::tying::tie_folders;
 use kx_message::PartitionId;
 use kx_published::book::{Naming, Opened};
 use kx_publishing::Readable;
@@ -209,6 +210,7 @@ pub(crate) fn serve_speaking<
 ) -> Result<(), ServeFault>
     ensures { OnOk result (Listens (W.contents out.old) (W.contents out.new)) }
 {
+    tie_folders(&rt, options)?;
     let spoken = (protocol, until);
     match options.dir {
         None => serve_over(rt, &InMemory, options, spoken, out),

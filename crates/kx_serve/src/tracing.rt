@@ -37,7 +37,7 @@ pub(crate) fn recorded<S: Store, R: Eprint + Drop>(
 ///
 /// # Errors
 ///
-/// `Memory` where there was no step.
+/// `Memory` if there was no step.
 pub(crate) fn restarted<S: Store, R: Eprint + Drop>(
     mut machine: ServerMachine<S, R>,
     time: u64,
@@ -89,7 +89,7 @@ impl<'a, R: Files<File = File> + AllocGlobal + Eprint + Copy + Drop> Traces<'a, 
         Ok(fs::metadata(&self.rt, path.as_str()).is_ok())
     }
 
-    /// The trace of a node, which is made where there is none.
+    /// The trace of a node, which is made if there is none.
     pub(crate) fn open(&self, node: &TracedNode) -> Result<OpenedTrace<R>, ServeFault> {
         match open_trace(&self.rt, self.dir, *node) {
             Ok(trace) => Ok(trace),

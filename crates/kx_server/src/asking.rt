@@ -6,7 +6,7 @@ use kx_broker::refused_fetch;
 use kx_message::{ClientId, ErrorCode, Message, ProduceReply};
 use std::alloc::Global;
 
-/// The client that asks with this message, where it is one of a client's requests. All other
+/// The client that asks with this message, if it is one of a client's requests. All other
 /// messages go between nodes, or to clients, and no client may send one.
 pub fn asker(message: &Message) -> Option<ClientId>
     ensures { result ≡ asker_of message.now }

@@ -117,7 +117,7 @@ impl<'a, L: Readable, J: Naming, R: Wait + Drop> Connection<'a, L, J, R> {
     }
 
     /// Serves the connection until either end closes it. What was answered by then is written, also
-    /// where bytes came that are no frame.
+    /// if bytes came that are no frame.
     pub(crate) fn serve(mut self, rt: &R) {
         let ended = self.take_stream(rt);
         self.peer.finish(rt);

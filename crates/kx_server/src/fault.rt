@@ -31,7 +31,7 @@ pub enum ServerFault {
     /// The port can't be had, or no connection can be taken on it.
     #[error("port {port} {fault}")]
     Net {
-        /// The port, 0 where any was asked for and none could be had.
+        /// The port, 0 if any was asked for and none could be had.
         port: u16,
         /// Why.
         fault: NetFault,

@@ -30,7 +30,7 @@ pub struct LogEnds {
 /// A node of a server: its log may be published.
 pub type ServedNode<L, J, R> = Node<PublishedMachine<L, J, R>>;
 
-/// A node of a server, and the readers of its log, where that is published.
+/// A node of a server, and the readers of its log, if that is published.
 #[derive(Drop)]
 pub struct Place<L: Readable, J: Naming, R: Wait + Drop> {
     // dropped before the node, whose drop waits until they have left
@@ -215,7 +215,7 @@ impl<L: Readable, J: Naming, R: Wait + Drop> Hub<L, J, R> {
         self.nodes.wait_for_few(rt, FEW_WAITING);
     }
 
-    // Keeps the receipt of a traced node's step. Where memory runs out, all are lost.
+    // Keeps the receipt of a traced node's step. If memory runs out, all are lost.
     fn keep(&self, rt: &R, receipt: Receipt) {
         let mut kept = self.kept.lock(rt);
         let fits = match &mut *kept {
@@ -231,7 +231,7 @@ impl<L: Readable, J: Naming, R: Wait + Drop> Hub<L, J, R> {
     ///
     /// # Errors
     ///
-    /// Only where memory ran out for one of them.
+    /// Only if memory ran out for one of them.
     pub(crate) fn take_receipts(&self, rt: &R) -> Result<Vec<Receipt>, AllocError> {
         let mut kept = self.kept.lock(rt);
         match mem::replace(&mut *kept, Some(Vec::new(self.alloc))) {
@@ -253,7 +253,7 @@ impl<L: Readable, J: Naming, R: Wait + Drop> Hub<L, J, R> {
         }
     }
 
-    /// One step of the node of this name, and how many messages it sends. None where there is no
+    /// One step of the node of this name, and how many messages it sends. None if there is no
     /// such node, or no memory for a step; then there was none.
     pub(crate) fn step(&self, rt: &R, name: NodeId, input: Input) -> Option<usize> {
         let receipt = self.nodes.take(rt, name, input)?.ok()?;
@@ -297,7 +297,7 @@ impl<L: Readable, J: Naming, R: Wait + Drop> Hub<L, J, R> {
     }
 
     /// Each node whose log is closed is opened again, and each log that readers don't see yet is
-    /// published. Where that fails, it is tried again by the next call.
+    /// published. If that fails, it is tried again by the next call.
     pub(crate) fn tend(&self, rt: &R, now: u64) {
         for place in &self.places {
             if let Ok(Tended::Restarted(served)) = place.node.tend(rt, now) {
@@ -309,18 +309,18 @@ impl<L: Readable, J: Naming, R: Wait + Drop> Hub<L, J, R> {
         }
     }
 
-    /// A message arrives at the node that it names. Where there is no memory for the step, it is
+    /// A message arrives at the node that it names. If there is no memory for the step, it is
     /// lost.
     pub fn deliver(&self, rt: &R, message: Message) {
         let _ = self.step(rt, message.receiver(), Input::Deliver(message));
     }
 
-    // The readers of the published log of a node. None where it isn't published.
+    // The readers of the published log of a node. None if it isn't published.
     fn readers(&self, name: NodeId) -> Option<&Readers<J>> {
         self.place(name)?.readers.as_ref()
     }
 
-    /// Where the published log of a partition ends: no step. None where it isn't published, or
+    /// Where the published log of a partition ends: no step. None if it isn't published, or
     /// memory runs out.
     pub fn ends(&self, rt: &R, partition: PartitionId) -> Option<LogEnds> {
         let readers = self.readers(NodeId::Partition(partition))?;

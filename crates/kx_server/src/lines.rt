@@ -10,7 +10,7 @@ use std::io::Write;
 ///
 /// # Errors
 ///
-/// `Write` where it can't be written or flushed; a part of the line may have been written.
+/// `Write` if it can't be written or flushed; a part of the line may have been written.
 pub fn tell<W: Write>(out: &mut W, word: &str, number: usize) -> Result<(), ServerFault>
     ensures { OnOk result (Appends (W.contents out.old) (W.contents out.new)
         (line_of word.now number)) }

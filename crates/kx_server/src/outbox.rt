@@ -77,7 +77,7 @@ impl Outbox {
         put
     }
 
-    /// Waits for a message, and takes the first one out. None where none waits and the outbox is
+    /// Waits for a message, and takes the first one out. None if none waits and the outbox is
     /// closed.
     pub(crate) fn next<R: Wait>(&self, rt: &R) -> Option<Message> {
         let mut waiting = self.moved.wait_while(rt, self.waiting.lock(rt), |waiting| {
@@ -88,7 +88,7 @@ impl Outbox {
         message
     }
 
-    /// Waits for a message, at most this long, and takes the first one out. None where none waits
+    /// Waits for a message, at most this long, and takes the first one out. None if none waits
     /// by then.
     pub(crate) fn next_within<R: Wait + Clock>(
         &self,

@@ -55,7 +55,7 @@ impl Peer {
     ///
     /// # Errors
     ///
-    /// Where the connection can't be read.
+    /// If the connection can't be read.
     pub fn read(&self, piece: &mut [u8]) -> io::Result<usize> {
         (&mut &self.stream).read(piece)
     }
@@ -71,12 +71,12 @@ impl Peer {
     }
 
     /// Waits for a reply of a node to the clients of this connection, at most this long, and takes
-    /// the first. None where none waits by then.
+    /// the first. None if none waits by then.
     pub fn take_reply<R: Wait + Clock>(&self, rt: &R, patience: Duration) -> Option<Message> {
         self.outbox.next_within(rt, patience)
     }
 
-    /// The port of the server, 0 where the system can't tell.
+    /// The port of the server, 0 if the system can't tell.
     pub fn port(&self) -> u16 {
         match self.stream.local_addr() {
             Ok(address) => address.port(),
@@ -90,7 +90,7 @@ impl Peer {
     }
 
     /// Answers over the connection, without waiting for it. A connection for which too much waits
-    /// is closed at once; where it was closed before, the answer is dropped.
+    /// is closed at once; if it was closed before, the answer is dropped.
     pub(crate) fn answer<R: Wait>(&self, rt: &R, message: Message) {
         match self.outbox.put(rt, message) {
             Put::Taken | Put::Closed => {}

@@ -38,7 +38,7 @@ pub trait Protocol: Drop {
     ///
     /// # Errors
     ///
-    /// Where it can't be served, as where memory runs out. It is closed then.
+    /// If it can't be served, as if memory runs out. It is closed then.
     fn open<R: Wait>(
         &self,
         rt: &R,
@@ -46,7 +46,7 @@ pub trait Protocol: Drop {
         peer: Arc<Peer>,
     ) -> Result<Self::Link, AllocError>;
 
-    /// Whether members of groups that the log has may still be there when a server begins. Where
+    /// Whether members of groups that the log has may still be there when a server begins. If
     /// they can't, they leave their groups before a connection is served.
     fn may_return(&self) -> bool;
 }
@@ -60,7 +60,7 @@ pub struct OwnFrames {
 }
 
 impl OwnFrames {
-    /// The protocol of a server that is asked for this: members of groups are heard where silent
+    /// The protocol of a server that is asked for this: members of groups are heard if silent
     /// ones are dropped.
     pub fn of(options: &ServerOptions) -> OwnFrames {
         OwnFrames {

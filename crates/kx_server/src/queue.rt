@@ -69,8 +69,8 @@ impl Queue {
         self.messages.is_empty()
     }
 
-    /// Puts a message after the others, and says whether it did. It doesn't where the message is
-    /// longer than a frame, where more than [`MOST_WAITING`] bytes would wait, and where memory
+    /// Puts a message after the others, and says whether it did. It doesn't if the message is
+    /// longer than a frame, if more than [`MOST_WAITING`] bytes would wait, and if memory
     /// runs out; then the message is dropped.
     pub fn push(&mut self, message: Message) -> bool
         ensures { MatchBool result (self.new ≡ self.old ++ message ∷ []) (self.new ≡ self.old) }

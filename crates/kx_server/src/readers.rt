@@ -23,7 +23,7 @@ impl<J: Naming> Readers<J> {
     ///
     /// # Errors
     ///
-    /// Where they can't be had.
+    /// If they can't be had.
     pub fn of<L: Readable, R: Wait + Drop>(
         rt: &R,
         alloc: Global,

@@ -1,16 +1,19 @@
 //! The threads of a server's connections.
+use crate::fault::NetFault;
 use crate::hub::Hub;
 use crate::protocol::Link;
 use crate::ticking::Going;
 use kx_published::book::Naming;
 use kx_publishing::Readable;
 use std::alloc::{AllocError, Global};
+use std::net::{TcpListener, TcpStream};
 use std::sync::{Arc, Wait};
-use std::thread;
 use std::thread::{JoinHandle, Threads};
 use std::time::{Clock, Duration};
+use std::{io, thread};
 
-// After how long a thread that can't be started is tried again.
+// After how long a connection that can't be taken, or a thread that can't be started, is tried
+// again.
 const PAUSE_MILLIS: u64 = 10;
 
 // Which of the two threads of a connection.
@@ -35,6 +38,12 @@ struct Wire<L: Readable, J: Naming, R: Wait + Drop, K: Link> {
 // Tells whoever runs the server. Nobody may watch.
 fn warn<R: Eprint>(rt: &R, words: &str) {
     let _ = eprintln!(rt; "{words}");
+}
+
+// Whether a listener that fails so never works again: it is no listener (EBADF, EFAULT, EINVAL,
+// ENOTSOCK). All else passes: files that other connections have are given back when these close.
+fn is_for_good(error: &io::Error) -> bool {
+    matches!(error.raw_os_error(), Some(9 | 14 | 22 | 88))
 }
 
 impl<L: Readable, J: Naming, R: Wait + Clock + Drop, K: Link> Wire<L, J, R, K> {
@@ -136,6 +145,31 @@ impl<
         }
     }
 
+    /// The next connection of a listener. If it can't be taken now, connections that have ended are
+    /// closed, so that it can have their files, and it is taken later.
+    ///
+    /// # Errors
+    ///
+    /// `Other`, if the listener never works again.
+    pub(crate) fn accept(&mut self, listener: &TcpListener) -> Result<TcpStream, NetFault> {
+        let rt = self.rt;
+        let mut has_told = false;
+        for _ in rt.forever() {
+            match listener.accept() {
+                Ok((stream, _)) => return Ok(stream),
+                Err(error) if is_for_good(&error) => return Err(NetFault::Other),
+                Err(_) => {}
+            }
+            self.count();
+            if !has_told {
+                warn(&rt, "no connection can be taken now; the server waits");
+                has_told = true;
+            }
+            thread::sleep(&rt, Duration::from_millis(PAUSE_MILLIS));
+        }
+        unreachable!()
+    }
+
     /// How many connections are served. Joins the threads of those that have ended.
     pub(crate) fn count(&mut self) -> usize {
         for at in (0..self.seats.len()).rev() {
@@ -169,7 +203,7 @@ impl<
     ///
     /// # Errors
     ///
-    /// Where memory runs out before that; the connection is closed then.
+    /// If memory runs out before that; the connection is closed then.
     pub(crate) fn serve(&mut self, link: K) -> Result<(), AllocError> {
         self.seats.reserve(1)?;
         let wire = Wire {

@@ -2,7 +2,7 @@
 ghost use Rattle.std.specs.Prelude.{◌≤◌, OnOk};
 ghost use Rattle.kx_server.specs.Lines.{Listens};
 
-use crate::fault::{NetFault, ServerFault};
+use crate::fault::ServerFault;
 use crate::hub::{Answers, Hub, Nodes, Place};
 use crate::lines::tell;
 use crate::listening::{fault_of, listen, port_of};
@@ -14,7 +14,6 @@ use crate::routes::Routes;
 use crate::seats::Seats;
 use crate::sessions::Member;
 use crate::ticking::{Going, keep_time};
-use crate::waiting::wait_until;
 use crate::watches::Watches;
 use kx_message::Timeout;
 use kx_nodes::{JoinSet, Receipt, Workers};
@@ -24,16 +23,12 @@ use std::alloc::{AllocError, Global};
 use std::io::Write;
 use std::net::{Net, TcpListener, TcpStream};
 use std::sync::{Arc, Wait};
+use std::thread;
 use std::thread::Threads;
-use std::time::{Clock, Duration};
-use std::{io, thread};
+use std::time::Clock;
 
 // How many threads deliver what nodes send to nodes.
 const WORKERS: usize = 4;
-
-// After how long a connection that can't be taken, or a thread that can't be started, is tried
-// again.
-const PAUSE_MILLIS: u64 = 10;
 
 // What a server's threads share.
 #[derive(Drop)]
@@ -68,31 +63,6 @@ impl<
     }
 }
 
-// Tells whoever runs the server. Nobody may watch.
-fn warn<R: Eprint>(rt: &R, words: &str) {
-    let _ = eprintln!(rt; "{words}");
-}
-
-// Whether a listener that fails so never works again: it is no listener (EBADF, EFAULT, EINVAL,
-// ENOTSOCK). All else passes: files that other connections have are given back when these close.
-fn is_for_good(error: &io::Error) -> bool {
-    matches!(error.raw_os_error(), Some(9 | 14 | 22 | 88))
-}
-
-// The next connection. One that can't be taken now is taken later.
-fn accept<R: Eprint + Wait + Clock>(rt: &R, listener: &TcpListener) -> Result<TcpStream, NetFault> {
-    wait_until(
-        rt,
-        Duration::from_millis(PAUSE_MILLIS),
-        || match listener.accept() {
-            Ok((stream, _)) => Some(Ok(stream)),
-            Err(error) if is_for_good(&error) => Some(Err(NetFault::Other)),
-            Err(_) => None,
-        },
-        || warn(rt, "no connection can be taken now; the server waits"),
-    )
-}
-
 /// When a server ends.
 #[derive(Clone, Copy, Debug, PartialEq, Eq)]
 pub enum Until {
@@ -113,7 +83,7 @@ impl Until {
     }
 }
 
-// A connection of this number, once it can be served. None where it is closed.
+// A connection of this number, once it can be served. None if it is closed.
 fn opened<P: Protocol, R: Wait>(
     rt: &R,
     alloc: Global,
@@ -141,7 +111,7 @@ fn take_connections<
 ) -> Result<(), ServerFault> {
     let (protocol, until) = spoken;
     for number in 0..until.taken(options) {
-        let stream = match accept(&rt, listener) {
+        let stream = match seats.accept(listener) {
             Ok(stream) => stream,
             Err(fault) => return Err(fault_of(listener, fault)),
         };
@@ -214,7 +184,7 @@ impl<
     ///
     /// # Errors
     ///
-    /// Only where memory or threads run out; then no thread runs.
+    /// Only if memory or threads run out; then no thread runs.
     pub fn start(
         rt: R,
         alloc: Global,
@@ -243,12 +213,12 @@ impl<
     ///
     /// # Errors
     ///
-    /// Only where 2^63 - 1 of them exist.
+    /// Only if 2^63 - 1 of them exist.
     pub fn operator(&self) -> Result<Operator<L, J, R>, AllocError> {
         Ok(Operator::of(Arc::try_clone(&self.shared.hub)?))
     }
 
-    // Members of groups from before the server began are given their time from now on, where they
+    // Members of groups from before the server began are given their time from now on, if they
     // may return. Else they leave, as does one for whose session memory runs out.
     fn begin_with(&self, members: &[Member], may_return: bool) {
         let hub = &self.shared.hub;
@@ -293,7 +263,7 @@ impl<
     ///
     /// # Errors
     ///
-    /// `Net` where no connection can be taken any more, `Memory` where memory or threads run out or
+    /// `Net` if no connection can be taken any more, `Memory` if memory or threads run out or
     /// a receipt was lost. Connections that were taken are served to their ends also then.
     pub fn serve_speaking<P: Protocol>(
         self,
@@ -327,7 +297,7 @@ impl<
     ///
     /// # Errors
     ///
-    /// Only where memory ran out for a receipt; all threads have ended then, too.
+    /// Only if memory ran out for a receipt; all threads have ended then, too.
     pub fn end(self) -> Result<Vec<Receipt>, AllocError> {
         let Server {
             rt,

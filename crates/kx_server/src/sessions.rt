@@ -54,7 +54,7 @@ impl Sessions {
     ///
     /// # Errors
     ///
-    /// Only where memory runs out for its session.
+    /// Only if memory runs out for its session.
     pub(crate) fn add<R: Wait>(&self, rt: &R, member: Member) -> Result<(), AllocError> {
         let mut sessions = self.sessions.lock(rt);
         if !is_there(sessions.as_slice(), &member) {
@@ -67,7 +67,7 @@ impl Sessions {
     ///
     /// # Errors
     ///
-    /// Only where memory runs out for the session of a client that joins.
+    /// Only if memory runs out for the session of a client that joins.
     pub(crate) fn hear<R: Wait>(
         &self,
         rt: &R,

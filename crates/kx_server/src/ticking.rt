@@ -55,7 +55,7 @@ impl Going {
     }
 }
 
-// The milliseconds of a time, 2^64 - 1 where they are more.
+// The milliseconds of a time, 2^64 - 1 if they are more.
 fn millis_of(time: Duration) -> u64
     ensures { result ≡ min (as_nanos time / 1_000_000) u64.MAX }
 {
@@ -65,7 +65,7 @@ fn millis_of(time: Duration) -> u64
     }
 }
 
-/// The time, in milliseconds since 1970. None where the clock can't be read.
+/// The time, in milliseconds since 1970. None if the clock can't be read.
 pub fn moment<R: Clock>(rt: &R) -> Option<u64> {
     Some(millis_of(rt.since_1970().ok()?))
 }
@@ -88,7 +88,7 @@ fn tick<L: Readable, J: Naming, R: Wait + Drop>(
     hub.remind(rt);
 }
 
-// Drops members of groups that were silent for too long, where the server does so at all.
+// Drops members of groups that were silent for too long, if the server does so at all.
 fn drop_silent<L: Readable, J: Naming, R: Wait + Drop>(
     rt: &R,
     hub: &Hub<L, J, R>,
@@ -100,9 +100,9 @@ fn drop_silent<L: Readable, J: Naming, R: Wait + Drop>(
     }
 }
 
-/// Ticks until the server has ended. Transactions that have lasted too long are ended only where
+/// Ticks until the server has ended. Transactions that have lasted too long are ended only if
 /// the clock `expires` them, and members of groups that are silent for longer than `limit` are
-/// dropped only where there is one.
+/// dropped only if there is one.
 pub(crate) fn keep_time<L: Readable, J: Naming, R: Wait + Clock + Drop>(
     rt: &R,
     hub: &Hub<L, J, R>,

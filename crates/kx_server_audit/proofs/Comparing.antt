@@ -165,7 +165,7 @@ module _ {I : Type 0} (remaining : I → Option (List ℕ)) (of : List TraceOf)
   log_no (denial.OtherNode node) says h = absurd h.1
   log_no (denial.Item node item why) says h = absurd h.1
 
--- what is found where an audit is stopped
+-- what is found if an audit is stopped
 pub stopped_finds : (compares : Bool) (s : Stop) (found f : Findings)
     → IfNo s (SaysNoOf compares found.counts found.transactions) → IsStopped s found f
     → AreFindings compares f

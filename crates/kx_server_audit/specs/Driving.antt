@@ -41,7 +41,7 @@ GoesNoFurther history k a NoMore =
 
 ------ the end of a source
 
--- where the source of this trace is read to its end, the audit was told so
+-- if the source of this trace is read to its end, the audit was told so
 abbrev pub IsTold : {I : Type 0} → ℕ → ServerAudit → Source I → Type 0
 IsTold k a s =
     (r : Reading) → slice_get a.audit.traces k ≡ Some r → s.is_ended ≡ true → r.is_end ≡ true

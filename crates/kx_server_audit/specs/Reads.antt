@@ -8,7 +8,7 @@ use Rattle.kx_trace_audit.specs.Beginnings.{CameBefore}
 use Rattle.kx_trace_audit.specs.declared.servers.TraceOf.{TraceOf}
 use Rattle.kx_trace_files.specs.Beginning.{begun_text}
 
--- a trace by its head, and what its source has to give after that, where it is known
+-- a trace by its head, and what its source has to give after that, if it is known
 pub record Origin : Type 0 where
   pub trace : TraceOf
   pub rest : Option (List ℕ)
@@ -21,7 +21,7 @@ abbrev pub traces_of : List Origin → List TraceOf
 traces_of origins = map (λ o. o.trace) origins
 
 module _ {I : Type 0} (remaining : I → Option (List ℕ)) where
-  -- all of the source was read where it says so
+  -- all of the source was read if it says so
   abbrev pub IsEnded : Source I → Type 0
   IsEnded s = s.is_ended ≡ true → IsAtEnd (remaining s.reader)
 
@@ -93,7 +93,7 @@ pub record Start : Type 0 where
   pub origins : List Origin
   pub before : List Passed
 
--- this holds of the traces, whatever steps came before those that they tell: none came, where all of
+-- this holds of the traces, whatever steps came before those that they tell: none came, if all of
 -- their nodes were made with empty logs
 abbrev pub WhateverCame : List Origin → (Start → Type 0) → Type 0
 WhateverCame origins P = (before : List Passed) → CameBefore before (traces_of origins)

@@ -25,7 +25,7 @@ use std::io::Read;
 // After how many steps it is told how far an audit is.
 const STEPS_TOLD: u64 = 1 << 20;
 
-/// Where an audit refuses, and why.
+/// If an audit refuses, and why.
 #[derive(Clone, Copy)]
 pub(crate) struct Refused {
     /// The number of the trace, counted from 0.
@@ -159,14 +159,14 @@ impl ServerAudit {
     ///
     /// # Errors
     ///
-    /// Only where memory runs out.
+    /// Only if memory runs out.
     pub(crate) fn into_machines(self) -> Result<Vec<BrokerMachine<LocalStore>>, AllocError>
         ensures { IfOk result (λ machines. machines.items ≡ machines_in self) }
     {
         self.audit.into_machines()
     }
 
-    // Tells how far the audit is, now and then. Nobody may watch.
+    // Reports how far the audit is, now and then. Nobody may watch.
     fn tell<R: Eprint>(&self, rt: &R) {
         let steps = self.counts.steps;
         if self.tells_progress && steps % STEPS_TOLD == 0 {
@@ -194,7 +194,7 @@ impl ServerAudit {
         }
     }
 
-    /// Goes on by one item of a trace, or reads on where it needs that; says whether it did.
+    /// Goes on by one item of a trace, or reads on if it needs that; says whether it did.
     ///
     /// # Errors
     ///

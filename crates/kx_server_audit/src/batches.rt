@@ -6,7 +6,7 @@ ghost use Rattle.kx_server_audit.specs.Logs.{AreBatches, AreWholeBatches, IsBatc
 use kx_log::{MemStore, OpenFault, PartitionLog, Store, Walk, appended_logs_are_read_again};
 use std::alloc::{AllocError, Global};
 
-/// How many bytes the texts of batches have; None where 64 bits can't say it.
+/// How many bytes the texts of batches have; None if 64 bits can't say it.
 pub(crate) fn batches_len(batches: Walk<'_>) -> Option<u64>
     ensures { MatchOption result (2 ^ 64 ≤ length (texts batches.entry))
         (λ len. len ≡ length (texts batches.entry)) }
@@ -89,7 +89,7 @@ pub(crate) fn holds_batches(
     let Some(log) = batch_log(alloc, bytes)? else {
         return Ok(false);
     };
-    // Each batch stands in its place.
+    // Each batch is in its place.
     let _end = log.end();
     let same = same_batches(batches, log.batches());
     drop(log);

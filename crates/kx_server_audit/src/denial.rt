@@ -24,7 +24,7 @@ pub(crate) enum Denial {
 impl Denial {
     ghost use Rattle.kx_server_audit.specs.Denials.{denial_number};
 
-    /// Its number: that of the refusal; 1 where a trace names another node, and 7 for a log.
+    /// Its number: that of the refusal; 1 if a trace names another node, and 7 for a log.
     pub(crate) fn number(&self) -> u8
         ensures { result ≡ denial_number self.now }
     {

@@ -24,7 +24,7 @@ fn entry_len(entry: &Entry) -> usize
     }
 }
 
-/// How many bytes the texts of entries have; None where 64 bits can't say it.
+/// How many bytes the texts of entries have; None if 64 bits can't say it.
 pub(crate) fn entries_len(entries: &[Entry]) -> Option<u64>
     ensures { MatchOption result
         (2 ^ 64 ≤ length (flat_map entry_text (map note_of entries.now)))

@@ -22,7 +22,7 @@ impl AuditFile {
     ///
     /// # Errors
     ///
-    /// Only where memory runs out.
+    /// Only if memory runs out.
     pub fn path_in(&self, alloc: Global, folder: &str) -> Result<String, AllocError>
         ensures { IfOk result (λ path. string_bytes path
             ≡ folder.now ++ codes "/" ++ file_name self.now) }

@@ -21,7 +21,7 @@ use std::fs;
 use std::fs::Files;
 use std::io::ErrorKind;
 
-// The bytes of a node's log; none where there is no file.
+// The bytes of a node's log; none if there is no file.
 fn log_bytes<R: Files + AllocGlobal>(
     rt: &R,
     folder: &str,

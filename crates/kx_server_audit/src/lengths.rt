@@ -13,7 +13,7 @@ use kx_machines::{BrokerMachine, LocalStore};
 use kx_txnlog::Entry;
 
 /// The entries that the coordinator's last opening found: all but the epoch that the opening itself
-/// wrote; it wrote none where the log is closed.
+/// wrote; it wrote none if the log is closed.
 pub(crate) fn found_entries(coordinator: &Coordinator<LocalStore>) -> &[Entry]
     ensures { map note_of result.now ≡ found_notes coordinator.now.log }
 {
@@ -24,7 +24,7 @@ pub(crate) fn found_entries(coordinator: &Coordinator<LocalStore>) -> &[Entry]
     &entries[..entries.len() - 1]
 }
 
-// How many bytes the entries of a machine's log have; None where 64 bits can't say it.
+// How many bytes the entries of a machine's log have; None if 64 bits can't say it.
 fn kept_len(machine: &BrokerMachine<LocalStore>) -> Option<u64>
     ensures { (state : NodeState) → broker_stands state machine.now
         → MatchOption result (2 ^ 64 ≤ length (log_text state))
@@ -37,7 +37,7 @@ fn kept_len(machine: &BrokerMachine<LocalStore>) -> Option<u64>
     }
 }
 
-// How many bytes the log had that the last restart of a machine found; None where 64 bits can't say
+// How many bytes the log had that the last restart of a machine found; None if 64 bits can't say
 // it.
 fn found_len(machine: &BrokerMachine<LocalStore>) -> Option<u64>
     ensures { (state : NodeState) → broker_stands state machine.now

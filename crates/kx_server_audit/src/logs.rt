@@ -25,7 +25,7 @@ use std::alloc::{AllocError, Global};
 ///
 /// # Errors
 ///
-/// Only where memory runs out.
+/// Only if memory runs out.
 pub(crate) fn whole_len(
     alloc: Global,
     node: TracedNode,
@@ -62,7 +62,7 @@ fn partition_is<S: Store>(
         (AreBatches bytes.items partition.now.batches)
         (AreBatches bytes.items partition.now.batches → ⊥)) }
 {
-    // Each batch stands in its place.
+    // Each batch is in its place.
     let _end = partition.end();
     holds_batches(alloc, partition.batches(), bytes)
 }
@@ -127,11 +127,11 @@ fn closed_log_is(
 
 /// Whether opening a store with these bytes finds the log of a machine. A machine whose log is
 /// closed may have an entry in its store that only a restart reads, so it is restarted, and stays
-/// so. Where the coordinator's epochs are used up, that fails, and the answer is no.
+/// so. If the coordinator's epochs are used up, that fails, and the answer is no.
 ///
 /// # Errors
 ///
-/// Only where memory runs out.
+/// Only if memory runs out.
 pub(crate) fn log_is(
     alloc: Global,
     machine: &mut BrokerMachine<LocalStore>,

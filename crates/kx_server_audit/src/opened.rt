@@ -94,7 +94,7 @@ fn offsets_on(alloc: Global, opened: &OpenedOn) -> Result<BrokerMachine<LocalSto
 ///
 /// # Errors
 ///
-/// `Bytes` where the log can't be opened; `Memory` where memory runs out.
+/// `Bytes` if the log can't be opened; `Memory` if memory runs out.
 pub(crate) fn node_on(
     alloc: Global,
     node: TracedNode,

@@ -114,7 +114,7 @@ fn write_yes<W: Write>(out: &mut W) -> Result<(), AuditFault>
 ///
 /// # Errors
 ///
-/// `Write` where it can't be written, and `Memory`.
+/// `Write` if it can't be written, and `Memory`.
 pub(crate) fn write_findings<W: Write>(
     alloc: Global,
     out: &mut W,

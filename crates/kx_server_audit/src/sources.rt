@@ -6,7 +6,7 @@ ghost use Rattle.std.specs.Io.KnownBytes.{Consumes, IsAtEnd, Keeps};
 use std::alloc::AllocError;
 use std::io::Read;
 
-// How many bytes a source is asked for at once, where no more are needed.
+// How many bytes a source is asked for at once, if no more are needed.
 const PIECE: usize = 16_384;
 
 // A source that was asked for this many bytes isn't asked for more.
@@ -97,7 +97,7 @@ impl<I: Read + Drop> Source<I> {
     ///
     /// # Errors
     ///
-    /// `Read` where reading failed, and `Memory`; then nothing was read.
+    /// `Read` if reading failed, and `Memory`; then nothing was read.
     pub(crate) fn read(&mut self, piece: &mut Vec<u8>) -> Result<usize, SourceFault>
         ensures within { IfOk result (λ count. count ≤ length piece.new.items) }
         ensures read { IfOk result (λ count. Consumes (I.remaining self.old.reader)

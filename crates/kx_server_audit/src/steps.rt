@@ -25,7 +25,7 @@ fn keep(steps: &mut Vec<ToldStep>, told: Option<ToldStep>) -> Result<(), AllocEr
     Ok(())
 }
 
-// Goes on by one item of a trace, or reads on where it needs that, and keeps the step that is made;
+// Goes on by one item of a trace, or reads on if it needs that, and keeps the step that is made;
 // says whether the trace went on.
 fn go_on<R: Eprint, I: Read + Drop>(
     rt: &R,
@@ -103,7 +103,7 @@ fn steps_in<R: Eprint>(
 ///
 /// # Errors
 ///
-/// As [`AuditFault`] has them: `Later` where a trace was begun on a log that was there before.
+/// As [`AuditFault`] has them: `Later` if a trace was begun on a log that was there before.
 pub fn server_steps<R: Files<File = File> + AllocGlobal + Eprint>(
     rt: &R,
     options: &AuditOptions<'_>,

@@ -60,7 +60,7 @@ fn head_fault(file: AuditFile, fault: TraceFileFault) -> AuditFault {
     }
 }
 
-// The file of a node's trace, opened; None where there is none.
+// The file of a node's trace, opened; None if there is none.
 fn open_trace<R: Files<File = File>>(
     rt: &R,
     alloc: Global,

@@ -26,7 +26,7 @@ nothing_is_less : frame_at [] ≡ More
 unfolding frame_at unsigned
 nothing_is_less = refl
 
--- what a read gave, where these bytes are held of the stream
+-- what a read gave, if these bytes are held of the stream
 pub read_gives : (stream next : Stream) (partial read : List ℕ) (left : Option (List ℕ))
     (answer : Result (Option (List Message)) StreamFault) → stream ≡ Reads partial
     → Gives stream read left answer next → ReadGives partial read left answer next

@@ -24,8 +24,8 @@ Breaks fault behind handed old new =
     (((frame_at behind ≡ Bad fault) ⊎ (fault ≡ Memory)) × Appends old new (frames handed))
     ⊎ IsCut fault handed old new
 
--- by the outcome, where these bytes stand behind the messages that were taken: less than a frame,
--- where the stream ended or wasn't read further; where a write failed, a front of the frames of what
+-- by the outcome, if these bytes stand behind the messages that were taken: less than a frame,
+-- where the stream ended or wasn't read further; if a write failed, a front of the frames of what
 -- was handed out is written
 abbrev pub Ends : List ℕ → List Message → Option (List ℕ) → Option (List ℕ)
     → Result (Unit {0}) StreamFault → Type 0
@@ -35,7 +35,7 @@ Ends behind handed old new (Err Read) =
 Ends behind handed old new (Err Write) = IsBroken (frames handed) old new
 Ends behind handed old new (Err (Frame fault)) = Breaks fault behind handed old new
 
--- why no more is read, where these bytes were read: the reader gave nothing; a read failed; or each
+-- why no more is read, if these bytes were read: the reader gave nothing; a read failed; or each
 -- of 2^32 reads gave something
 abbrev pub IsDone : ReadsEnd → List ℕ → Option (List ℕ) → Type 0
 IsDone AtEnd read left = IsAtEnd left
@@ -64,7 +64,7 @@ module _ {M : Type 0} (stands : NodeState → M → Type 0)
     pub answers : Answers stands allows before message handed after
     pub written : Written handed old new result
 
-  -- the machine took those in front, and all where nothing failed
+  -- the machine took those in front, and all if nothing failed
   pub record AllServed (messages : List Message) (before after : M) (old new : Option (List ℕ))
       (result : Result (Unit {0}) StreamFault) : Type 0 where
     pub front : List Message

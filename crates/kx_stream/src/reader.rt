@@ -41,7 +41,7 @@ impl FrameReader {
     ///
     /// # Errors
     ///
-    /// Only where memory runs out.
+    /// Only if memory runs out.
     pub fn new(alloc: Global) -> Result<FrameReader, AllocError>
         ensures { IfOk result (λ reader. reader ≡ Reads []) }
     {
@@ -51,11 +51,11 @@ impl FrameReader {
         })
     }
 
-    /// Whether a frame of a message may stand after the messages that were returned. Reads nothing.
+    /// Whether a frame of a message may be after the messages that were returned. Reads nothing.
     ///
     /// # Errors
     ///
-    /// The fault of the frame that stands there, once, and `Failed` from then on.
+    /// The fault of the frame that is there, once, and `Failed` from then on.
     pub fn check(&mut self) -> Result<(), FrameFault>
         ensures fine { (partial : List ℕ) → self.old ≡ Reads partial
             → (result ≡ Ok tt) × (self.new ≡ self.old) }
@@ -68,13 +68,13 @@ impl FrameReader {
     }
 
     /// Reads once, at most 65,536 bytes, and returns the messages whose frames are whole then, in
-    /// order; None at the end of the stream, where a part of a frame may be left.
+    /// order; None at the end of the stream, if a part of a frame may be left.
     ///
     /// # Errors
     ///
-    /// `Read` where the read failed; then nothing was read, and it can be tried again. `Frame`
-    /// where no frame of a message stands after the messages that were returned, before anything
-    /// more is read; or where memory ran out, and then what was read is lost. Never `Write`.
+    /// `Read` if the read failed; then nothing was read, and it can be tried again. `Frame`
+    /// if no frame of a message is after the messages that were returned, before anything
+    /// more is read; or if memory ran out, and then what was read is lost. Never `Write`.
     pub fn next<R: Read>(&mut self, reader: &mut R) -> Result<Option<Vec<Message>>, StreamFault>
         ensures { (read : List ℕ) × Consumes (R.remaining reader.old) (R.remaining reader.new) read
             × Gives self.old read (R.remaining reader.new) (given_by result) self.new }

@@ -56,9 +56,9 @@ fn write_whole<W: Write>(writer: &mut W, bytes: &[u8]) -> Result<(), StreamFault
 ///
 /// # Errors
 ///
-/// [`StreamFault::Write`] where a write failed: a front of the frame is written, and not all of it.
-/// [`StreamFault::Frame`] with [`FrameFault::Memory`] where memory is refused, and with
-/// [`FrameFault::TooLong`] where the message is longer than a frame; nothing is written then.
+/// [`StreamFault::Write`] if a write failed: a front of the frame is written, and not all of it.
+/// [`StreamFault::Frame`] with [`FrameFault::Memory`] if memory is refused, and with
+/// [`FrameFault::TooLong`] if the message is longer than a frame; nothing is written then.
 pub fn send<W: Write>(alloc: Global, writer: &mut W, message: &Message) -> Result<(), StreamFault>
     ensures { Sends message.now (W.contents writer.old) (W.contents writer.new) result }
 {
@@ -74,8 +74,8 @@ pub fn send<W: Write>(alloc: Global, writer: &mut W, message: &Message) -> Resul
 ///
 /// # Errors
 ///
-/// [`StreamFault::Write`] where a write failed: a front of the frames is written, and not all of
-/// them. [`StreamFault::Frame`] with [`FrameFault::Memory`] where memory is refused, and with
+/// [`StreamFault::Write`] if a write failed: a front of the frames is written, and not all of
+/// them. [`StreamFault::Frame`] with [`FrameFault::Memory`] if memory is refused, and with
 /// [`FrameFault::TooLong`] at a message that is longer than a frame: the frames before that message
 /// are written, and nothing else.
 pub(crate) fn send_all<W: Write>(

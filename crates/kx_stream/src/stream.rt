@@ -79,9 +79,9 @@ fn serve_pieces<R: Read, W: Write, M: Machine>(
 ///
 /// # Errors
 ///
-/// [`StreamFault::Read`] where a read failed, or each of 2^32 reads gave something: all messages
-/// that were read whole are served, and their answers written. [`StreamFault::Write`] where a write
-/// failed: a front of the answers is written, and not all of them. [`StreamFault::Frame`] where
+/// [`StreamFault::Read`] if a read failed, or each of 2^32 reads gave something: all messages
+/// that were read whole are served, and their answers written. [`StreamFault::Write`] if a write
+/// failed: a front of the answers is written, and not all of them. [`StreamFault::Frame`] if
 /// what comes next is no frame of a message, or one that was sent isn't written, or memory ran out:
 /// the answers before it are written. The machine keeps the steps that it made by then.
 pub fn serve_stream<R: Read, W: Write, M: Machine>(

@@ -147,7 +147,7 @@ module _ (s : System) where
   taken event (Puts value more) n c p there is = is
   taken event (Restarts now) n c p there is = is
 
-  -- of a processor, where there is one of this number
+  -- of a processor, if there is one of this number
   if_taken : (event : Event) (input : Input) (n : ℕ) (client : Option Client)
       (processing : Option Processing) → client_at s.world n ≡ client
       → (step s.world event).0 ≡ (at_client s.world input client).0

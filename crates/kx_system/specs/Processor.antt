@@ -49,14 +49,14 @@ abbrev pub takes_another : Values → List ℕ → Bool
 takes_another values image =
     nat_lt (length (values.first ∷ values.more)) most_images && fits (with_another values image)
 
--- an image goes into the last batch, or into one of its own where that is full
+-- an image goes into the last batch, or into one of its own if that is full
 abbrev pub with_image : List Values → List ℕ → List Values
 with_image [] image = alone image ∷ []
 with_image (last ∷ []) image =
     if takes_another last image then with_another last image ∷ [] else last ∷ alone image ∷ []
 with_image (values ∷ next ∷ rest) image = values ∷ with_image (next ∷ rest) image
 
--- images in batches of so many, fewer where they wouldn't fit
+-- images in batches of so many, fewer if they wouldn't fit
 abbrev pub batches_of : List (List ℕ) → List Values
 batches_of images = fold with_image [] images
 
@@ -137,7 +137,7 @@ new_processing number group inputs image = record {
 abbrev pub in_transaction : Client → Command → List Command
 in_transaction c what = if c.in_transaction then what ∷ [] else Begin ∷ what ∷ []
 
--- a batch of images, or an abort where an image fits no batch
+-- a batch of images, or an abort if an image fits no batch
 abbrev pub writes : ℕ → Values → Command
 writes output values = if fits values then Send output values.first values.more else End Abort
 

@@ -1,6 +1,6 @@
 //! Systems some of whose clients are processors, which consume, process and produce: what a
 //! processor is, what it sends and what it makes of replies, and the whole system with some of them
-//! as one machine. They stand in `specs/`; the functions here do nothing when they run, and carry
+//! as one machine. They are in `specs/`; the functions here do nothing when they run, and carry
 //! laws about the definitions in their contracts.
 #![tactic(auto)]
 

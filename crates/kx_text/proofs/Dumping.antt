@@ -24,7 +24,7 @@ are_more [] b bytes rest behind h e = (behind, ap batch_at h ∙ e, refl)
 are_more (a ∷ batches) b bytes rest behind h e =
     (h.0, h.1, are_more batches b h.0 rest behind h.2 e)
 
--- two lists of batches that end where none stands end at the same place
+-- two lists of batches that end if none stands end at the same place
 same_end : (some others : List Spelled) (bytes p q : List ℕ) (f g : BatchFault)
     → AreBatches some bytes p → AreBatches others bytes q
     → batch_at p ≡ Err f → batch_at q ≡ Err g → p ≡ q

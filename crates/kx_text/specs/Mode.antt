@@ -4,7 +4,7 @@ use Rattle.std.specs.Prelude.{if◌then◌else◌}
 use Rattle.kx_text.specs.declared.mode.Mode.{Mode}
 use Rattle.kx_text.specs.declared.mode.Mode.TheVariants.{All, Committed}
 
--- how many bytes a fetch shows where it doesn't say
+-- how many bytes a fetch shows if it doesn't say
 abbrev pub default_max : ℕ
 default_max = 1048588
 

@@ -29,7 +29,7 @@ is_visible byte = nat_le 33 byte && nat_le byte 126
 abbrev pub is_word : List ℕ → Bool
 is_word text = nat_lt 0 (length text) && nat_le (length text) 64 && list_all is_visible text
 
--- the words of a line, where each piece is one
+-- the words of a line, if each piece is one
 unfoldable pub words_of : List ℕ → Option (List (List ℕ))
 words_of line = if list_all is_word (pieces_of line) then Some (pieces_of line) else None
 
@@ -38,7 +38,7 @@ abbrev pub number_of : List ℕ → Option ℕ
 number_of text =
     if nat_lt 0 (length text) && all_ascii_digits text then Some (digits_value 10 text) else None
 
--- the number, where it is below the limit
+-- the number, if it is below the limit
 abbrev pub below : ℕ → Option ℕ → Option ℕ
 below limit None = None
 below limit (Some n) = if nat_lt n limit then Some n else None

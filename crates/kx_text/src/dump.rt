@@ -97,7 +97,7 @@ fn write_field<W: Write>(writer: &mut W, field: Option<&[u8]>) -> io::Result<()>
     }
 }
 
-// Writes what stands in front of a record's key.
+// Writes what is in front of a record's key.
 // 128 bits, since no format bounds base offset plus delta.
 fn write_offset<W: Write>(writer: &mut W, offset: i128) -> io::Result<()>
     ensures { OnOk result (Appends (W.contents writer.old) (W.contents writer.new)
@@ -182,7 +182,7 @@ fn fault_name(fault: BatchFault) -> &'static str
     }
 }
 
-// Writes where no batch stands, and why.
+// Writes if no batch stands, and why.
 fn write_fault<W: Write>(writer: &mut W, place: usize, fault: BatchFault) -> io::Result<()>
     ensures { OnOk result (Appends (W.contents writer.old) (W.contents writer.new)
         (fault_line place fault)) }
@@ -192,7 +192,7 @@ fn write_fault<W: Write>(writer: &mut W, place: usize, fault: BatchFault) -> io:
 }
 
 /// Writes what is printed of a file of record batches: for each a line `batch OFFSET COUNT ID EPOCH
-/// SEQ KIND`, where KIND is `commit`, `abort`, `control`, `txn` or `plain`, and for each of its
+/// SEQ KIND`, if KIND is `commit`, `abort`, `control`, `txn` or `plain`, and for each of its
 /// records a line `record OFFSET KEY VALUE` in hexadecimal, with `null` for null and `-` for empty;
 /// up to the end or the first place where no batch stands, of which it writes `fault PLACE NAME`.
 /// It goes over the bytes once, takes no memory and doesn't flush the writer.

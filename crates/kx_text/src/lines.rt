@@ -12,7 +12,7 @@ use std::io::BufRead;
 ///
 /// # Errors
 ///
-/// [`ScriptFault::Write`] where it failed.
+/// [`ScriptFault::Write`] if it failed.
 pub fn written(done: io::Result<()>) -> Result<(), ScriptFault>
     ensures { MatchResult result (λ _. IsOk done) (λ f. f ≡ fault.Write) }
 {
@@ -22,11 +22,11 @@ pub fn written(done: io::Result<()>) -> Result<(), ScriptFault>
     }
 }
 
-/// Reads the next line, with its newline; false where there is none.
+/// Reads the next line, with its newline; false if there is none.
 ///
 /// # Errors
 ///
-/// [`ScriptFault::Read`] where the reader failed, and [`ScriptFault::Memory`].
+/// [`ScriptFault::Read`] if the reader failed, and [`ScriptFault::Memory`].
 pub fn next_line<R: BufRead>(reader: &mut R, line: &mut Vec<u8>) -> Result<bool, ScriptFault>
     ensures { IfSome (R.remaining reader.old)
         (λ bytes. ReadsLine bytes (R.remaining reader.new) line.new.items result) }

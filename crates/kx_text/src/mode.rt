@@ -2,7 +2,7 @@
 ghost use Rattle.std.specs.Prelude.{◌≡◌};
 ghost use Rattle.kx_text.specs.Mode.{is_committed, mode_of};
 
-/// How many bytes a fetch shows where it doesn't say.
+/// How many bytes a fetch shows if it doesn't say.
 pub const DEFAULT_MAX: u32 = 1_048_588;
 
 /// Which records a fetch shows.

@@ -128,7 +128,7 @@ fn show_records<W: Write>(
 ///
 /// # Errors
 ///
-/// [`ScriptFault::Write`] where the writer failed, and [`ScriptFault::Memory`], which leaves the
+/// [`ScriptFault::Write`] if the writer failed, and [`ScriptFault::Memory`], which leaves the
 /// writer as it was.
 pub fn show<W: Write>(
     alloc: Global,

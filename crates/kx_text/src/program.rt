@@ -15,7 +15,7 @@ pub enum Ending {
     Done,
     /// Something that was asked for could not be done.
     Failed,
-    /// The arguments ask for nothing that the program does. Standard error has words on it, where
+    /// The arguments ask for nothing that the program does. Standard error has words on it, if
     /// it can be written.
     WrongArguments,
 }
@@ -47,7 +47,7 @@ impl Ending {
 ///
 /// # Errors
 ///
-/// Those of [`DumpFault`] but for `Memory`; `Write` also where the writer can't be flushed. Of any
+/// Those of [`DumpFault`] but for `Memory`; `Write` also if the writer can't be flushed. Of any
 /// other nothing is left in the buffer.
 pub fn run_dump<W: Write + Drop>(bytes: &[u8], writer: &mut BufWriter<W>) -> Result<(), DumpFault>
     ensures written { Dumps bytes.now

@@ -11,7 +11,7 @@ use std::io::{BufRead, ErrorKind, Read};
 // How many reads a call over a reader makes at most.
 const MOST_READS: u64 = 1 << 32;
 
-/// What a failed read is to a script: `Memory` where its buffer can't be had, else `Read`.
+/// What a failed read is to a script: `Memory` if its buffer can't be had, else `Read`.
 pub fn read_fault(failed: &io::Error) -> ScriptFault
     ensures { result ≡ fault_of_kind (error_kind failed.now) }
 {
@@ -51,7 +51,7 @@ impl<R> CountedReads<R> {
         }
     }
 
-    // Counts a read, which fails where no more may be made.
+    // Counts a read, which fails if no more may be made.
     fn count(&mut self) -> io::Result<()>
         ensures { self.new.reader ≡ self.old.reader }
     {
@@ -64,7 +64,7 @@ impl<R> CountedReads<R> {
 }
 
 impl<R: BufRead> CountedReads<R> {
-    // Makes a read where the bytes of the last one are used up.
+    // Makes a read if the bytes of the last one are used up.
     fn refill(&mut self) -> io::Result<()>
         ensures kept { Keeps (R.remaining self.old.reader) (R.remaining self.new.reader) }
         ensures end { OnOk result (self.new.left ≡ 0 → IsAtEnd (R.remaining self.old.reader)) }

@@ -9,7 +9,7 @@ use std::marker::Model;
 /// How many bytes a word has at most.
 const LONGEST: usize = 64;
 
-// What stands before the first such byte, and what stands after it where there is one.
+// What is before the first such byte, and what is after it if there is one.
 fn cut_at(byte: u8, text: &[u8]) -> (&[u8], Option<&[u8]>)
     ensures front { result.0.now ≡ before byte text.now }
     ensures rest { option_map (λ s. s.now) result.1 ≡ behind byte text.now }
@@ -81,7 +81,7 @@ fn is_word(text: &[u8]) -> bool
     0 < text.len() && text.len() <= LONGEST && text.iter().all(|byte| is_visible(*byte))
 }
 
-/// The words of a line, or None where one of its pieces is no word.
+/// The words of a line, or None if one of its pieces is no word.
 pub fn words_of<'a>(line: &'a [u8]) -> Option<Words<'a>>
     ensures { result ≡ words_of line.now }
 {
@@ -93,7 +93,7 @@ pub fn words_of<'a>(line: &'a [u8]) -> Option<Words<'a>>
     Some(Words::of(line))
 }
 
-/// The number that a word writes in decimal digits, where it fits.
+/// The number that a word writes in decimal digits, if it fits.
 pub fn number(word: &[u8]) -> Option<u64>
     ensures { result ≡ below (2 ^ 64) (number_of word.now) }
 {
@@ -112,7 +112,7 @@ pub fn number(word: &[u8]) -> Option<u64>
     Some(number)
 }
 
-/// The number that a word writes in decimal digits, where it is below the limit.
+/// The number that a word writes in decimal digits, if it is below the limit.
 #[tactic(auto, unfolding(crate::specs::Words::number_below))]
 pub fn number_below(word: &[u8], limit: u64) -> Option<u64>
     ensures value { result ≡ number_below limit word.now }

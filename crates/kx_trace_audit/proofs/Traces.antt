@@ -42,7 +42,7 @@ named_so (traced.Partition number) = refl
 
 ------ what a trace tells
 
--- nothing, where only its head was read
+-- nothing, if only its head was read
 tells_nothing : (node : TracedNode) (opened : Option OpenedOn) (steps : List Passed)
     → IsBegun node opened steps → TellsOf node (begun_text node opened) [] steps
 tells_nothing node opened steps begun = record {
@@ -412,7 +412,7 @@ module _ {B M : Type 0} (making : B → NodeMaking) (stands : NodeState → M �
                 (λ j q other qat. ap (at_node (servers.name_of q.node)) same));
           }
 
-    -- what became of the next item, where the node that is followed is there
+    -- what became of the next item, if the node that is followed is there
     waits_at : (f : Following B M) (used : ℕ)
         → Reads making stands k r.unread history old.following f progress.Waits used
         → WaitsAt making stands k old

@@ -36,7 +36,7 @@ IsOpenedOn traced.Coordinator time bytes state =
 IsOpenedOn (traced.Partition number) time bytes state =
     state ≡ AtPartition number (record { disk = made (log_in bytes).batches; parked = [] })
 
--- after these steps of the node its trace was begun: after none, where it was made with an empty log
+-- after these steps of the node its trace was begun: after none, if it was made with an empty log
 abbrev pub IsBegun : TracedNode → Option OpenedOn → List Passed → Type 0
 IsBegun node None steps = steps ≡ []
 IsBegun node (Some opened) steps =

@@ -27,7 +27,7 @@ pub record IsStepAs (node : NodeId) (told : Told) (store : StoreMode) (step : To
     pub input_is : step.input ≡ input_in told
     pub store_is : step.store ≡ store
 
--- the trace of this number goes on with what tells of this step; where that leaves open what the
+-- the trace of this number goes on with what tells of this step; if that leaves open what the
 -- store did, the bytes that follow tell it
 pub record IsNext {B M : Type 0} (stands : NodeState → M → Type 0) (audit : Auditing B M)
     (trace : ℕ) (step : ToldStep) : Type 0 where

@@ -43,7 +43,7 @@ pub record IsUntaken (told : Told) : Type 0 where
 abbrev pub Waits : {B M : Type 0} → ℕ → Told → Following B M → Type 0
 Waits number told f = (length f.nodes ≤ number) ⊎ MustWait f.pending (input_in told)
 
--- how many bytes are done with, where what is told has this many
+-- how many bytes are done with, if what is told has this many
 abbrev pub used_by : Progress → ℕ → ℕ
 used_by (progress.Made sent) len = len
 used_by progress.NotTaken len = len

@@ -68,8 +68,8 @@ impl<B: Server> TraceAudit<B> {
     ///
     /// # Errors
     ///
-    /// `DuplicateNode` where two traces are of one node; `Bytes` where the log with which a trace
-    /// begins can't be opened; `Memory` where memory runs out.
+    /// `DuplicateNode` if two traces are of one node; `Bytes` where the log with which a trace
+    /// begins can't be opened; `Memory` if memory runs out.
     pub fn new(alloc: Global, traces: &[TraceOf]) -> Result<TraceAudit<B>, TraceRefusal>
         ensures { IfOk result (λ a. (before : List Passed) → CameBefore before traces.now
             → HasAudited B.making B.Machine.stands (heads_of traces.now) before a) }
@@ -88,11 +88,11 @@ impl<B: Server> TraceAudit<B> {
     }
 
     /// The next bytes of the trace of this number, counted from 0 in the order in which the traces
-    /// were given; no bytes where it has no more. Where there is no such trace, nothing is done.
+    /// were given; no bytes where it has no more. If there is no such trace, nothing is done.
     ///
     /// # Errors
     ///
-    /// Only where memory runs out; then nothing was fed.
+    /// Only if memory runs out; then nothing was fed.
     pub fn feed(&mut self, trace: usize, bytes: &[u8]) -> Result<(), AllocError>
         ensures ok { OnOk result (IsFedAt self.old trace bytes.now self.new) }
         ensures audited { (texts : List (List ℕ)) (history : List Passed)
@@ -108,14 +108,14 @@ impl<B: Server> TraceAudit<B> {
     }
 
     /// Goes on by the next item of the trace of this number, if that can be done now: makes its step
-    /// again, or passes over an input that was not taken. Where the step leaves open whether an
+    /// again, or passes over an input that was not taken. If the step leaves open whether an
     /// entry stood, what follows it in the trace tells, and so must be fed before.
     ///
     /// # Errors
     ///
-    /// `Store` and `Answer` where the step comes to something else than the trace tells, `Found`
-    /// where a restart finds another log, `Bytes` where no trace goes on with these bytes, `Memory`
-    /// where memory runs out. Then the traces can't be audited any further.
+    /// `Store` and `Answer` if the step comes to something else than the trace tells, `Found`
+    /// if a restart finds another log, `Bytes` if no trace goes on with these bytes, `Memory`
+    /// if memory runs out. Then the traces can't be audited any further.
     pub fn go(&mut self, trace: usize) -> Result<Progress, TraceRefusal>
         ensures { (texts : List (List ℕ)) (history : List Passed)
             → HasAudited B.making B.Machine.stands texts history self.old → MatchResult result
@@ -139,7 +139,7 @@ impl<B: Server> TraceAudit<B> {
     ///
     /// # Errors
     ///
-    /// Only where memory runs out.
+    /// Only if memory runs out.
     pub fn into_machines(self) -> Result<Vec<B::Machine>, AllocError>
         ensures { IfOk result (λ machines.
             machines.items ≡ map (λ n. n.machine) self.following.nodes) }
@@ -147,7 +147,7 @@ impl<B: Server> TraceAudit<B> {
         self.follower.into_machines()
     }
 
-    /// The machine of the node of this trace, borrowed; None where there is no such trace.
+    /// The machine of the node of this trace, borrowed; None if there is no such trace.
     pub fn machine(&self, trace: usize) -> Option<&B::Machine>
         ensures { MatchOption result (slice_get self.now.following.nodes trace ≡ None)
             (λ machine. (n : Followed B B.Machine)

@@ -6,6 +6,6 @@ pub(crate) enum Ending {
     /// It may have more bytes than were read.
     Unknown,
     /// At the last byte that was read, when the node's log had this many bytes of whole entries,
-    /// where that is known.
+    /// if that is known.
     At { log_len: Option<u64> },
 }

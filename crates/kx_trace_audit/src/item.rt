@@ -1,4 +1,4 @@
-//! What stands at the front of what is left of a trace.
+//! What is at the front of what is left of a trace.
 ghost use Rattle.std.specs.Prelude.{◌≡◌, ◌≤◌, ℕ, IfErr, IfOk, List, MatchOption, MatchResult};
 ghost use Rattle.std.specs.Prelude.{length};
 ghost use Rattle.kx_trace.specs.Reading as reading;
@@ -58,11 +58,11 @@ fn refusal_of(fault: TraceFault) -> TraceRefusal
     }
 }
 
-/// The record at the front, and how many bytes it takes; None where it isn't whole.
+/// The record at the front, and how many bytes it takes; None if it isn't whole.
 ///
 /// # Errors
 ///
-/// `Bytes` where no trace goes on with these bytes; `Memory` where memory runs out.
+/// `Bytes` if no trace goes on with these bytes; `Memory` if memory runs out.
 pub(crate) fn record_at(
     alloc: Global,
     bytes: &[u8],
@@ -79,7 +79,7 @@ pub(crate) fn record_at(
     }
 }
 
-// What stands after an input.
+// What is after an input.
 #[derive(Drop)]
 enum After<'a> {
     // the step's answer, in a record of `len` bytes
@@ -96,7 +96,7 @@ enum After<'a> {
     Unknown,
 }
 
-// What follows an input, where no whole record does.
+// What follows an input, if no whole record does.
 fn after_end<'a>(ending: Ending) -> After<'a>
     ensures { (bytes : List ℕ) → reading.record_at bytes ≡ More → IsAfter bytes ending result }
 {
@@ -125,7 +125,7 @@ fn after_record<'a>(next: &Record<'a>, len: usize) -> Result<After<'a>, TraceRef
     }
 }
 
-// What stands at the front of these bytes, after an input.
+// What is at the front of these bytes, after an input.
 fn after_at(alloc: Global, bytes: &[u8], ending: Ending) -> Result<After<'_>, TraceRefusal>
     ensures after { IfOk result (IsAfter bytes.now ending) }
     ensures refused { IfErr result (AfterRefused bytes.now) }
@@ -179,11 +179,11 @@ fn told_of_input(
     }
 }
 
-/// What a trace tells next; None where more of its bytes are needed, if there are more.
+/// What a trace tells next; None if more of its bytes are needed, if there are more.
 ///
 /// # Errors
 ///
-/// `Bytes` where no trace goes on with these bytes; `Memory` where memory runs out.
+/// `Bytes` if no trace goes on with these bytes; `Memory` if memory runs out.
 pub(crate) fn item_at(
     alloc: Global,
     bytes: &[u8],

@@ -8,7 +8,7 @@
 //! of them, the trace tells later, and the audit looks ahead for it (`lookahead`). A wrong guess
 //! would be no danger: each restart is compared with the log that the node found.
 //!
-//! In `proofs/`: `Records` (what stands at the front of a trace's bytes), `Ahead` (what follows a
+//! In `proofs/`: `Records` (what is at the front of a trace's bytes), `Ahead` (what follows a
 //! step), `Telling` (what became of a step that is told), `Texts` (bytes that are fed), `Traces` (a
 //! trace is read further, and tells of one more item).
 #![tactic(auto)]

@@ -18,7 +18,7 @@ use kx_nodes::Mark;
 use kx_trace::Record;
 use std::alloc::Global;
 
-// Whether an entry stood that an append before a restart of this mark left open; None where the
+// Whether an entry stood that an append before a restart of this mark left open; None if the
 // restart couldn't read the log.
 fn stood_by(mark: Mark) -> Option<bool>
     ensures { result ≡ lookahead.stood_by mark }
@@ -50,7 +50,7 @@ fn is_restart(next: &Record<'_>) -> bool
     matches!(next, Record::Took(Input::Restart(_)))
 }
 
-// Whether an entry stood after a log of `log_len` bytes, by the end of the trace; None where it
+// Whether an entry stood after a log of `log_len` bytes, by the end of the trace; None if it
 // isn't known whether it ends.
 fn stood_at(ending: Ending, log_len: u64) -> Option<bool>
     ensures { result ≡ lookahead.stood_at ending log_len }
@@ -72,7 +72,7 @@ struct Looked {
     len: usize,
 }
 
-// Looks at the record at the front; None where it isn't whole.
+// Looks at the record at the front; None if it isn't whole.
 fn look_at(
     alloc: Global,
     bytes: &[u8],
@@ -98,11 +98,11 @@ fn look_at(
 }
 
 /// Whether the entry stood that a step was to append to a log of `log_len` bytes, by the bytes that
-/// follow the step; None where more of them are needed.
+/// follow the step; None if more of them are needed.
 ///
 /// # Errors
 ///
-/// `Bytes` where no trace goes on with these bytes; `Memory` where memory runs out.
+/// `Bytes` if no trace goes on with these bytes; `Memory` if memory runs out.
 pub(crate) fn entry_stood(
     alloc: Global,
     bytes: &[u8],
@@ -133,7 +133,7 @@ fn written_by(next: &Record<'_>, log_len: u64) -> bool
     }
 }
 
-// Whether such an opening wrote its epoch, by the end of the trace; None where it isn't known
+// Whether such an opening wrote its epoch, by the end of the trace; None if it isn't known
 // whether it ends.
 fn written_at(ending: Ending, log_len: u64) -> Option<bool>
     ensures { result ≡ written_at ending log_len }
@@ -148,11 +148,11 @@ fn written_at(ending: Ending, log_len: u64) -> Option<bool>
 }
 
 /// Whether an opening that found `log_len` bytes wrote its epoch, by the bytes that follow it; None
-/// where more of them are needed.
+/// if more of them are needed.
 ///
 /// # Errors
 ///
-/// `Bytes` where no trace goes on with these bytes; `Memory` where memory runs out.
+/// `Bytes` if no trace goes on with these bytes; `Memory` if memory runs out.
 pub(crate) fn epoch_stood(
     alloc: Global,
     bytes: &[u8],

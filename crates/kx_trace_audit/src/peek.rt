@@ -47,12 +47,12 @@ fn told_step(node: NodeId, told: Telling<'_>, store: StoreMode) -> Option<ToldSt
 
 impl<B: Server> TraceAudit<B> {
     /// The step of which the trace of this number tells next, which [`go`](TraceAudit::go) makes again
-    /// if it can be made now; None where nothing more is told, an input was not taken, or more bytes
+    /// if it can be made now; None if nothing more is told, an input was not taken, or more bytes
     /// are needed.
     ///
     /// # Errors
     ///
-    /// `Bytes` where no trace goes on with these bytes; `Memory` where memory runs out.
+    /// `Bytes` if no trace goes on with these bytes; `Memory` if memory runs out.
     pub fn next(&self, trace: usize) -> Result<Option<ToldStep>, TraceRefusal>
         ensures { IfOk result (λ next. IfSome next (IsNext B.Machine.stands self.now trace)) }
     {

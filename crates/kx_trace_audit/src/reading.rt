@@ -10,7 +10,7 @@ use std::marker::Model;
 
 /// A node's trace, as far as it was read: the bytes that were fed, of which the first `done` are
 /// done with, whether they are all, and how many bytes of whole entries the node's log has at their
-/// end, where that is known.
+/// end, if that is known.
 #[derive(Drop)]
 pub(crate) struct Reading {
     node: TracedNode,
@@ -70,7 +70,7 @@ impl Reading {
         node_name(self.node)
     }
 
-    /// Where the trace ends, as far as that is known.
+    /// If the trace ends, as far as that is known.
     pub(crate) fn ending(&self) -> Ending
         ensures { result ≡ ending_of self.now }
     {
@@ -94,7 +94,7 @@ impl Reading {
     ///
     /// # Errors
     ///
-    /// Only where memory runs out; then the trace is as before.
+    /// Only if memory runs out; then the trace is as before.
     pub(crate) fn feed(&mut self, bytes: &[u8]) -> Result<(), AllocError>
         ensures ok { OnOk result (self.new ≡ fed_on bytes.now self.old) }
         ensures err { OnErr result (self.new ≡ self.old) }

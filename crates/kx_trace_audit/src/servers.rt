@@ -14,10 +14,10 @@ use std::alloc::Global;
 pub struct TraceOf {
     /// The node that the trace's head names.
     pub node: TracedNode,
-    /// The log on which the node was opened when its trace was begun; None where it was made with an
+    /// The log on which the node was opened when its trace was begun; None if it was made with an
     /// empty log.
     pub opened: Option<OpenedOn>,
-    /// How many bytes of whole entries the node's log had when its trace ended, where that is known.
+    /// How many bytes of whole entries the node's log had when its trace ended, if that is known.
     pub log_len: Option<u64>,
 }
 
@@ -47,12 +47,12 @@ pub trait Server: Remade {
     ///
     /// # Errors
     ///
-    /// `Bytes` where the log with which the trace begins can't be opened; `Memory` where memory runs
+    /// `Bytes` where the log with which the trace begins can't be opened; `Memory` if memory runs
     /// out.
     fn begun(alloc: Global, of: &TraceOf) -> Result<Self::Machine, TraceRefusal>
         ensures { IfOk result (StandsAsBegun Self.Machine.stands of.now) };
 
-    /// How many bytes the entries of its log have, or `u64::MAX` where they have more.
+    /// How many bytes the entries of its log have, or `u64::MAX` if they have more.
     fn log_len(machine: &Self::Machine) -> u64
         ensures { (state : NodeState) → Self.Machine.stands state machine.now
             → result ≡ log_size state };

@@ -46,7 +46,7 @@ fn failing(whole: bool) -> StoreMode
     StoreMode::Fails { keep: keep as u64 }
 }
 
-// What the store did in a step of this mark, where `stood` says whether the entry of an append that
+// What the store did in a step of this mark, if `stood` says whether the entry of an append that
 // failed stood.
 fn mode_of(mark: Mark, stood: bool) -> StoreMode
     ensures { result ≡ mode_by mark stood }
@@ -99,11 +99,11 @@ fn is_open(mark: Mark) -> bool
 }
 
 /// Whether the entry of what is told stood, by the bytes that follow it, if that was left open; None
-/// where more of them are needed.
+/// if more of them are needed.
 ///
 /// # Errors
 ///
-/// `Bytes` where no trace goes on with these bytes; `Memory` where memory runs out.
+/// `Bytes` if no trace goes on with these bytes; `Memory` if memory runs out.
 pub(crate) fn has_stood<B: Server>(
     alloc: Global,
     follower: &Follower<B>,
@@ -321,13 +321,13 @@ fn take_item<B: Server>(
 }
 
 /// One more step of the node of this number, by what is left of its trace: made again on a store
-/// that does what the trace tells. What the store left of an entry, where the step leaves that open,
+/// that does what the trace tells. What the store left of an entry, if the step leaves that open,
 /// is looked up in the bytes that follow the step.
 ///
 /// # Errors
 ///
-/// `Store` and `Answer` where the step comes to something else than the trace tells, `Found` where a
-/// restart finds another log, `Bytes` where no trace goes on with these bytes, `Memory` where memory
+/// `Store` and `Answer` if the step comes to something else than the trace tells, `Found` if a
+/// restart finds another log, `Bytes` if no trace goes on with these bytes, `Memory` if memory
 /// runs out.
 pub(crate) fn go_on<B: Server>(
     alloc: Global,

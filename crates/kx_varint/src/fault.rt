@@ -1,10 +1,10 @@
-//! Why no number stands at the front of some bytes.
+//! Why no number is at the front of some bytes.
 ghost use Rattle.std.specs.Prelude.{◌≡◌};
 ghost use Rattle.kx_varint.specs.Faults.{number_of};
 
 use thiserror::Error;
 
-/// Why no number stands at the front of the bytes. Reading changes nothing, whatever it answers.
+/// Why no number is at the front of the bytes. Reading changes nothing, whatever it answers.
 #[derive(Clone, Copy, Debug, PartialEq, Eq, Drop, Error)]
 pub enum VarFault {
     /// The bytes end within the number: more of them could complete it.

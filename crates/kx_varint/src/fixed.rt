@@ -60,7 +60,7 @@ fn u64_of(text: &[u8]) -> u64
 ///
 /// # Errors
 ///
-/// [`VarFault::Short`] where there is no byte.
+/// [`VarFault::Short`] if there is no byte.
 pub fn read_u8(bytes: &[u8]) -> Result<(u8, &[u8]), VarFault>
     ensures { MatchResult result (λ x. unsigned_field w8 bytes.now ≡ Ok (x.0, x.1.now))
         (λ fault. unsigned_field w8 bytes.now ≡ Err fault) }
@@ -73,7 +73,7 @@ pub fn read_u8(bytes: &[u8]) -> Result<(u8, &[u8]), VarFault>
 ///
 /// # Errors
 ///
-/// [`VarFault::Short`] where there is no byte.
+/// [`VarFault::Short`] if there is no byte.
 pub fn read_i8(bytes: &[u8]) -> Result<(i8, &[u8]), VarFault>
     ensures { MatchResult result (λ x. signed_field w8 bytes.now ≡ Ok (x.0, x.1.now))
         (λ fault. signed_field w8 bytes.now ≡ Err fault) }
@@ -86,7 +86,7 @@ pub fn read_i8(bytes: &[u8]) -> Result<(i8, &[u8]), VarFault>
 ///
 /// # Errors
 ///
-/// [`VarFault::Short`] where there are fewer than 2 bytes.
+/// [`VarFault::Short`] if there are fewer than 2 bytes.
 pub fn read_u16(bytes: &[u8]) -> Result<(u16, &[u8]), VarFault>
     ensures { MatchResult result (λ x. unsigned_field w16 bytes.now ≡ Ok (x.0, x.1.now))
         (λ fault. unsigned_field w16 bytes.now ≡ Err fault) }
@@ -99,7 +99,7 @@ pub fn read_u16(bytes: &[u8]) -> Result<(u16, &[u8]), VarFault>
 ///
 /// # Errors
 ///
-/// [`VarFault::Short`] where there are fewer than 2 bytes.
+/// [`VarFault::Short`] if there are fewer than 2 bytes.
 pub fn read_i16(bytes: &[u8]) -> Result<(i16, &[u8]), VarFault>
     ensures { MatchResult result (λ x. signed_field w16 bytes.now ≡ Ok (x.0, x.1.now))
         (λ fault. signed_field w16 bytes.now ≡ Err fault) }
@@ -112,7 +112,7 @@ pub fn read_i16(bytes: &[u8]) -> Result<(i16, &[u8]), VarFault>
 ///
 /// # Errors
 ///
-/// [`VarFault::Short`] where there are fewer than 4 bytes.
+/// [`VarFault::Short`] if there are fewer than 4 bytes.
 pub fn read_u32(bytes: &[u8]) -> Result<(u32, &[u8]), VarFault>
     ensures { MatchResult result (λ x. unsigned_field w32 bytes.now ≡ Ok (x.0, x.1.now))
         (λ fault. unsigned_field w32 bytes.now ≡ Err fault) }
@@ -125,7 +125,7 @@ pub fn read_u32(bytes: &[u8]) -> Result<(u32, &[u8]), VarFault>
 ///
 /// # Errors
 ///
-/// [`VarFault::Short`] where there are fewer than 4 bytes.
+/// [`VarFault::Short`] if there are fewer than 4 bytes.
 pub fn read_i32(bytes: &[u8]) -> Result<(i32, &[u8]), VarFault>
     ensures { MatchResult result (λ x. signed_field w32 bytes.now ≡ Ok (x.0, x.1.now))
         (λ fault. signed_field w32 bytes.now ≡ Err fault) }
@@ -138,7 +138,7 @@ pub fn read_i32(bytes: &[u8]) -> Result<(i32, &[u8]), VarFault>
 ///
 /// # Errors
 ///
-/// [`VarFault::Short`] where there are fewer than 8 bytes.
+/// [`VarFault::Short`] if there are fewer than 8 bytes.
 pub fn read_u64(bytes: &[u8]) -> Result<(u64, &[u8]), VarFault>
     ensures { MatchResult result (λ x. unsigned_field w64 bytes.now ≡ Ok (x.0, x.1.now))
         (λ fault. unsigned_field w64 bytes.now ≡ Err fault) }
@@ -151,7 +151,7 @@ pub fn read_u64(bytes: &[u8]) -> Result<(u64, &[u8]), VarFault>
 ///
 /// # Errors
 ///
-/// [`VarFault::Short`] where there are fewer than 8 bytes.
+/// [`VarFault::Short`] if there are fewer than 8 bytes.
 pub fn read_i64(bytes: &[u8]) -> Result<(i64, &[u8]), VarFault>
     ensures { MatchResult result (λ x. signed_field w64 bytes.now ≡ Ok (x.0, x.1.now))
         (λ fault. signed_field w64 bytes.now ≡ Err fault) }
@@ -196,7 +196,7 @@ pub fn i64_at(text: &[u8], at: usize) -> i64
 ///
 /// # Errors
 ///
-/// Only where memory runs out; then `out` is as before.
+/// Only if memory runs out; then `out` is as before.
 #[tactic(auto, unfolding(crate::specs::BigEndian::unsigned_text))]
 pub fn put_u8(out: &mut Vec<u8>, n: u8) -> Result<(), AllocError>
     ensures ok { OnOk result (out.new.items ≡ out.old.items ++ unsigned_text w8 n) }
@@ -209,7 +209,7 @@ pub fn put_u8(out: &mut Vec<u8>, n: u8) -> Result<(), AllocError>
 ///
 /// # Errors
 ///
-/// Only where memory runs out; then `out` is as before.
+/// Only if memory runs out; then `out` is as before.
 #[tactic(auto, unfolding(crate::specs::BigEndian::signed_text))]
 pub fn put_i8(out: &mut Vec<u8>, n: i8) -> Result<(), AllocError>
     ensures ok { OnOk result (out.new.items ≡ out.old.items ++ signed_text w8 n) }
@@ -222,7 +222,7 @@ pub fn put_i8(out: &mut Vec<u8>, n: i8) -> Result<(), AllocError>
 ///
 /// # Errors
 ///
-/// Only where memory runs out; then `out` is as before.
+/// Only if memory runs out; then `out` is as before.
 #[tactic(auto, unfolding(crate::specs::BigEndian::unsigned_text))]
 pub fn put_u16(out: &mut Vec<u8>, n: u16) -> Result<(), AllocError>
     ensures ok { OnOk result (out.new.items ≡ out.old.items ++ unsigned_text w16 n) }
@@ -235,7 +235,7 @@ pub fn put_u16(out: &mut Vec<u8>, n: u16) -> Result<(), AllocError>
 ///
 /// # Errors
 ///
-/// Only where memory runs out; then `out` is as before.
+/// Only if memory runs out; then `out` is as before.
 #[tactic(auto, unfolding(crate::specs::BigEndian::signed_text))]
 pub fn put_i16(out: &mut Vec<u8>, n: i16) -> Result<(), AllocError>
     ensures ok { OnOk result (out.new.items ≡ out.old.items ++ signed_text w16 n) }
@@ -248,7 +248,7 @@ pub fn put_i16(out: &mut Vec<u8>, n: i16) -> Result<(), AllocError>
 ///
 /// # Errors
 ///
-/// Only where memory runs out; then `out` is as before.
+/// Only if memory runs out; then `out` is as before.
 #[tactic(auto, unfolding(crate::specs::BigEndian::unsigned_text))]
 pub fn put_u32(out: &mut Vec<u8>, n: u32) -> Result<(), AllocError>
     ensures ok { OnOk result (out.new.items ≡ out.old.items ++ unsigned_text w32 n) }
@@ -261,7 +261,7 @@ pub fn put_u32(out: &mut Vec<u8>, n: u32) -> Result<(), AllocError>
 ///
 /// # Errors
 ///
-/// Only where memory runs out; then `out` is as before.
+/// Only if memory runs out; then `out` is as before.
 #[tactic(auto, unfolding(crate::specs::BigEndian::signed_text))]
 pub fn put_i32(out: &mut Vec<u8>, n: i32) -> Result<(), AllocError>
     ensures ok { OnOk result (out.new.items ≡ out.old.items ++ signed_text w32 n) }
@@ -274,7 +274,7 @@ pub fn put_i32(out: &mut Vec<u8>, n: i32) -> Result<(), AllocError>
 ///
 /// # Errors
 ///
-/// Only where memory runs out; then `out` is as before.
+/// Only if memory runs out; then `out` is as before.
 #[tactic(auto, unfolding(crate::specs::BigEndian::unsigned_text))]
 pub fn put_u64(out: &mut Vec<u8>, n: u64) -> Result<(), AllocError>
     ensures ok { OnOk result (out.new.items ≡ out.old.items ++ unsigned_text w64 n) }
@@ -287,7 +287,7 @@ pub fn put_u64(out: &mut Vec<u8>, n: u64) -> Result<(), AllocError>
 ///
 /// # Errors
 ///
-/// Only where memory runs out; then `out` is as before.
+/// Only if memory runs out; then `out` is as before.
 #[tactic(auto, unfolding(crate::specs::BigEndian::signed_text))]
 pub fn put_i64(out: &mut Vec<u8>, n: i64) -> Result<(), AllocError>
     ensures ok { OnOk result (out.new.items ≡ out.old.items ++ signed_text w64 n) }

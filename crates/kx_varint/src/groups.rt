@@ -107,7 +107,7 @@ fn varlong_of(bytes: &[u8]) -> Result<(i64, usize), VarFault>
 ///
 /// # Errors
 ///
-/// [`VarFault::Short`] where the bytes are the start of a spelling, [`VarFault::TooLong`] where no
+/// [`VarFault::Short`] if the bytes are the start of a spelling, [`VarFault::TooLong`] if no
 /// spelling begins so: a fifth byte above 15.
 #[inline(always)]
 pub fn read_varint(bytes: &[u8]) -> Result<(i32, usize), VarFault>
@@ -121,7 +121,7 @@ pub fn read_varint(bytes: &[u8]) -> Result<(i32, usize), VarFault>
 ///
 /// # Errors
 ///
-/// [`VarFault::Short`] where the bytes are the start of a spelling, [`VarFault::TooLong`] where no
+/// [`VarFault::Short`] if the bytes are the start of a spelling, [`VarFault::TooLong`] if no
 /// spelling begins so: a tenth byte above 1.
 #[inline(always)]
 pub fn read_varlong(bytes: &[u8]) -> Result<(i64, usize), VarFault>
@@ -227,7 +227,7 @@ pub fn varint_len(n: i32) -> usize
 ///
 /// # Errors
 ///
-/// Only where memory runs out; then `out` is as before.
+/// Only if memory runs out; then `out` is as before.
 #[tactic(auto, unfolding(crate::specs::Varint::shortest_text))]
 #[inline(always)]
 pub fn put_varint(out: &mut Vec<u8>, n: i32) -> Result<(), AllocError>
@@ -242,7 +242,7 @@ pub fn put_varint(out: &mut Vec<u8>, n: i32) -> Result<(), AllocError>
 ///
 /// # Errors
 ///
-/// Only where memory runs out; then `out` is as before.
+/// Only if memory runs out; then `out` is as before.
 #[tactic(auto, unfolding(crate::specs::Varint::shortest_text))]
 #[inline(always)]
 pub fn put_varlong(out: &mut Vec<u8>, n: i64) -> Result<(), AllocError>

@@ -1,4 +1,4 @@
-//! Numbers as every format above spells them. Varints stand in groups of seven bits, lowest group
+//! Numbers as every format above spells them. Varints are in groups of seven bits, lowest group
 //! first; numbers of fixed width stand highest byte first. The definitions by which a format of
 //! many fields is stated and read are in this crate's `specs/` as well.
 #![tactic(auto)]

@@ -1,4 +1,4 @@
--- Two requests are equal where their messages are.
+-- Two requests are equal if their messages are.
 use Rattle.std.proofs.Common.{◌≡◌, ℕ, List, Bool, true, false, refl, sym, ap, Some}
 use Rattle.std.specs.Prelude.{◌&&◌, ◌==◌, nat_eq, bytes_eq}
 use Rattle.std.specs.Bool.{Decides}

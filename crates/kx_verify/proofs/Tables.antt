@@ -37,7 +37,7 @@ key_decides a b = (
       (eq-eqb a.1 b.1 (ap (λ (k : Key). k.1) e)),
 )
 
--- a request is for an id and epoch where its key is theirs
+-- a request is for an id and epoch if its key is theirs
 for_key : (held : Held) (p : Parked) → is_for held p ≡ same_key (key_of p.held) (key_of held)
 for_key held p = refl
 

@@ -60,14 +60,14 @@ impl Guard {
     ///
     /// # Errors
     ///
-    /// Only where memory runs out, where it is to be parked. Then all is as before, and the request
+    /// Only if memory runs out, if it is to be parked. Then all is as before, and the request
     /// is dropped, as it is at [`Asked::Full`].
     pub fn ask(&mut self, request: Request) -> Result<Asked, AllocError>
         ensures answer { MatchResult result (λ asked. (asked ≡ answer_to self.old request)
             × SameParked self.new (after self.old request))
             (λ refused. (self.new ≡ self.old)
             × (after self.old request ≡ self.old ++ request ∷ [])) }
-        // Where nothing is to be added, nothing changes.
+        // If nothing is to be added, nothing changes.
         ensures unchanged { after self.old request ≡ self.old → self.new ≡ self.old }
     {
         if self.has(&request) {

@@ -23,7 +23,7 @@ pub enum Append {
 }
 
 /// A request to append that can be parked: its batch, or the batch that its offsets become, is of a
-/// producer with an id, an epoch and a sequence. Two are equal where their messages are.
+/// producer with an id, an epoch and a sequence. Two are equal if their messages are.
 #[derive(Drop)]
 pub struct Request {
     held: Held,
@@ -98,7 +98,7 @@ impl Request {
     ///
     /// # Errors
     ///
-    /// The message itself, exactly where its bytes aren't one batch, or it is a control batch, or
+    /// The message itself, exactly if its bytes aren't one batch, or it is a control batch, or
     /// its producer has no id, epoch or sequence: no partition takes it into a transaction.
     pub fn of_produce(produce: Produce) -> Result<Request, Produce>
         ensures { MatchResult result
@@ -119,7 +119,7 @@ impl Request {
     ///
     /// # Errors
     ///
-    /// The message itself, exactly where its first sequence is below 0: no partition takes it.
+    /// The message itself, exactly if its first sequence is below 0: no partition takes it.
     pub fn of_offsets(commit: TxnOffsetCommit) -> Result<Request, TxnOffsetCommit>
         ensures { MatchResult result
             (λ request. IsParked (msg.TxnOffsetCommit commit) request
@@ -129,7 +129,7 @@ impl Request {
         if commit.first_sequence < 0 {
             return Err(commit);
         }
-        // Commits that fit their fields differ in their texts where they differ.
+        // Commits that fit their fields differ in their texts if they differ.
         commits_fit(&commit);
         Ok(Request {
             held: commit.held,

@@ -30,7 +30,7 @@ pub(crate) enum Title {
 ///
 /// # Errors
 ///
-/// Only where memory runs out.
+/// Only if memory runs out.
 pub(crate) fn text_of(alloc: Global, title: &Title) -> Result<String, AllocError> {
     match title {
         Title::Words(words) => String::from_str(alloc, words),
@@ -62,7 +62,7 @@ fn said(words: &'static str, rule: Option<Rule>) -> Deed {
     }
 }
 
-// A step that appended nothing, and is about what stands at an offset.
+// A step that appended nothing, and is about what is at an offset.
 fn at(words: &'static str, offset: i64, rule: Option<Rule>) -> Deed {
     Deed {
         title: Title::At(words, offset),
@@ -270,7 +270,7 @@ fn end_answered(answer: Option<ErrorCode>) -> Deed {
     answered(answer, &END, None)
 }
 
-// Where a batch stands that arrived again, by the reply to it.
+// If a batch stands that arrived again, by the reply to it.
 fn duplicate(sent: &[Message]) -> Deed {
     for message in sent {
         if let Message::ProduceReply(ProduceReply { offset, .. }) = message {

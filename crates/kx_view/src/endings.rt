@@ -15,7 +15,7 @@ pub(crate) struct Ending {
 /// What steps appended, and what became of it in the logs.
 #[derive(Drop)]
 pub(crate) struct Endings {
-    // the step that appended what stands at an offset of a lane's log
+    // the step that appended what is at an offset of a lane's log
     steps: HashMap<(usize, i64), usize>,
     // by step, what became of what it appended, if that is in a log
     endings: HashMap<usize, Ending>,
@@ -34,7 +34,7 @@ impl Endings {
     ///
     /// # Errors
     ///
-    /// Only where memory runs out.
+    /// Only if memory runs out.
     pub(crate) fn append(
         &mut self,
         step: usize,
@@ -47,7 +47,7 @@ impl Endings {
         Ok(())
     }
 
-    // The step that appended what stands at an offset of a lane's log, if one did.
+    // The step that appended what is at an offset of a lane's log, if one did.
     fn step_at(&self, lane: usize, offset: i64) -> Option<usize> {
         self.steps.get(&(lane, offset)).copied()
     }
@@ -57,7 +57,7 @@ impl Endings {
     ///
     /// # Errors
     ///
-    /// Only where memory runs out.
+    /// Only if memory runs out.
     pub(crate) fn settle(
         &mut self,
         lane: usize,

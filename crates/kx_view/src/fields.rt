@@ -2,7 +2,7 @@
 use kx_batch::BatchView;
 use kx_message::{ClientId, ErrorCode, Held, Message, NodeId, Produce};
 
-// Whose producer id a batch has; none where it has none, or its bytes are no batch.
+// Whose producer id a batch has; none if it has none, or its bytes are no batch.
 fn producer_in(produce: &Produce) -> Option<i64> {
     let Ok((batch, _)) = BatchView::read(produce.batch.as_slice()) else {
         return None;

@@ -205,7 +205,7 @@ fn judge(
     Ok(())
 }
 
-// Reads the batches that stand in these texts, and says what became of them.
+// Reads the batches that are in these texts, and says what became of them.
 fn read_all(
     alloc: Global,
     log: &mut Log,
@@ -223,12 +223,12 @@ fn read_all(
     judged
 }
 
-/// A log of this name as it ends, whose batches stand in these texts. What became of them is noted
+/// A log of this name as it ends, whose batches are in these texts. What became of them is noted
 /// among the endings of its lane.
 ///
 /// # Errors
 ///
-/// Only where memory runs out.
+/// Only if memory runs out.
 pub(crate) fn read_log(
     alloc: Global,
     name: String,

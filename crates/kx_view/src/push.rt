@@ -7,7 +7,7 @@ use std::alloc::AllocError;
 ///
 /// # Errors
 ///
-/// Only where memory runs out; then the list is as before, and the item is dropped.
+/// Only if memory runs out; then the list is as before, and the item is dropped.
 pub(crate) fn push<T: Drop>(items: &mut Vec<T>, item: T) -> Result<(), AllocError>
     ensures ok { OnOk result (items.new.items ≡ items.old.items ++ item ∷ []) }
     ensures err { OnErr result (items.new.items ≡ items.old.items) }

@@ -337,7 +337,7 @@ impl Recorder {
     ///
     /// # Errors
     ///
-    /// Only where memory runs out; then the steps are as before.
+    /// Only if memory runs out; then the steps are as before.
     pub fn add(&mut self, seen: &Seen<'_>) -> Result<(), AllocError>
         ensures ok { OnOk result (AddsStep self.old self.new) }
         ensures err { OnErr result (self.new ≡ self.old) }
@@ -361,7 +361,7 @@ impl Recorder {
     ///
     /// # Errors
     ///
-    /// Only where memory runs out; then the steps are as before.
+    /// Only if memory runs out; then the steps are as before.
     pub fn add_request(&mut self, sent: &[Message]) -> Result<(), AllocError>
         ensures ok { OnOk result (AddsStep self.old self.new) }
         ensures err { OnErr result (self.new ≡ self.old) }
@@ -380,11 +380,11 @@ impl Recorder {
         })
     }
 
-    /// Adds a partition's log as it ends, whose batches stand in these texts.
+    /// Adds a partition's log as it ends, whose batches are in these texts.
     ///
     /// # Errors
     ///
-    /// Only where memory runs out.
+    /// Only if memory runs out.
     pub fn add_log(&mut self, node: NodeId, at: LogAt, texts: &[&[u8]]) -> Result<(), AllocError>
         ensures { self.new ≡ self.old }
     {
@@ -517,7 +517,7 @@ impl Recorder {
     ///
     /// # Errors
     ///
-    /// Only where memory runs out.
+    /// Only if memory runs out.
     pub fn into_run(mut self, title: &'static str) -> Result<Run, AllocError>
         ensures steps { IfOk result (λ run. TellSame self run.steps.items) }
         ensures title { IfOk result (λ run. run.title.now ≡ title.now) }

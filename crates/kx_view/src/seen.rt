@@ -20,7 +20,7 @@ pub enum Took<'a> {
 pub struct LogAt {
     /// The offset after its last record.
     pub end: i64,
-    /// The last stable offset, which is the end where there are no transactions.
+    /// The last stable offset, which is the end if there are no transactions.
     pub stable: i64,
 }
 

@@ -22,7 +22,7 @@ fn watch_all(watched: &mut Watched, events: &[Event<Prefixed>]) -> Result<(), Al
 ///
 /// # Errors
 ///
-/// Only where memory runs out.
+/// Only if memory runs out.
 pub fn run_of_events(
     alloc: Global,
     title: &'static str,

@@ -8,7 +8,7 @@ use kx_script::{answer_in, event_in, world_in};
 use kx_view::Recorder;
 use std::alloc::{AllocError, Global};
 
-// Carries a line out in a world, and watches its event if it is one; false where it is bad. Of a line
+// Carries a line out in a world, and watches its event if it is one; false if it is bad. Of a line
 // that is no event nothing is shown.
 fn take_line(alloc: Global, watched: &mut Watched, line: &[u8]) -> Result<bool, AllocError> {
     match event_in(alloc, &watched.running, line) {
@@ -58,7 +58,7 @@ fn cut(script: &[u8]) -> (&[u8], &[u8]) {
 ///
 /// # Errors
 ///
-/// Only where memory runs out.
+/// Only if memory runs out.
 pub fn run_of_script(alloc: Global, title: &'static str, script: &[u8]) -> Result<Run, AllocError>
     ensures { IfOk result (λ run. run.title.now ≡ title.now) }
 {

@@ -64,7 +64,7 @@ impl Watched {
     ///
     /// # Errors
     ///
-    /// Only where memory runs out; then the server can't be watched any further.
+    /// Only if memory runs out; then the server can't be watched any further.
     pub fn take(&mut self, to: NodeId, input: &Input, store: StoreMode) -> Result<(), AllocError>
         ensures { OnOk result (AddsSteps (steps_of input.now) self.old self.new) }
     {

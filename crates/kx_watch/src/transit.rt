@@ -58,7 +58,7 @@ impl Transit {
     ///
     /// # Errors
     ///
-    /// Only where memory runs out.
+    /// Only if memory runs out.
     pub(crate) fn add(&mut self, first: usize, sent: &[Message]) -> Result<(), AllocError> {
         for (place, message) in sent.iter().enumerate() {
             if message.fits() {
@@ -70,11 +70,11 @@ impl Transit {
     }
 
     /// The number of the message that arrives now: of those that are the same, the first that hasn't
-    /// arrived, or else the last one; None where none was sent.
+    /// arrived, or else the last one; None if none was sent.
     ///
     /// # Errors
     ///
-    /// Only where memory runs out.
+    /// Only if memory runs out.
     pub(crate) fn arrive(&mut self, message: &Message) -> Result<Option<usize>, AllocError> {
         if !message.fits() {
             return Ok(None);

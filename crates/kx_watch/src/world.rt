@@ -156,7 +156,7 @@ impl Watched {
     ///
     /// # Errors
     ///
-    /// Only where memory runs out.
+    /// Only if memory runs out.
     pub fn new(alloc: Global, partitions: PartitionCount) -> Result<Watched, AllocError>
         ensures { IfOk result (λ watched. watched ≡ []) }
     {
@@ -173,7 +173,7 @@ impl Watched {
     ///
     /// # Errors
     ///
-    /// Only where memory runs out; then the steps are as before.
+    /// Only if memory runs out; then the steps are as before.
     pub(crate) fn happen(&mut self, event: &Event<Prefixed>) -> Result<Happened, AllocError>
         ensures ok { OnOk result (AddsStep self.old self.new) }
         ensures err { OnErr result (self.new ≡ self.old) }
@@ -186,12 +186,12 @@ impl Watched {
         Ok(happened)
     }
 
-    /// The run that was watched, of this title, with the logs to which it led; where watching failed,
+    /// The run that was watched, of this title, with the logs to which it led; if watching failed,
     /// that failure.
     ///
     /// # Errors
     ///
-    /// Only where memory runs out, or ran out while the world was watched.
+    /// Only if memory runs out, or ran out while the world was watched.
     pub fn into_run(
         self,
         title: &'static str,

@@ -26,7 +26,7 @@ MayTake More bytes = ⊥
 abbrev pub MayTakeFront : List ℕ → Type 0
 MayTakeFront bytes = MayTake (frame_at bytes) (drop 4 bytes)
 
--- to take a piece behind the bytes that are held may want memory: to put it behind them; where
+-- to take a piece behind the bytes that are held may want memory: to put it behind them; if
 -- none are held, to read it or to hold it back
 abbrev pub MayWant : List ℕ → List ℕ → Type 0
 MayWant [] piece = MayTakeFront piece ⊎ ((frame_at piece ≡ More) × (piece ≢ []))

@@ -43,7 +43,7 @@ fn of_length(alloc: Global, len: usize, rest: &[u8]) -> Result<Option<Message>, 
     Ok(Some(message))
 }
 
-// The message at the front, and how many bytes its frame takes; None where more is needed.
+// The message at the front, and how many bytes its frame takes; None if more is needed.
 #[tactic(auto, unfolding(crate::specs::Frames::frame_at, kx_message::specs::Reader::unsigned))]
 fn front(alloc: Global, bytes: &[u8]) -> Result<Option<(Message, usize)>, FrameFault>
     ensures read { MatchResult result
@@ -106,7 +106,7 @@ fn scan(alloc: Global, bytes: &[u8]) -> Result<Scanned, AllocError>
     }
 }
 
-// Takes the first bytes out, so that what stands after them is left.
+// Takes the first bytes out, so that what is after them is left.
 fn drop_front(partial: &mut Vec<u8>, used: usize)
     requires { used ≤ length partial.old.items }
     ensures { partial.new.items ≡ drop used partial.old.items }
@@ -117,7 +117,7 @@ fn drop_front(partial: &mut Vec<u8>, used: usize)
 }
 
 // Takes a piece that isn't empty: what is held is then the rest after the messages, and nothing
-// where a fault stands there. A piece after nothing is read where it stands, and only its rest is
+// where a fault is there. A piece after nothing is read where it stands, and only its rest is
 // copied, if it may go on.
 fn take_piece(partial: &mut Vec<u8>, piece: &[u8]) -> Result<Scanned, AllocError>
     requires { piece.now ≢ [] }
@@ -194,11 +194,11 @@ impl Frames {
     ///
     /// # Errors
     ///
-    /// [`FrameFault::TooLong`], [`FrameFault::Kind`] and [`FrameFault::Field`] where no frame of a
-    /// message comes next, at once where no message comes before it in the piece, and else at the
+    /// [`FrameFault::TooLong`], [`FrameFault::Kind`] and [`FrameFault::Field`] if no frame of a
+    /// message comes next, at once if no message comes before it in the piece, and else at the
     /// next call, even of an empty piece. From then on every call answers [`FrameFault::Failed`].
     /// At [`FrameFault::Memory`] nothing of the piece was taken, and it can be fed again. Memory is
-    /// wanted to put a piece after bytes that are held; where nothing is held, to give messages, to
+    /// wanted to put a piece after bytes that are held; if nothing is held, to give messages, to
     /// read the fields of a message with bytes or a list, and to hold back less than a frame.
     pub fn feed(&mut self, piece: &[u8]) -> Result<Vec<Message>, FrameFault>
         ensures fed { Fed self.old piece.now (answer_of result) self.new }
@@ -254,7 +254,7 @@ pub fn frames_tell_messages_apart()
 {}
 
 /// A law: the frames of messages that can be sent, fed in any pieces, come as these messages, and
-/// nothing fails but where memory runs out.
+/// nothing fails but if memory runs out.
 pub fn streams_come_as_their_messages()
     ensures { (pieces : List (List ℕ)) (messages : List Message)
         → AllByRecursion IsSendable messages → IsBytes (joined pieces)

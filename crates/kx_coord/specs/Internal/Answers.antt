@@ -14,7 +14,7 @@ use Rattle.kx_coord.specs.declared.answer.Answer.TheVariants as answer
 use Rattle.kx_coord.specs.declared.answer.ReplyTo.{ReplyTo}
 use Rattle.kx_coord.specs.declared.answer.ReplyTo.TheVariants as to
 
--- the next id of a log, or none where ids are used up
+-- the next id of a log, or none if ids are used up
 abbrev pub IsNextId : List TxnEntry → Option ℕ → Type 0
 IsNextId log next = MatchOption next (id_limit ≤ next_id log) (λ id. id ≡ next_id log)
 
@@ -22,7 +22,7 @@ IsNextId log next = MatchOption next (id_limit ≤ next_id log) (λ id. id ≡ n
 abbrev pub IsMade : model.Row → Option Row → Type 0
 IsMade r made = MatchOption made (has_no_id (Written r) ≡ true) (λ row. row_of row ≡ r)
 
--- the answer, where an entry needs an id and none is left
+-- the answer, if an entry needs an id and none is left
 pub record NeedsId (a : requests.Answer) : Type 0 where
   pub note : TxnEntry
   pub is : a.note ≡ Some note

@@ -29,7 +29,7 @@ pub record SameNotes (old new : Notes) : Type 0 where
       → standing_in new.members group ≡ standing_in old.members group
   pub commits : SameKept (kept_of new.commits) (kept_of old.commits)
 
--- a change that is asked for is of this group's members, and is made behind this log where it is to
+-- a change that is asked for is of this group's members, and is made behind this log if it is to
 -- be appended
 pub record IsAsked (log : List Entry) (change : Membership) (group : List ℕ) : Type 0 where
   pub makes : (fact : Fact) → verdict_of change ≡ Changes fact → Makes log fact

@@ -1,5 +1,6 @@
+use Rattle.std.proofs.Common.{inr}
 use Rattle.kx_program.proofs.Ending.{stock_refused}
 use Rattle.kx_program.proofs.kafka.kafka.Goals as goal
 
 pub returns-in-Err : goal.returns-in-Err
-returns-in-Err g c = stock_refused _ _ c.refuse_topics.ensures
+returns-in-Err g c = stock_refused _ _ (inr c.in-Err.ensures.0)

@@ -9,11 +9,17 @@ pub returns : goal.returns
 returns c = record {
   topics = c.get_str.ensures ∙ first_value-rows (found_of c.args.given.now) (codes "topics");
   port = search rules;
-  dir = c.get_str-2.ensures ∙ first_value-rows (found_of c.args.given.now) (codes "dir");
-  traces = c.get_str-3.ensures ∙ first_value-rows (found_of c.args.given.now) (codes "trace");
-  makes = subst (λ (text : Option Text). Flags text c.get_flag.result)
-      (one_text-rows (found_of c.args.given.now) (codes "no-auto-topics"))
-      (flags (one_text (found_of c.args.given.now) (codes "no-auto-topics")) c.get_flag.result
+  advertise = c.get_str-2.ensures
+      ∙ first_value-rows (found_of c.args.given.now) (codes "advertise");
+  dir = c.get_str-3.ensures ∙ first_value-rows (found_of c.args.given.now) (codes "dir");
+  traces = c.get_str-4.ensures ∙ first_value-rows (found_of c.args.given.now) (codes "trace");
+  renews = subst (λ (text : Option Text). Flags text c.get_flag.result)
+      (one_text-rows (found_of c.args.given.now) (codes "new-traces"))
+      (flags (one_text (found_of c.args.given.now) (codes "new-traces")) c.get_flag.result
       c.get_flag.ensures.none c.get_flag.ensures.value c.get_flag.ensures.other);
+  makes = subst (λ (text : Option Text). Flags text c.get_flag-2.result)
+      (one_text-rows (found_of c.args.given.now) (codes "no-auto-topics"))
+      (flags (one_text (found_of c.args.given.now) (codes "no-auto-topics")) c.get_flag-2.result
+      c.get_flag-2.ensures.none c.get_flag-2.ensures.value c.get_flag-2.ensures.other);
   tells = refl;
 }

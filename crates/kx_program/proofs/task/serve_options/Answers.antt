@@ -14,11 +14,15 @@ returns c = record {
   port = search rules;
   dir = c.get_str.ensures ∙ first_value-rows (found_of c.args.given.now) (codes "dir");
   traces = c.get_str-2.ensures ∙ first_value-rows (found_of c.args.given.now) (codes "trace");
-  tells = refl;
-  expires = subst (λ (text : Option Text). Flags text c.get_flag.result)
-      (one_text-rows (found_of c.args.given.now) (codes "expire"))
-      (flags (one_text (found_of c.args.given.now) (codes "expire")) c.get_flag.result
+  renews = subst (λ (text : Option Text). Flags text c.get_flag.result)
+      (one_text-rows (found_of c.args.given.now) (codes "new-traces"))
+      (flags (one_text (found_of c.args.given.now) (codes "new-traces")) c.get_flag.result
       c.get_flag.ensures.none c.get_flag.ensures.value c.get_flag.ensures.other);
+  tells = refl;
+  expires = subst (λ (text : Option Text). Flags text c.get_flag-2.result)
+      (one_text-rows (found_of c.args.given.now) (codes "expire"))
+      (flags (one_text (found_of c.args.given.now) (codes "expire")) c.get_flag-2.result
+      c.get_flag-2.ensures.none c.get_flag-2.ensures.value c.get_flag-2.ensures.other);
   session = search rules;
   session_fits = search rules;
 }

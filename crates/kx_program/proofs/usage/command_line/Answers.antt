@@ -8,9 +8,11 @@ use Rattle.kx_program.proofs.usage.command_line.Goals as goal
 
 pub returns : goal.returns
 returns c =
-    let made_0 : Makes c.program_usage.result
-    (with_needed_subcommand (new_app (codes "kx_main"))) =
-    record { is = c.program_usage.ensures.app; local = c.program_usage.ensures.local } in
+    let made_0 : Makes c.in_ok-program_usage.field-0
+    (with_needed_subcommand (new_app (codes "kx"))) = record {
+      is = c.in_ok-program_usage.ensures.app;
+      local = c.in_ok-program_usage.ensures.local;
+    } in
     let sim : Makes c.in_ok-sim_usage.field-0 sim_app = record {
       is = c.in_ok-sim_usage.ensures.app;
       local = c.in_ok-sim_usage.ensures.local;

@@ -13,13 +13,17 @@ returns c =
     let made_2 = with_argument _ _ _ _ _ c.in_ok-arg-2.ensures made_1
     c.kafka_port.ensures.rule c.kafka_port.ensures.local in
     let made_3 = with_argument _ _ _ _ _ c.in_ok-arg-3.ensures made_2
-    c.dir.ensures.rule c.dir.ensures.local in
+    c.advertise.ensures.rule c.advertise.ensures.local in
     let made_4 = with_argument _ _ _ _ _ c.in_ok-arg-4.ensures made_3
+    c.dir.ensures.rule c.dir.ensures.local in
+    let made_5 = with_argument _ _ _ _ _ c.in_ok-arg-5.ensures made_4
     c.traces.ensures.rule c.traces.ensures.local in
+    let made_6 = with_argument _ _ _ _ _ c.in_ok-arg-6.ensures made_5
+    c.new_traces.ensures.rule c.new_traces.ensures.local in
     record {
-      app = IfOk-weaker c.arg-5.result _ _ (λ command adds. (with_argument _ _ _ _ _ adds
-          made_4 c.no_auto_topics.ensures.rule c.no_auto_topics.ensures.local).is) c.arg-5.ensures;
-      local = IfOk-weaker c.arg-5.result _ _ (λ command adds. (with_argument _ _ _ _ _ adds
-          made_4 c.no_auto_topics.ensures.rule c.no_auto_topics.ensures.local).local)
-          c.arg-5.ensures;
+      app = IfOk-weaker c.arg-7.result _ _ (λ command adds. (with_argument _ _ _ _ _ adds
+          made_6 c.no_auto_topics.ensures.rule c.no_auto_topics.ensures.local).is) c.arg-7.ensures;
+      local = IfOk-weaker c.arg-7.result _ _ (λ command adds. (with_argument _ _ _ _ _ adds
+          made_6 c.no_auto_topics.ensures.rule c.no_auto_topics.ensures.local).local)
+          c.arg-7.ensures;
     }

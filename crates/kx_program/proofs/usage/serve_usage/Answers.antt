@@ -19,11 +19,13 @@ returns c =
     let made_5 = with_argument _ _ _ _ _ c.in_ok-arg-5.ensures made_4
     c.traces.ensures.rule c.traces.ensures.local in
     let made_6 = with_argument _ _ _ _ _ c.in_ok-arg-6.ensures made_5
+    c.new_traces.ensures.rule c.new_traces.ensures.local in
+    let made_7 = with_argument _ _ _ _ _ c.in_ok-arg-7.ensures made_6
     c.expire.ensures.rule c.expire.ensures.local in
     record {
-      app = IfOk-weaker c.arg-7.result _ _ (λ command adds. (with_argument _ _ _ _ _ adds
-          made_6 c.session_timeout.ensures.rule c.session_timeout.ensures.local).is) c.arg-7.ensures;
-      local = IfOk-weaker c.arg-7.result _ _ (λ command adds. (with_argument _ _ _ _ _ adds
-          made_6 c.session_timeout.ensures.rule c.session_timeout.ensures.local).local)
-          c.arg-7.ensures;
+      app = IfOk-weaker c.arg-8.result _ _ (λ command adds. (with_argument _ _ _ _ _ adds
+          made_7 c.session_timeout.ensures.rule c.session_timeout.ensures.local).is) c.arg-8.ensures;
+      local = IfOk-weaker c.arg-8.result _ _ (λ command adds. (with_argument _ _ _ _ _ adds
+          made_7 c.session_timeout.ensures.rule c.session_timeout.ensures.local).local)
+          c.arg-8.ensures;
     }

@@ -13,5 +13,5 @@ returns g c =
     subst (λ s. IsTaken s (Comes c.args.message.now) any_store
     (λ after. after ≡ AtProcessor (of c.deliver.new.self)) c.answer.result) (sym stands)
     (delivered (of c.args.self.now) (of c.deliver.new.self) c.args.message.now c.answer.result
-    c.in_ok-deliver.ensures
+    c.in_ok-deliver.ensures.answer
     (answered c.none-none.result c.answer.result c.none-none.ensures c.answer.ensures))

@@ -9,7 +9,7 @@ use Rattle.kx_txnlog.specs.declared.entry.Entry.{Entry}
 use Rattle.kx_coord.proofs.Following.{follows_allot, follows_epoch, follows_row}
 use Rattle.kx_coord.proofs.table.Table.note.Goals as goal
 
--- what holds of a call that succeeds, where it does
+-- what holds of a call that succeeds, if it does
 ok_holds : {T E : Type 0} (r : Result T E) (P : Type 0) → is_ok r ≡ true → OnOk r P → P
 ok_holds (Ok x) P is h = h
 ok_holds (Err e) P is h = absurd cc

@@ -2,22 +2,22 @@ use Rattle.std.proofs.Common.{◌≡◌, ◌∙◌, ◌∷◌, [], sym, subst, r
 use Rattle.std.specs.Prelude.{MatchResult}
 use Rattle.kx_model.specs.Client.{Init}
 use Rattle.kx_model.specs.Step.{Commands, serves}
-use Rattle.kx_processor.specs.Calls.{IsRefused}
+use Rattle.kx_processor.specs.Calls.{IsRefused, MaySend}
 use Rattle.kx_processor.specs.Internal.{stage_of}
 use Rattle.kx_processor.specs.Running.{processor_of}
-use Rattle.kx_processor.proofs.Steps.{init_failed, init_answers, running}
+use Rattle.kx_processor.proofs.Steps.{init_failed, init_answers, init_memory, running}
 use Rattle.kx_system.specs.Processor.{has_failed, processor_step}
 use Rattle.kx_processor.proofs.processor.Processor.init.Goals as goal
 
-pub returns-then-has_failed : goal.returns-then-has_failed
-returns-then-has_failed g c = (
+pub returns-then-has_failed-clause-answer : goal.returns-then-has_failed-clause-answer
+returns-then-has_failed-clause-answer g c = (
   init_failed (processor_of g.P.Process.image_of c.args.self.now)
       (sym c.has_failed.ensures ∙ c.if-has_failed.true),
   refl,
 )
 
-pub returns : goal.returns
-returns g c =
+pub returns-clause-answer : goal.returns-clause-answer
+returns-clause-answer g c =
     let of = processor_of g.P.Process.image_of in
     let inside = c.self.inside in
     let with_client = running inside.group inside.inputs inside.process (stage_of inside.stage) in
@@ -28,3 +28,13 @@ returns g c =
     (init_answers g.P.Process.image_of (with_client inside.client) c.init.new.self c.init.result
     (subst (λ r. has_failed (of r) ≡ false) (sym c.self.view_is)
     (sym c.has_failed.ensures ∙ c.if-has_failed.false)) c.init.ensures)
+
+pub returns-clause-memory : goal.returns-clause-memory
+returns-clause-memory g c = λ is.
+    let of = processor_of g.P.Process.image_of in
+    let inside = c.self.inside in
+    let with_client = running inside.group inside.inputs inside.process (stage_of inside.stage) in
+    subst (λ r. MaySend (of r) Init) c.self.view_is
+    (init_memory g.P.Process.image_of (with_client inside.client) c.init.new.self c.init.result
+    (subst (λ r. has_failed (of r) ≡ false) (sym c.self.view_is)
+    (sym c.has_failed.ensures ∙ c.if-has_failed.false)) c.init.ensures is)

@@ -2,7 +2,7 @@ use Rattle.std.proofs.Common.{◌≡◌, ℕ, List, [], None, Some, IfSome, Opti
 use Rattle.std.specs.Io.KnownBytes.{IsAtEnd}
 use Rattle.kx_text.proofs.reads.CountedReads.refill.Goals as goal
 
--- where nothing is shown, nothing is left
+-- if nothing is shown, nothing is left
 at-end : (known : Option (List ℕ)) (P : Type 0) → IfSome known (λ xs. P → xs ≡ []) → P
     → IsAtEnd known
 at-end None P end none = tt

@@ -1,5 +1,0 @@
-use Rattle.std.proofs.Common.{inr}
-use Rattle.kx_program.proofs.program.audit.Goals as goal
-
-pub returns : goal.returns
-returns g c = inr (c.audit_server-audited.result, c.audit_server-audited.ensures, c.audit_ending.ensures)
