@@ -215,7 +215,8 @@ def edits():
 
 
 def check_wrong_bodies(name, text, sources):
-    """The table of wrong bodies: each planted bug, the crates whose gate has it, and its cases."""
+    """The table of wrong bodies: each planted bug, the crates whose gate has it, in brackets those
+    whose other planted bugs do, and its cases."""
     named = edits()
     head = text.index("| Wrong body |")
     first = text.count("\n", 0, head) + 3
@@ -224,9 +225,11 @@ def check_wrong_bodies(name, text, sources):
             break
         bugs, _, refused = line.strip("| ").split(" | ")
         for bug in re.findall(r"`([a-z_0-9]+)`", bugs):
+            beside = " ".join(re.findall(r"\(([^)]*)\)", refused))
             for crate in re.findall(r"\bkx_\w+", refused):
-                if crate not in named.get(bug, {}).get("must-fail", ()):
-                    say(name, number, f"no planted bug {bug} in the gate of {crate}")
+                place = "edits" if crate in beside else "must-fail"
+                if crate not in named.get(bug, {}).get(place, ()):
+                    say(name, number, f"no planted bug {bug} in {place} of {crate}")
         for case in re.findall(r"`(?:\w+/)?([a-z_0-9]+(?:\.[a-z]+)?)`", refused):
             if case not in sources.cases:
                 say(name, number, f"no case {case}")

@@ -1,5 +1,5 @@
 #!/usr/bin/env python3
-"""Runs the gate, `rt ci`, in this checkout and reports what it cost, crate by crate.
+"""Runs the gate, `tools/rt.py ci`, in this checkout and reports what it cost, crate by crate.
 
     tools/gate.py [JOBS]
 
@@ -48,7 +48,7 @@ def main():
     spent, started = {}, time.time()
     with open(f"{top}/gate.log", "wb") as log:
         gate = subprocess.Popen(
-            ["rt", "ci"], cwd=top, env=env, stdout=log, stderr=subprocess.STDOUT,
+            [f"{top}/tools/rt.py", "ci"], cwd=top, env=env, stdout=log, stderr=subprocess.STDOUT,
             start_new_session=True,
         )
         while gate.poll() is None:

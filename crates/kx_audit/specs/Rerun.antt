@@ -45,7 +45,7 @@ behind_in (Some trace) place = drop (place + 1) trace.steps
 abbrev pub behind_at : {B : Type 0} → List (Traced B) → Turn → List Step
 behind_at traces turn = behind_in (slice_get traces turn.trace) turn.step
 
--- whichever number its message has, the step with this store leads to if the event does
+-- whichever number its message has, the step with this store leads to where the event does
 pub record IsAgain (s : System) (p : Passed) (event : SystemEvent) (store : Store) : Type 0 where
   pub leads : (other : SystemEvent) → IsEventOf s.world.sent p.node p.step.input store other
       → (system_step s other).0 ≡ (system_step s event).0

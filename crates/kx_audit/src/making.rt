@@ -4,7 +4,7 @@ use kx_machine::Making;
 use kx_nodes::{Made, ProcessorMaking};
 use kx_processor::Process;
 
-/// How a node was made, as traces begin with it, which reports the making of the definitions.
+/// How a node was made, as traces begin with it, which names the making of the definitions.
 pub trait Tells: Made {
     ghost use Rattle.std.specs.Prelude.{◌≡◌};
     ghost use Rattle.kx_audit.specs.Making.{NodeMaking, named, node_of};

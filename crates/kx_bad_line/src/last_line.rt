@@ -70,7 +70,7 @@ impl<R> LastLine<R> {
         }
     }
 
-    // Notes that so many of the bytes that were shown were taken.
+    // Notes that n of the bytes that were shown were taken.
     fn pass(&mut self, amount: usize)
         ensures { self.new.reader ≡ self.old.reader }
     {

@@ -24,7 +24,7 @@ fn append_of(alloc: Global, frame: &[u8]) -> Result<Append, StepFault> {
     }
 }
 
-// The same if it can be parked.
+// The request to append in a frame, as it is parked; None if it can't be.
 fn request_of(alloc: Global, frame: &[u8]) -> Result<Option<Request>, StepFault> {
     Ok(match append_of(alloc, frame)? {
         Append::Produce(produce) => Request::of_produce(produce).ok(),

@@ -291,7 +291,7 @@ impl WorldEvents {
         nothing(self.alloc)
     }
 
-    // Adds the event that the request in this frame arrives from outside, or tells `no request`
+    // Adds the event that the request in this frame arrives from outside, or prints `no request`
     // if the frame brings none that can.
     fn await_request(&mut self, texts: &Texts, frame: &str) -> Result<String, StepFault> {
         let frame = texts.bytes(frame)?;

@@ -72,7 +72,7 @@ fn read_in(alloc: Global, once: usize, reads: usize, script: &str) -> Result<Str
     format!(in alloc; "{ended:?} {count}").map_err(StepFault::Memory)
 }
 
-// The same if it fails at the first read, at the second, and so on.
+// How the script ends if its reader fails at the first read, at the second, and so on up to this many.
 fn reads(
     alloc: Global,
     runs: &mut Runs,

@@ -21,7 +21,7 @@ pub(crate) enum Wrong {
     Number,
     /// The log's end fell.
     End,
-    /// The page from 0 didn't end if the log does.
+    /// The page from 0 didn't end where the log does.
     Page,
     /// There was no log.
     Gone,
@@ -97,7 +97,7 @@ impl Seen {
         }
     }
 
-    // What is wrong with a look that comes next. A page of a whole log ends if the log does, and
+    // What is wrong with a look that comes next. A page of a whole log ends where the log does, and
     // none ends after it.
     fn judge(&self, look: Look, pace: Pace) -> Option<Wrong> {
         if look.number < self.number {

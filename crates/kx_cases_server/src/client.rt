@@ -25,7 +25,7 @@ pub(crate) struct Client {
 // The most frames that are read until a connection is closed.
 const MOST_FRAMES: usize = 10_000;
 
-// If the kind of a frame stands, and that of a page.
+// Where the kind of a frame is, and that of a page.
 const KIND_PLACE: usize = 4;
 
 const FETCH_REPLY: u8 = 12;

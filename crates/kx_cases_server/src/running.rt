@@ -93,7 +93,7 @@ impl Stock {
         })
     }
 
-    /// The same, if clients are told to find it at this `HOST:PORT`.
+    /// The server that says to clients that it is at this `HOST:PORT`.
     pub(crate) fn at(mut self, alloc: Global, address: &str) -> Result<Stock, StepFault> {
         if advertised_in(address).is_none() {
             return Err(StepFault::Unknown);
@@ -102,7 +102,7 @@ impl Stock {
         Ok(self)
     }
 
-    // If clients are told to find it, if anywhere else.
+    // Where clients are told to find it, if anywhere else.
     fn address(&self) -> Option<Advertised<'_>> {
         match &self.advertise {
             Some(address) => advertised_in(address.as_str()),

@@ -23,7 +23,7 @@ const NODES: [i32; 1] = [NODE_ID];
 // The name of the cluster.
 const CLUSTER_ID: &[u8] = b"mokeupahi";
 
-/// If clients reach the broker, which is the leader of each partition and each coordinator.
+/// Where clients reach the broker, which is the leader of each partition and each coordinator.
 #[derive(Clone, Copy)]
 pub struct Broker<'a> {
     /// Its host name or address.

@@ -26,7 +26,7 @@ fn listing(index: i32, code: i16, offset: i64) -> ListOffsetsPartitionResponse
 }
 
 /// What a partition of a response says of its log, which ends at `end` and whose last stable offset
-/// is `lso`: for the timestamp -2 offset 0, if each log begins; for -1 the end, or for a reader
+/// is `lso`: for the timestamp -2 offset 0, where each log begins; for -1 the end, or for a reader
 /// of committed records the last stable offset; for a time, which is 0 or more, offset -1, as none
 /// is found. Any other timestamp is refused with code 42.
 pub fn listed(

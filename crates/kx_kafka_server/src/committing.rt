@@ -61,9 +61,9 @@ enum Committer {
 struct TxnCommit<'t> {
     txn: &'t [u8],
     group: &'t [u8],
-    // None if the core can't hold them
+    // the offsets, None if the core can't hold them
     held: Option<Held>,
-    // None if the member's id is none
+    // who commits, None if the text of the member's id is no id
     committer: Option<Committer>,
 }
 
@@ -204,7 +204,7 @@ impl<'a, L: Readable, J: Naming, R: Wait + Clock + Drop> Session<'a, L, J, R> {
         Ok(self.commit_in(&producer, txn, &held, &commit)?.number())
     }
 
-    // The code for so many offsets, if it doesn't depend on the core.
+    // The code for n offsets, if it doesn't depend on the core.
     fn count_code(&self, count: usize) -> Option<i16> {
         match count {
             0 => Some(0),

@@ -14,7 +14,7 @@ use std::marker::Model;
 pub struct Protocol {
     /// Its name, such as `range`.
     pub name: Bytes,
-    /// What the client reports the leader under this protocol.
+    /// What the client says to the leader under this protocol (KIP-62).
     pub metadata: Bytes,
 }
 

@@ -144,8 +144,7 @@ store_found : (found whole : Bool) → store_by (found_mark found) whole ≡ Wor
 store_found true whole = refl
 store_found false whole = refl
 
--- where the epochs are used up; where a new epoch is to be written; where none is; and if no log
--- is kept
+-- if the epochs are used up; if a new epoch is to be written; if none is; and if no log is kept
 data Shape (f : Shows) : Type 0 where
   Spends : f CannotLoad ≡ mark.Unread → f Works ≡ mark.UsedUp
       → ((whole : Bool) → f (Fails whole) ≡ mark.UsedUp) → Shape f

@@ -26,7 +26,7 @@ pub fn traces_tell_answers_and_logs()
 
 /// Nodes that are alike have the same log, answer a step with the same mark the same, and are alike
 /// after it. One of them may hide an entry after its closed log, if the other hides nothing;
-/// only a restart reads what is hidden, and its mark reports which of the two it was.
+/// only a restart reads what is hidden, and its mark says which of the two it was.
 pub fn alike_nodes_answer_alike()
     ensures answers { (a b : NodeState) (step : Step) (t u : Taken) (after other : NodeState)
         → AreAlike a b → Takes a step t after → Takes b step u other → t ≡ u }

@@ -5,7 +5,7 @@ use kx_machine::Making;
 use kx_message::{ClientId, GroupId, NodeId, Timeout, TxnId};
 use kx_processor::{Inputs, Process};
 
-/// How a node was made. The value reports which node of the definitions it was then.
+/// How a node was made. The value says which node of the definitions it was then.
 pub trait Made: Drop {
     ghost use Rattle.std.specs.Prelude.{◌≡◌};
     ghost use Rattle.kx_machine.specs.Meaning.{NodeState};

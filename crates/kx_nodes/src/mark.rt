@@ -4,7 +4,7 @@ ghost use Rattle.kx_nodes.specs.Replay.{mark_of};
 
 use kx_machine::{Closing, Note, Taken};
 
-/// What a step shows of what the node's store did. With the inputs before it, it reports what the
+/// What a step shows of what the node's store did. With the inputs before it, it says what the
 /// step answers: the definitions leave open only what the store does, which is to work, to fail an
 /// append with nothing or with the whole entry left behind, or not to be read.
 ///

@@ -1,4 +1,4 @@
-//! If things are in the diagram, in pixels. A place past what an i64 holds is the last one.
+//! Where things are in the diagram, in pixels. A place past what an i64 holds is the last one.
 
 /// How far one step is below the step before.
 pub(crate) const ROW: i64 = 26;

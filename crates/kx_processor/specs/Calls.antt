@@ -12,7 +12,7 @@ use Rattle.kx_partition.specs.Reply.{page_in}
 use Rattle.kx_system.specs.Processor.{Processor, has_failed, is_overflown, is_waiting}
 use Rattle.kx_system.specs.Processor.{processor_step}
 
--- the rules refuse it so, and the processor is then if they say
+-- the rules refuse it so, and the processor is then where they say
 abbrev pub Declines : Processor → Command → Fault → Processor → Type 0
 Declines before what refusal after = processor_step before (Commands what) ≡ record {
   state = after;

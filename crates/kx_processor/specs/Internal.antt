@@ -58,7 +58,7 @@ abbrev pub IsRefusedOrUnlisted : ClientFault → Commanded → Type 0
 IsRefusedOrUnlisted fault.Memory answer = ⊤
 IsRefusedOrUnlisted other answer = IsRefused other answer
 
--- if the page of a reply leads, if it has one that is awaited
+-- where the page of a reply leads, if it has one that is awaited
 abbrev pub IsPaged : Processing → Message → Option running.Stage → Type 0
 IsPaged p reply None = fetched p p.stage reply ≡ p.stage
 IsPaged p reply (Some stage) =

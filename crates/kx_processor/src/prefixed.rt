@@ -1,4 +1,4 @@
-//! A process that reports an image from its record by one byte.
+//! A process whose images differ from their records by one byte in front.
 use crate::process::Process;
 use kx_batch::RecordView;
 use std::alloc::{AllocError, Global};

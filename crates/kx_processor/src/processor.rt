@@ -146,7 +146,7 @@ impl<P: Process> Processor<P> {
         self.client.resend()
     }
 
-    // If the page that a reply has leads, if it has one and a page is awaited.
+    // Where the page that a reply has leads, if it has one and a page is awaited.
     fn paged(&self, reply: &Message) -> Result<Option<Stage>, AllocError>
         ensures ok { IfOk result (λ paged.
             IsPaged (processing_of P.image_of self.now) reply.now paged) }

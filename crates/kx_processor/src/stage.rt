@@ -1,4 +1,4 @@
-//! If a processor is in a pass, and where the codes of replies lead it.
+//! Where a processor is in a pass, and where the codes of replies lead it.
 ghost use Rattle.std.specs.Prelude.{◌≡◌, pos, true, false, if◌then◌else◌};
 ghost use Rattle.kx_processor.specs.Internal.{IsPaged, is_page, left_of, sequel_of, stage_of};
 ghost use Rattle.kx_system.specs.Processor as pass;
@@ -208,7 +208,7 @@ impl Stage {
         }
     }
 
-    // If an awaited reply leads, of which it is known if its page does.
+    // Where an awaited reply leads, of which it is known where its page does.
     pub(crate) fn led(self, paged: Option<Stage>, inputs: Inputs, reply: &Message) -> Stage
         ensures { (p : Processing) → p.inputs ≡ inputs → p.stage ≡ stage_of self
             → IsPaged p reply.now paged → stage_of result ≡ stage_told p reply.now }

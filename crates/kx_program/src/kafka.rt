@@ -48,7 +48,7 @@ fn refuse_topics<E: Write>(fault: AskFault<'_>, errors: &mut E) -> Ending
     Ending::WrongArguments
 }
 
-// If clients are told to find the broker, None if nothing is asked for; or how the program
+// Where clients are told to find the broker, None if nothing is asked for; or how the program
 // ends if something else than `HOST:PORT` is asked for.
 fn address_of<'a, E: Write>(
     asked: Option<&'a str>,

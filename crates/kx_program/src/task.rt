@@ -54,7 +54,7 @@ pub struct StockClients<'a> {
     pub topics: Option<&'a str>,
     /// The port on 127.0.0.1 on which it listens; 0 takes any that is free.
     pub port: u16,
-    /// If clients are told to find the broker, as `HOST:PORT`, if that is asked for.
+    /// Where clients are told to find the broker, as `HOST:PORT`, if that is asked for.
     pub advertise: Option<&'a str>,
     /// The folder of its files, if any.
     pub dir: Option<&'a str>,

@@ -72,7 +72,7 @@ pub(crate) struct Opening<'a, F: Folder, R: Drop> {
     pub(crate) partitions: Partitions,
     /// the time, in milliseconds since 1970
     pub(crate) time: u64,
-    /// if the nodes write what they do, if they do
+    /// Where the nodes write what they do, if they do.
     pub(crate) traces: Option<Traces<'a, R>>,
 }
 

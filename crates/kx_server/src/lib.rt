@@ -1,7 +1,7 @@
 //! The threads of a server: all nodes of a core in one process, served to clients over sockets. A
 //! request goes to the node that it names, a reply to the connection that spoke last for its client.
 //! What nodes send to nodes goes through inboxes to workers. Pages are read from published logs, as
-//! no step. If the nodes are from, and so if their logs are, is the caller's.
+//! no step. Where the nodes are from, and so where their logs are, is the caller's.
 #![tactic(auto)]
 
 mod asking;

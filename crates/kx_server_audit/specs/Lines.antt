@@ -28,7 +28,7 @@ abbrev pub item_line : AuditFile → ℕ → List ℕ → List ℕ
 item_line file item words =
     file_name file ++ codes ": step " ++ decimal item ++ codes ": " ++ words ++ codes "\n"
 
--- if and why an audit says no, in the words of the refusal
+-- where and why an audit says no, in the words of the refusal
 abbrev pub place_text : Denial → List ℕ → List ℕ
 place_text (denial.Item node item why) words = item_line (file.Trace node) item words
 place_text (denial.OtherNode node) words =

@@ -25,7 +25,7 @@ use std::io::Read;
 // After how many steps it is told how far an audit is.
 const STEPS_TOLD: u64 = 1 << 20;
 
-/// If an audit refuses, and why.
+/// Where an audit refuses, and why.
 #[derive(Clone, Copy)]
 pub(crate) struct Refused {
     /// The number of the trace, counted from 0.

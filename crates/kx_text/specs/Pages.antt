@@ -61,7 +61,7 @@ abbrev pub page_lines : ℤ → Mode → Page → List ℕ
 page_lines from All page = flat_map (λ stored. batch_lines from stored.batch) page.batches
 page_lines from Committed page = shown_lines (committed_records page)
 
--- if a page ends, the last stable offset, and the end of the log
+-- where a page ends, the last stable offset, and the end of the log
 abbrev pub end_text : ℤ → ℤ → ℤ → List ℕ
 end_text next stable end =
     codes "next " ++ signed_decimal next ++ codes " lso " ++ signed_decimal stable

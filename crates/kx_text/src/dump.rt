@@ -182,7 +182,7 @@ fn fault_name(fault: BatchFault) -> &'static str
     }
 }
 
-// Writes if no batch stands, and why.
+// Writes where no batch is, and why.
 fn write_fault<W: Write>(writer: &mut W, place: usize, fault: BatchFault) -> io::Result<()>
     ensures { OnOk result (Appends (W.contents writer.old) (W.contents writer.new)
         (fault_line place fault)) }
@@ -192,9 +192,9 @@ fn write_fault<W: Write>(writer: &mut W, place: usize, fault: BatchFault) -> io:
 }
 
 /// Writes what is printed of a file of record batches: for each a line `batch OFFSET COUNT ID EPOCH
-/// SEQ KIND`, if KIND is `commit`, `abort`, `control`, `txn` or `plain`, and for each of its
+/// SEQ KIND`, where KIND is `commit`, `abort`, `control`, `txn` or `plain`, and for each of its
 /// records a line `record OFFSET KEY VALUE` in hexadecimal, with `null` for null and `-` for empty;
-/// up to the end or the first place where no batch stands, of which it writes `fault PLACE NAME`.
+/// up to the end or the first place where no batch is, of which it writes `fault PLACE NAME`.
 /// It goes over the bytes once, takes no memory and doesn't flush the writer.
 ///
 /// # Errors

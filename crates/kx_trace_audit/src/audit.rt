@@ -68,7 +68,7 @@ impl<B: Server> TraceAudit<B> {
     ///
     /// # Errors
     ///
-    /// `DuplicateNode` if two traces are of one node; `Bytes` where the log with which a trace
+    /// `DuplicateNode` if two traces are of one node; `Bytes` if the log with which a trace
     /// begins can't be opened; `Memory` if memory runs out.
     pub fn new(alloc: Global, traces: &[TraceOf]) -> Result<TraceAudit<B>, TraceRefusal>
         ensures { IfOk result (λ a. (before : List Passed) → CameBefore before traces.now

@@ -70,7 +70,7 @@ impl Reading {
         node_name(self.node)
     }
 
-    /// If the trace ends, as far as that is known.
+    /// Where the trace ends, as far as that is known.
     pub(crate) fn ending(&self) -> Ending
         ensures { result ≡ ending_of self.now }
     {

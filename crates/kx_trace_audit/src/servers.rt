@@ -47,7 +47,7 @@ pub trait Server: Remade {
     ///
     /// # Errors
     ///
-    /// `Bytes` where the log with which the trace begins can't be opened; `Memory` if memory runs
+    /// `Bytes` if the log with which the trace begins can't be opened; `Memory` if memory runs
     /// out.
     fn begun(alloc: Global, of: &TraceOf) -> Result<Self::Machine, TraceRefusal>
         ensures { IfOk result (StandsAsBegun Self.Machine.stands of.now) };

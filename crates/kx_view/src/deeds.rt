@@ -270,7 +270,7 @@ fn end_answered(answer: Option<ErrorCode>) -> Deed {
     answered(answer, &END, None)
 }
 
-// If a batch stands that arrived again, by the reply to it.
+// Where a batch is that arrived again, by the reply to it.
 fn duplicate(sent: &[Message]) -> Deed {
     for message in sent {
         if let Message::ProduceReply(ProduceReply { offset, .. }) = message {

@@ -74,7 +74,7 @@ pub data Stream : Type 0 where
   Faulty : FrameFault → Stream
   Over : Stream
 
--- if a stream stands behind these messages, by what stands at the front of the rest; a fault
+-- where a stream is after these messages, by what is at the front of the rest; a fault
 -- waits only for messages that are given first
 abbrev pub Stands : Front → List Message → List ℕ → Stream → Type 0
 Stands (Whole m behind) messages rest new = ⊥
