@@ -52,11 +52,11 @@ pub(crate) const RULES: &str = "<h3>A batch that arrives</h3>
 <tr id=\"add-old-epoch\"><td>old epoch</td><td>the epoch is below the row's, or the id is the one before</td><td>90</td></tr>
 <tr id=\"add-preparing\"><td>preparing</td><td>the row is prepared</td><td>51</td></tr>
 <tr id=\"add-already-listed\"><td>already listed</td><td>the row is ongoing and lists the partition</td><td>0; nothing is appended</td></tr>
-<tr id=\"add-listed\"><td>listed</td><td>else</td><td>0; the row is ongoing and lists the partition, last where it didn't list it; where it wasn't ongoing, its start is the coordinator's clock</td></tr>
+<tr id=\"add-listed\"><td>listed</td><td>else</td><td>0; the row is ongoing and lists the partition, last if it didn't list it; if it wasn't ongoing, its start is the coordinator's clock</td></tr>
 </table>
 <h3>A client ends its transaction</h3>
 <table>
-<tr id=\"end-already-ended\"><td>already ended</td><td>the row stands one epoch higher, prepared or complete with this outcome; or the epoch is 32,766, the last of the id before, and the row is complete at epoch 0 with this outcome</td><td>0; where the row is prepared with the id and epoch of the transaction after, and where it is complete with the row's own</td></tr>
+<tr id=\"end-already-ended\"><td>already ended</td><td>the row stands one epoch higher, prepared or complete with this outcome; or the epoch is 32,766, the last of the id before, and the row is complete at epoch 0 with this outcome</td><td>0; if the row is prepared with the id and epoch of the transaction after, and if it is complete with the row's own</td></tr>
 <tr id=\"end-ended-otherwise\"><td>ended otherwise</td><td>the same with the other outcome</td><td>48</td></tr>
 <tr id=\"end-old-epoch\"><td>old epoch</td><td>the epoch is below the row's, or the id is the one before</td><td>90</td></tr>
 <tr id=\"end-preparing\"><td>preparing</td><td>the row is prepared</td><td>51</td></tr>
@@ -75,7 +75,7 @@ pub(crate) const RULES: &str = "<h3>A batch that arrives</h3>
 <tr id=\"group-offsets-the-generation-isn-t-the-present-one\"><td>offsets</td><td>the generation isn't the present one</td><td>22, illegal generation</td></tr>
 <tr id=\"group-offsets-else\"><td>offsets</td><td>else</td><td>the answer to their batch</td></tr>
 <tr id=\"group-fetch-of-an-offset-a-stable-one-is-asked-for-and-an-open-transaction-has-an-offset-of-this-group-and-input-partition\"><td>fetch of an offset</td><td>a stable one is asked for, and an open transaction has an offset of this group and input partition</td><td>88, unstable offset commit, and -1</td></tr>
-<tr id=\"group-fetch-of-an-offset-else\"><td>fetch of an offset</td><td>else</td><td>0 and the committed offset, -1 where there is none</td></tr>
+<tr id=\"group-fetch-of-an-offset-else\"><td>fetch of an offset</td><td>else</td><td>0 and the committed offset, -1 if there is none</td></tr>
 </table>
 <h3 id=\"settle\">Markers' replies, expiry, reminders and opening</h3>
 <p>A marker's reply of code 0 is noted in memory if its row is prepared at that id and epoch and lists the partition. With the last one the row becomes complete, with no partitions; if that can't be written, the reply isn't noted.</p>
