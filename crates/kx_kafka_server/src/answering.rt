@@ -291,20 +291,27 @@ impl<'a, L: Readable, J: Naming, R: Wait + Clock + Drop> Session<'a, L, J, R> {
         Ok(listed(index, asked.timestamp, committed, end, lso))
     }
 
-    // The response to ListOffsets.
+    // The response to ListOffsets. Each partition is refused if Kafka has no such isolation level.
     fn list_offsets(
         &self,
         asked: &Asked<'_>,
         request: ListOffsetsRequest<'_>,
     ) -> Result<Answer, Closed> {
-        let Some(level) = IsolationLevel::from_number(request.isolation_level) else {
-            return Err(Closed);
-        };
-        let committed = level == IsolationLevel::ReadCommitted;
+        let level = IsolationLevel::from_number(request.isolation_level);
         let mut answers = Vec::new(self.alloc);
         for topic in request.topics {
             for partition in topic.partitions {
-                answers.push(self.offset(committed, topic.name, &partition)?)?;
+                let answer = match &level {
+                    Some(level) => {
+                        let committed = *level == IsolationLevel::ReadCommitted;
+                        self.offset(committed, topic.name, &partition)?
+                    }
+                    None => {
+                        let code = GatewayCode::InvalidRequest.number();
+                        refused_offset(partition.partition_index, code)
+                    }
+                };
+                answers.push(answer)?;
             }
         }
         let Ok((_, Request::ListOffsets(request))) = read_request(asked.text) else {

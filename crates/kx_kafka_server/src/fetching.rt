@@ -182,7 +182,7 @@ impl<'a, L: Readable, J: Naming, R: Wait + Clock + Drop> Session<'a, L, J, R> {
         Ok(pages)
     }
 
-    // The partitions that are asked for and are there.
+    // The partitions that are asked for and are there, each once.
     fn partitions(&self, request: FetchRequest<'_>) -> Result<Vec<PartitionId>, Closed> {
         let mut partitions = Vec::new(self.alloc);
         for topic in request.topics {
@@ -190,7 +190,9 @@ impl<'a, L: Readable, J: Naming, R: Wait + Clock + Drop> Session<'a, L, J, R> {
             for asked in topic.partitions {
                 let index = asked.partition;
                 if let Some(partition) = self.partition(name, index) {
-                    partitions.push(partition)?;
+                    if !partitions.contains(&partition) {
+                        partitions.push(partition)?;
+                    }
                 }
             }
         }

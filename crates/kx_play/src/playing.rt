@@ -62,6 +62,7 @@ fn serving() -> ServerOptions {
         connections: Connections::new(CLIENTS).unwrap(),
         expires: false,
         session_timeout: None,
+        since: 0,
     }
 }
 

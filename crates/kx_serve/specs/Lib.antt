@@ -3,3 +3,4 @@ pub mod Files
 pub mod Opening
 pub mod Owed
 pub mod Tying
+pub mod Limits

@@ -7,12 +7,12 @@ use crate::fault::ServeFault;
 use crate::files::LogFile;
 use crate::locking::lock_folders;
 use crate::options::{KafkaOptions, ServeOptions};
-use crate::server::serve_speaking;
+use crate::server::{Spoken, latest_start, serve_speaking};
 use kx_kafka_server::{GatewayOptions, Kafka};
 use kx_log::{MemStore, OpenFault};
 use kx_message::PartitionId;
 use kx_server::Partitions;
-use kx_txnlog::TxnLog;
+use kx_txnlog::{Entry, TxnLog};
 use std::alloc::Global;
 use std::fs;
 use std::fs::{File, Files};
@@ -22,8 +22,8 @@ use std::sync::Wait;
 use std::thread::Threads;
 use std::time::Clock;
 
-// What the coordinator wrote in this folder: which transactional ids were granted, and to whom.
-fn coordinator_log<R: Files<File = File> + AllocGlobal>(
+/// What the coordinator wrote in this folder: which transactional ids were granted, and to whom.
+pub(crate) fn coordinator_log<R: Files<File = File> + AllocGlobal>(
     rt: &R,
     dir: Option<&str>,
 ) -> Result<TxnLog<MemStore>, ServeFault> {
@@ -50,19 +50,19 @@ fn coordinator_log<R: Files<File = File> + AllocGlobal>(
     }
 }
 
-// The protocol of stock clients, with what the folder has of it.
+// The protocol of stock clients, with what the folder and the coordinator's log have of it.
 fn gateway<R: Files<File = File> + AllocGlobal + Clock>(
     rt: &R,
     options: &KafkaOptions<'_>,
+    entries: &[Entry],
 ) -> Result<Kafka, ServeFault> {
-    let log = coordinator_log(rt, options.dir)?;
     let asked = GatewayOptions {
         topics: options.topics,
         makes_topics: options.makes_topics,
         advertise: options.advertise,
         dir: options.dir,
     };
-    Ok(Kafka::open(rt, &asked, log.entries())?)
+    Ok(Kafka::open(rt, &asked, entries)?)
 }
 
 impl<'a> KafkaOptions<'a> {
@@ -103,8 +103,16 @@ fn serve_locked<
 >(rt: R, options: &KafkaOptions<'_>, out: &mut W) -> Result<(), ServeFault>
     ensures { OnOk result (Listens (W.contents out.old) (W.contents out.new)) }
 {
-    let protocol = gateway(&rt, options)?;
-    serve_speaking(rt, &options.served(), &protocol, options.until, out)
+    let log = coordinator_log(&rt, options.dir)?;
+    let protocol = gateway(&rt, options, log.entries())?;
+    let since = latest_start(log.entries());
+    drop(log);
+    let spoken = Spoken {
+        protocol: &protocol,
+        until: options.until,
+        since,
+    };
+    serve_speaking(rt, &options.served(), &spoken, out)
 }
 
 /// Serves the core on 127.0.0.1 to clients that speak Kafka's protocol: prints `listening` and the

@@ -9,6 +9,7 @@ mod fault;
 mod files;
 mod folder;
 mod kafka;
+mod limits;
 mod locking;
 mod members;
 mod opening;

@@ -31,13 +31,14 @@ pub struct ServeOptions<'a> {
 }
 
 impl<'a> ServeOptions<'a> {
-    /// What its threads are asked for.
-    pub(crate) fn server(&self) -> ServerOptions {
+    /// What its threads are asked for, if its clock goes on from this time.
+    pub(crate) fn server(&self, since: u64) -> ServerOptions {
         ServerOptions {
             partitions: self.partitions,
             connections: self.connections,
             expires: self.expires,
             session_timeout: self.session_timeout,
+            since,
         }
     }
 }

@@ -8,6 +8,8 @@ ghost use Rattle.kx_server.specs.Lines.{Listens, Prints};
 
 use crate::fault::ServeFault;
 use crate::folder::{Folder, InFiles, InMemory};
+use crate::kafka::coordinator_log;
+use crate::limits::connections_beside_files;
 use crate::locking::lock_folders;
 use crate::opening::{Kept, Opening};
 use crate::options::ServeOptions;
@@ -17,7 +19,8 @@ use crate::tying::tie_folders;
 use kx_message::PartitionId;
 use kx_published::book::{Naming, Opened};
 use kx_publishing::Readable;
-use kx_server::{OwnFrames, Partitions, Protocol, Until, moment, serve_nodes, tell};
+use kx_server::{OwnFrames, Partitions, Protocol, ServerOptions, Until, moment, serve_nodes, tell};
+use kx_txnlog::Entry;
 use std::alloc::{AllocError, Global};
 use std::fs::{File, Files};
 use std::io::Write;
@@ -66,6 +69,41 @@ fn opening<'a, F: Folder, R: Files<File = File> + AllocGlobal + Eprint + Clock +
     }
 }
 
+/// How clients speak with a server, when it ends, and the latest time that its coordinator's log has,
+/// in milliseconds since 1970.
+#[derive(Drop)]
+pub(crate) struct Spoken<'a, P: Protocol> {
+    pub(crate) protocol: &'a P,
+    pub(crate) until: Until,
+    pub(crate) since: u64,
+}
+
+/// The latest time at which a transaction of these entries began, in milliseconds since 1970; 0 if
+/// there is none.
+pub(crate) fn latest_start(entries: &[Entry]) -> u64 {
+    let mut latest = 0;
+    for entry in entries {
+        if let Entry::Row(row) = entry {
+            latest = row.start.max(latest);
+        }
+    }
+    latest
+}
+
+// What the threads of a server are asked for. One that ends with its process takes no more
+// connections than it may have open beside its files.
+fn asked_of<R: Files<File = File> + AllocGlobal + Eprint + Copy + Drop, P: Protocol>(
+    rt: &R,
+    options: &ServeOptions<'_>,
+    spoken: &Spoken<'_, P>,
+) -> ServerOptions {
+    let mut asked = options.server(spoken.since);
+    if spoken.until == Until::Killed {
+        asked.connections = connections_beside_files(rt, asked.connections);
+    }
+    asked
+}
+
 // Serves with nodes that were opened.
 fn serve_opened<
     L: Readable + Send + Sync + 'static,
@@ -86,8 +124,9 @@ fn serve_opened<
 >(
     placing: &Placing<'_, F, R>,
     nodes: OpenedNodes<L>,
-    options: &ServeOptions<'_>,
-    spoken: (&P, Until),
+    port: u16,
+    asked: &ServerOptions,
+    spoken: &Spoken<'_, P>,
     out: &mut W,
 ) -> Result<(), ServeFault>
     requires coordinator { (node : NodeState) × L.stands node nodes.coordinator }
@@ -95,14 +134,13 @@ fn serve_opened<
     ensures { OnOk result (Listens (W.contents out.old) (W.contents out.new)) }
 {
     let nodes = placing.place_all::<L, J>(nodes)?;
-    let asked = options.server();
     serve_nodes(
         placing.rt,
         placing.alloc,
         nodes,
-        options.port,
-        &asked,
-        spoken,
+        port,
+        asked,
+        (spoken.protocol, spoken.until),
         out,
     )?;
     Ok(())
@@ -132,7 +170,7 @@ fn serve_named<
     options: &ServeOptions<'_>,
     books: Vec<Opened>,
     offsets: Opened,
-    spoken: (&P, Until),
+    spoken: &Spoken<'_, P>,
     out: &mut W,
 ) -> Result<(), ServeFault>
     requires books { All (HasBook J.book) books.items }
@@ -146,7 +184,8 @@ fn serve_named<
         folder,
         connections: options.connections,
     };
-    serve_opened::<Kept<F, R>, J, F, R, P, W>(&placing, nodes, options, spoken, out)
+    let asked = asked_of(&rt, options, spoken);
+    serve_opened::<Kept<F, R>, J, F, R, P, W>(&placing, nodes, options.port, &asked, spoken, out)
 }
 
 // Serves with logs in a folder.
@@ -170,7 +209,7 @@ fn serve_over<
     rt: R,
     folder: &F,
     options: &ServeOptions<'_>,
-    spoken: (&P, Until),
+    spoken: &Spoken<'_, P>,
     out: &mut W,
 ) -> Result<(), ServeFault>
     ensures { OnOk result (Listens (W.contents out.old) (W.contents out.new)) }
@@ -201,17 +240,10 @@ pub(crate) fn serve_speaking<
         + 'static,
     P: Protocol,
     W: Write,
->(
-    rt: R,
-    options: &ServeOptions<'_>,
-    protocol: &P,
-    until: Until,
-    out: &mut W,
-) -> Result<(), ServeFault>
+>(rt: R, options: &ServeOptions<'_>, spoken: &Spoken<'_, P>, out: &mut W) -> Result<(), ServeFault>
     ensures { OnOk result (Listens (W.contents out.old) (W.contents out.new)) }
 {
     tie_folders(&rt, options)?;
-    let spoken = (protocol, until);
     match options.dir {
         None => serve_over(rt, &InMemory, options, spoken, out),
         Some(dir) => {
@@ -244,8 +276,15 @@ fn serve_own<
     ensures { OnOk result (Prints options.now.connections (W.contents out.old)
         (W.contents out.new)) }
 {
-    let protocol = OwnFrames::of(&options.server());
-    serve_speaking(rt, options, &protocol, Until::Served, out)?;
+    let log = coordinator_log(&rt, options.dir)?;
+    let since = latest_start(log.entries());
+    drop(log);
+    let spoken = Spoken {
+        protocol: &OwnFrames::of(&options.server(since)),
+        until: Until::Served,
+        since,
+    };
+    serve_speaking(rt, options, &spoken, out)?;
     tell(out, "served", usize::from(options.connections.get()))?;
     Ok(())
 }

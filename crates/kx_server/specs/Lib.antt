@@ -2,3 +2,4 @@ pub mod Asking
 pub mod Faults
 pub mod Lines
 pub mod Queues
+pub mod Ticking

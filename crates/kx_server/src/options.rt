@@ -20,4 +20,7 @@ pub struct ServerOptions {
     pub expires: bool,
     /// How long nothing may be heard of a member of a group until it is dropped; None drops none.
     pub session_timeout: Option<Timeout>,
+    /// The latest time that its nodes know, in milliseconds since 1970: its clock goes on from there
+    /// if the one on the wall is behind.
+    pub since: u64,
 }

@@ -2,19 +2,73 @@
 use crate::fault::NetFault;
 use crate::hub::Hub;
 use crate::protocol::Link;
-use crate::ticking::Going;
 use kx_published::book::Naming;
 use kx_publishing::Readable;
 use std::alloc::{AllocError, Global};
 use std::net::{TcpListener, TcpStream};
-use std::sync::{Arc, Wait};
-use std::thread::{JoinHandle, Threads};
+use std::sync::{Arc, Condvar, Mutex, Wait};
+use std::thread::Threads;
 use std::time::{Clock, Duration};
 use std::{io, thread};
 
-// After how long a connection that can't be taken, or a thread that can't be started, is tried
-// again.
+// After how long a thread that can't be started is tried again.
 const PAUSE_MILLIS: u64 = 10;
+
+// After how long a connection that can't be taken is tried again, if none is closed meanwhile.
+const WAIT_SECONDS: u64 = 1;
+
+// How many connections are served.
+#[derive(Drop)]
+struct Count {
+    served: Mutex<usize>,
+    fewer: Condvar,
+}
+
+impl Count {
+    // None is served.
+    fn new() -> Count {
+        Count {
+            served: Mutex::new(0),
+            fewer: Condvar::new(),
+        }
+    }
+
+    // How many are served now.
+    fn get<R: Wait>(&self, rt: &R) -> usize {
+        *self.served.lock(rt)
+    }
+
+    // One more is served.
+    fn add<R: Wait>(&self, rt: &R) {
+        let mut served = self.served.lock(rt);
+        *served = served.saturating_add(1);
+    }
+
+    // One of them was closed.
+    fn take<R: Wait>(&self, rt: &R) {
+        let mut served = self.served.lock(rt);
+        *served = served.saturating_sub(1);
+        drop(served);
+        self.fewer.notify_all();
+    }
+
+    // Waits until fewer are served than now, but not for long.
+    fn wait_for_fewer<R: Wait + Clock>(&self, rt: &R) {
+        let served = self.served.lock(rt);
+        let now = *served;
+        let long = Duration::from_secs(WAIT_SECONDS);
+        let _fewer = self
+            .fewer
+            .wait_timeout_while(rt, served, long, |served| *served >= now);
+    }
+
+    // Waits until none is served.
+    fn wait_for_none<R: Wait>(&self, rt: &R) {
+        let _none = self
+            .fewer
+            .wait_while(rt, self.served.lock(rt), |served| *served > 0);
+    }
+}
 
 // Which of the two threads of a connection.
 #[derive(Clone, Copy)]
@@ -25,14 +79,12 @@ enum Side {
     Writer,
 }
 
-// What the two threads of a connection share.
+// What the two threads of a connection share. The connection is closed with it.
 #[derive(Drop)]
 struct Wire<L: Readable, J: Naming, R: Wait + Drop, K: Link> {
     alloc: Global,
     hub: Arc<Hub<L, J, R>>,
     link: K,
-    has_read: Going,
-    has_written: Going,
 }
 
 // Tells whoever runs the server. Nobody may watch.
@@ -50,108 +102,95 @@ impl<L: Readable, J: Naming, R: Wait + Clock + Drop, K: Link> Wire<L, J, R, K> {
     // Reads from the connection until either end closes it.
     fn read(&self, rt: &R) {
         self.link.read(rt, self.alloc, &*self.hub);
-        self.has_read.end(rt);
     }
 
     // Writes to the connection until either end closes it.
     fn write(&self, rt: &R) {
         self.link.write(rt, self.alloc, &*self.hub);
-        self.has_written.end(rt);
-    }
-
-    // Whether both threads have nothing more to do.
-    fn has_ended(&self, rt: &R) -> bool {
-        self.has_read.has_ended(rt) && self.has_written.has_ended(rt)
     }
 }
 
-// Starts the thread that reads from a connection.
+// A thread has nothing more to do with a connection. The last one closes it.
+fn leave<L: Readable, J: Naming, R: Wait + Drop, K: Link>(
+    rt: &R,
+    wire: Arc<Wire<L, J, R, K>>,
+    count: &Count,
+) {
+    if let Some(wire) = Arc::into_inner(wire) {
+        drop(wire);
+        count.take(rt);
+    }
+}
+
+// Starts the thread that reads from a connection. Says whether it runs.
 fn start_reader<
     L: Readable + Send + Sync + 'static,
     J: Naming + Send + Sync + 'static,
     R: Threads + Wait + Clock + Copy + Send + Sync + Drop + 'static,
     K: Link + Send + Sync + 'static,
->(rt: R, wire: &Arc<Wire<L, J, R, K>>) -> Option<JoinHandle<()>> {
-    let wire = Arc::try_clone(wire).ok()?;
-    thread::spawn(&rt, move || wire.read(&rt)).ok()
+>(rt: R, wire: &Arc<Wire<L, J, R, K>>, count: &Arc<Count>) -> bool {
+    let (Ok(wire), Ok(count)) = (Arc::try_clone(wire), Arc::try_clone(count)) else {
+        return false;
+    };
+    thread::spawn(&rt, move || {
+        wire.read(&rt);
+        leave(&rt, wire, &*count);
+    })
+    .is_ok()
 }
 
-// Starts the thread that writes to a connection.
+// Starts the thread that writes to a connection. Says whether it runs.
 fn start_writer<
     L: Readable + Send + Sync + 'static,
     J: Naming + Send + Sync + 'static,
     R: Threads + Wait + Clock + Copy + Send + Sync + Drop + 'static,
     K: Link + Send + Sync + 'static,
->(rt: R, wire: &Arc<Wire<L, J, R, K>>) -> Option<JoinHandle<()>> {
-    let wire = Arc::try_clone(wire).ok()?;
-    thread::spawn(&rt, move || wire.write(&rt)).ok()
+>(rt: R, wire: &Arc<Wire<L, J, R, K>>, count: &Arc<Count>) -> bool {
+    let (Ok(wire), Ok(count)) = (Arc::try_clone(wire), Arc::try_clone(count)) else {
+        return false;
+    };
+    thread::spawn(&rt, move || {
+        wire.write(&rt);
+        leave(&rt, wire, &*count);
+    })
+    .is_ok()
 }
 
-// A connection that is served, with the threads that do so.
+/// The connections that are served, each by two threads. The last of them closes the connection.
 #[derive(Drop)]
-struct Seat<L: Readable, J: Naming, R: Wait + Drop, K: Link> {
-    wire: Arc<Wire<L, J, R, K>>,
-    reader: JoinHandle<()>,
-    writer: JoinHandle<()>,
-}
-
-impl<L: Readable, J: Naming, R: Threads + Wait + Clock + Drop, K: Link> Seat<L, J, R, K> {
-    // Waits until both threads have ended.
-    fn join(self, rt: &R) {
-        let Seat {
-            wire: _,
-            reader,
-            writer,
-        } = self;
-        reader.join(rt);
-        writer.join(rt);
-    }
-}
-
-/// The connections that are served, each by two threads.
-#[derive(Drop)]
-pub(crate) struct Seats<L: Readable, J: Naming, R: Threads + Wait + Clock + Drop, K: Link> {
+pub(crate) struct Seats<L: Readable, J: Naming, R: Threads + Wait + Clock + Drop> {
     rt: R,
     alloc: Global,
     hub: Arc<Hub<L, J, R>>,
-    seats: Vec<Seat<L, J, R, K>>,
+    count: Arc<Count>,
 }
 
 impl<
     L: Readable + Send + Sync + 'static,
     J: Naming + Send + Sync + 'static,
     R: Eprint + Threads + Wait + Clock + Copy + Send + Sync + Drop + 'static,
-    K: Link + Send + Sync + 'static,
-> Seats<L, J, R, K> {
+> Seats<L, J, R> {
     /// No connection is served.
-    pub(crate) fn new(rt: R, alloc: Global, hub: Arc<Hub<L, J, R>>) -> Self {
-        Seats {
+    ///
+    /// # Errors
+    ///
+    /// Only if memory runs out.
+    pub(crate) fn new(rt: R, alloc: Global, hub: Arc<Hub<L, J, R>>) -> Result<Self, AllocError> {
+        Ok(Seats {
             rt,
             alloc,
             hub,
-            seats: Vec::new(alloc),
-        }
+            count: Arc::new(alloc, Count::new())?,
+        })
     }
 
-    // Joins the threads of the connection in this place, if it has ended.
-    fn join_ended(&mut self, at: usize) {
-        let rt = self.rt;
-        match self.seats.get(at) {
-            Some(seat) if seat.wire.has_ended(&rt) => {}
-            _ => return,
-        }
-        if at < self.seats.len() {
-            self.seats.swap_remove(at).join(&rt);
-        }
-    }
-
-    /// The next connection of a listener. If it can't be taken now, connections that have ended are
-    /// closed, so that it can have their files, and it is taken later.
+    /// The next connection of a listener. If it can't be taken now, since the process has as many
+    /// files as it may have, it is taken once a connection was closed or a second has passed.
     ///
     /// # Errors
     ///
     /// `Other`, if the listener never works again.
-    pub(crate) fn accept(&mut self, listener: &TcpListener) -> Result<TcpStream, NetFault> {
+    pub(crate) fn accept(&self, listener: &TcpListener) -> Result<TcpStream, NetFault> {
         let rt = self.rt;
         let mut has_told = false;
         for _ in rt.forever() {
@@ -160,35 +199,31 @@ impl<
                 Err(error) if is_for_good(&error) => return Err(NetFault::Other),
                 Err(_) => {}
             }
-            self.count();
             if !has_told {
                 warn(&rt, "no connection can be taken now; the server waits");
                 has_told = true;
             }
-            thread::sleep(&rt, Duration::from_millis(PAUSE_MILLIS));
+            self.count.wait_for_fewer(&rt);
         }
         unreachable!()
     }
 
-    /// How many connections are served. Joins the threads of those that have ended.
-    pub(crate) fn count(&mut self) -> usize {
-        for at in (0..self.seats.len()).rev() {
-            self.join_ended(at);
-        }
-        self.seats.len()
+    /// How many connections are served.
+    pub(crate) fn count(&self) -> usize {
+        self.count.get(&self.rt)
     }
 
     // Starts a thread of a connection, as soon as it can be started.
-    fn start(&self, side: Side, wire: &Arc<Wire<L, J, R, K>>) -> JoinHandle<()> {
+    fn start<K: Link + Send + Sync + 'static>(&self, side: Side, wire: &Arc<Wire<L, J, R, K>>) {
         let rt = self.rt;
         let mut has_told = false;
         for _ in rt.forever() {
-            let started = match side {
-                Side::Reader => start_reader(rt, wire),
-                Side::Writer => start_writer(rt, wire),
+            let runs = match side {
+                Side::Reader => start_reader(rt, wire, &self.count),
+                Side::Writer => start_writer(rt, wire, &self.count),
             };
-            if let Some(handle) = started {
-                return handle;
+            if runs {
+                return;
             }
             if !has_told {
                 warn(&rt, "no thread can be started now; the server waits");
@@ -196,7 +231,6 @@ impl<
             }
             thread::sleep(&rt, Duration::from_millis(PAUSE_MILLIS));
         }
-        unreachable!()
     }
 
     /// Serves a connection, from as soon as threads for it can be started.
@@ -204,38 +238,24 @@ impl<
     /// # Errors
     ///
     /// If memory runs out before that; the connection is closed then.
-    pub(crate) fn serve(&mut self, link: K) -> Result<(), AllocError> {
-        self.seats.reserve(1)?;
+    pub(crate) fn serve<K: Link + Send + Sync + 'static>(&self, link: K) -> Result<(), AllocError> {
         let wire = Wire {
             alloc: self.alloc,
             hub: Arc::try_clone(&self.hub)?,
             link,
-            has_read: Going::new(),
-            has_written: Going::new(),
         };
         let Ok(wire) = Arc::new(self.alloc, wire) else {
             return Err(AllocError);
         };
-        let writer = self.start(Side::Writer, &wire);
-        let reader = self.start(Side::Reader, &wire);
-        self.seats.push_reserved(Seat {
-            wire,
-            reader,
-            writer,
-        });
+        self.count.add(&self.rt);
+        self.start(Side::Writer, &wire);
+        self.start(Side::Reader, &wire);
+        leave(&self.rt, wire, &*self.count);
         Ok(())
     }
 
     /// Waits until all connections have ended.
-    pub(crate) fn join(self) {
-        let Seats {
-            rt,
-            alloc: _,
-            hub: _,
-            seats,
-        } = self;
-        for seat in seats {
-            seat.join(&rt);
-        }
+    pub(crate) fn join(&self) {
+        self.count.wait_for_none(&self.rt);
     }
 }

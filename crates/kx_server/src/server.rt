@@ -47,15 +47,13 @@ impl<
         &self,
         threads: &mut JoinSet<R>,
         rt: R,
-        expires: bool,
-        limit: Option<Timeout>,
+        options: &ServerOptions,
     ) -> Result<(), AllocError> {
         threads.make_room()?;
         let hub = Arc::try_clone(&self.hub)?;
         let going = Arc::try_clone(&self.going)?;
-        let Ok(handle) = thread::spawn(&rt, move || {
-            keep_time(&rt, &*hub, &*going, expires, limit)
-        }) else {
+        let options = *options;
+        let Ok(handle) = thread::spawn(&rt, move || keep_time(&rt, &*hub, &*going, &options)) else {
             return Err(AllocError);
         };
         threads.push(handle);
@@ -104,7 +102,7 @@ fn take_connections<
 >(
     rt: R,
     alloc: Global,
-    seats: &mut Seats<L, J, R, P::Link>,
+    seats: &Seats<L, J, R>,
     listener: &TcpListener,
     options: &ServerOptions,
     spoken: (&P, Until),
@@ -241,14 +239,9 @@ impl<
         let (rt, alloc) = (self.rt, self.alloc);
         let hub = Arc::try_clone(&self.shared.hub)?;
         let mut clock = JoinSet::new(rt, alloc);
-        let mut seats = Seats::new(rt, alloc, hub);
-        let served = match self
-            .shared
-            .add_clock(&mut clock, rt, options.expires, options.session_timeout)
-        {
-            Ok(()) => {
-                take_connections(rt, alloc, &mut seats, listener, options, (protocol, until))
-            }
+        let seats = Seats::new(rt, alloc, hub)?;
+        let served = match self.shared.add_clock(&mut clock, rt, options) {
+            Ok(()) => { take_connections(rt, alloc, &seats, listener, options, (protocol, until)) }
             Err(_) => Err(ServerFault::Memory),
         };
         seats.join();

@@ -4,13 +4,15 @@
 //! too long are dropped.
 ghost use Rattle.std.specs.Prelude.{◌≡◌, ◌/◌, min};
 ghost use Rattle.core.specs.Duration.{as_nanos};
+ghost use Rattle.kx_server.specs.Ticking.{told_next};
 
 use crate::hub::Hub;
+use crate::options::ServerOptions;
 use kx_message::Timeout;
 use kx_published::book::Naming;
 use kx_publishing::Readable;
 use std::sync::{Condvar, Mutex, Wait};
-use std::time::{Clock, Duration};
+use std::time::{Clock, Duration, Instant};
 
 // How long a tick lasts.
 const TICK_SECONDS: u64 = 1;
@@ -40,11 +42,6 @@ impl Going {
         self.moved.notify_all();
     }
 
-    /// Whether it has ended.
-    pub(crate) fn has_ended<R: Wait>(&self, rt: &R) -> bool {
-        *self.has_ended.lock(rt)
-    }
-
     // Waits for the next tick, and says whether the server has ended meanwhile.
     fn waits<R: Wait + Clock>(&self, rt: &R) -> bool {
         let tick = Duration::from_secs(TICK_SECONDS);
@@ -62,6 +59,23 @@ fn millis_of(time: Duration) -> u64
     match u64::try_from(time.as_millis()) {
         Ok(millis) => millis,
         Err(_) => u64::MAX,
+    }
+}
+
+// What the coordinator is told of the time, in milliseconds since 1970, when it was told a time, so
+// many have passed since, and the clock on the wall shows one: a clock that is put back holds up no
+// transaction, and one that goes ahead is followed.
+fn told_next(told: u64, passed: u64, wall: u64) -> u64
+    ensures { result ≡ told_next told passed wall }
+{
+    told.saturating_add(passed).max(wall)
+}
+
+// The milliseconds that have passed between two moments, none if one of them isn't known.
+fn passed_between(earlier: &Option<Instant>, later: &Option<Instant>) -> u64 {
+    match (earlier, later) {
+        (Some(earlier), Some(later)) => millis_of(later.duration_since(*earlier)),
+        _ => 0,
     }
 }
 
@@ -100,23 +114,23 @@ fn drop_silent<L: Readable, J: Naming, R: Wait + Drop>(
     }
 }
 
-/// Ticks until the server has ended. Transactions that have lasted too long are ended only if
-/// the clock `expires` them, and members of groups that are silent for longer than `limit` are
-/// dropped only if there is one.
+/// Ticks until the server has ended. Transactions that have lasted too long are ended, and members
+/// of groups that are silent for too long dropped, only if the server is asked to.
 pub(crate) fn keep_time<L: Readable, J: Naming, R: Wait + Clock + Drop>(
     rt: &R,
     hub: &Hub<L, J, R>,
     going: &Going,
-    expires: bool,
-    limit: Option<Timeout>,
+    options: &ServerOptions,
 ) {
-    let mut last = moment(rt).unwrap_or(0);
+    let mut told = options.since;
+    let mut last = Instant::now(rt).ok();
     for _ in rt.forever() {
-        if let Some(now) = moment(rt) {
-            tick(rt, hub, expires, now);
-            drop_silent(rt, hub, &limit, now.saturating_sub(last));
-            last = now;
-        }
+        let now = Instant::now(rt).ok();
+        let passed = passed_between(&last, &now);
+        told = told_next(told, passed, moment(rt).unwrap_or(0));
+        last = now;
+        tick(rt, hub, options.expires, told);
+        drop_silent(rt, hub, &options.session_timeout, passed);
         if going.waits(rt) {
             break;
         }

@@ -1,0 +1,240 @@
+#!/usr/bin/env python3
+"""Looks at a server of stock clients where files run out, and where the clock on the wall is put
+back or forward.
+
+    edges.py PROGRAM
+
+- With at most 64 open files the server says how many connections it takes, serves so many at a time,
+  closes one more at once, and serves others when these have closed, however often.
+- After 1,000 connections that came and went, a new one is answered at once.
+- A transaction whose time is up is ended though the clock is put back by an hour; so is one after
+  the clock was ten years ahead for a while, also after a restart. (This needs a C compiler.)
+
+Ends with status 1 if one of these isn't so. Requests are written from Kafka's protocol guide, and
+batches from docs/FORMATS.md.
+"""
+import os
+import re
+import resource
+import shutil
+import signal
+import socket
+import struct
+import subprocess
+import sys
+import tempfile
+import time
+
+from frames import crc32c, varint
+
+FAILED = []
+
+
+def say(what, is_right, *more):
+    print(("ok     " if is_right else "FAILED ") + what, *more, flush=True)
+    if not is_right:
+        FAILED.append(what)
+
+
+def text(it):
+    return struct.pack(">h", len(it)) + it.encode()
+
+
+class Client:
+    """A connection, over which requests are sent and answered one after the other."""
+
+    def __init__(self, port):
+        self.socket = socket.create_connection(("127.0.0.1", port), timeout=10)
+
+    def ask(self, api, version, fields=b""):
+        """The fields of the answer; nothing if the server closed the connection."""
+        body = struct.pack(">hhi", api, version, 7) + text("edges") + fields
+        try:
+            self.socket.sendall(struct.pack(">i", len(body)) + body)
+            answer = self.take(struct.unpack(">i", self.take(4))[0])
+        except (OSError, EOFError):
+            return b""
+        return answer[4:]
+
+    def take(self, count):
+        taken = b""
+        while len(taken) < count:
+            more = self.socket.recv(count - len(taken))
+            if not more:
+                raise EOFError
+            taken += more
+        return taken
+
+    def is_served(self):
+        """Whether a request for versions is answered."""
+        return len(self.ask(18, 0)) > 6
+
+    def close(self):
+        self.socket.close()
+
+
+class Server:
+    """PROGRAM kafka, with what it says on standard error in a file."""
+
+    def __init__(self, *words, files=None, clock=None):
+        self.said = tempfile.TemporaryFile("w+")
+        env = dict(os.environ)
+        if clock:
+            env.update(LD_PRELOAD=clock[0], CLOCK=clock[1])
+
+        def limited():
+            if files:
+                resource.setrlimit(resource.RLIMIT_NOFILE, (files, files))
+
+        self.process = subprocess.Popen(
+            [sys.argv[1], "kafka", "--port", "0", *words], stdout=subprocess.PIPE, stderr=self.said,
+            text=True, env=env, preexec_fn=limited)
+        line = self.process.stdout.readline().split()
+        if len(line) != 2:
+            self.process.wait()
+            raise SystemExit(f"the server said {line}, and {self.words()}")
+        self.port = int(line[1])
+
+    def words(self):
+        self.said.seek(0)
+        return self.said.read()
+
+    def end(self):
+        self.process.send_signal(signal.SIGKILL)
+        self.process.wait()
+
+
+def files_run_out():
+    server = Server(files=64)
+    found = re.search(r"at most (\d+) connections at a time: 64 files may be open", server.words())
+    say("the limit of connections is said", bool(found), server.words().strip())
+    most = int(found[1]) if found else 30
+    for turn in range(3):
+        clients = [Client(server.port) for _ in range(most)]
+        say(f"{most} connections at a time, turn {turn + 1}", all(it.is_served() for it in clients))
+        more = Client(server.port)
+        say("one more is closed", not more.is_served())
+        more.close()
+        for it in clients:
+            it.close()
+        begun, served = time.time(), False
+        while not served and time.time() < begun + 10:
+            it = Client(server.port)
+            served = it.is_served()
+            it.close()
+        say("another is served afterwards", served, f"{time.time() - begun:.2f} s")
+        # the others of this turn may be closing still
+        time.sleep(1)
+    say("the server held on", server.process.poll() is None)
+    server.end()
+
+
+def many_gone():
+    server = Server()
+    clients = []
+    for _ in range(1000):
+        it = Client(server.port)
+        it.is_served()
+        clients.append(it)
+    for it in clients:
+        it.close()
+    time.sleep(5)
+    begun = time.time()
+    it = Client(server.port)
+    is_served = it.is_served()
+    took = time.time() - begun
+    say("served after 1,000 connections are gone", is_served and took < 1, f"{took * 1000:.1f} ms")
+    it.close()
+    server.end()
+
+
+def batch(held, epoch, sequence):
+    """A batch of one record in a transaction."""
+    record = bytes([0, 0, 0, 1]) + varint(4) + b"rent" + b"\0"
+    body = struct.pack(">hiqqqhii", 0x10, 0, 0, 0, held, epoch, sequence, 1)
+    body += varint(len(record)) + record
+    return struct.pack(">qiibI", 0, len(body) + 9, 0, 2, crc32c(body)) + body
+
+
+def begin(port, timeout):
+    """Writes a record in a transaction that may last so many milliseconds: the client, its id and its
+    epoch, and the code of the answer."""
+    client = Client(port)
+    client.ask(3, 1, struct.pack(">i", 1) + text("bills"))
+    for _ in range(100):
+        answer = client.ask(22, 0, text("pay") + struct.pack(">i", timeout))
+        _, code, held, epoch = struct.unpack(">ihqh", answer[:16])
+        if code == 0:
+            break
+        time.sleep(0.1)
+    topic = struct.pack(">i", 1) + text("bills") + struct.pack(">i", 1)
+    client.ask(24, 0, text("pay") + struct.pack(">qh", held, epoch) + topic + struct.pack(">i", 0))
+    records = batch(held, epoch, 0)
+    fields = text("pay") + struct.pack(">hi", -1, 30000) + topic
+    fields += struct.pack(">ii", 0, len(records)) + records
+    answer = client.ask(0, 3, fields)
+    # in front of the code: how many topics, the name, how many partitions, the partition
+    code = struct.unpack(">h", answer[4 + 7 + 4 + 4:][:2])[0]
+    return client, held, epoch, code
+
+
+def commit(client, held, epoch):
+    """The code that a commit is answered."""
+    answer = client.ask(26, 0, text("pay") + struct.pack(">qhb", held, epoch, 1))
+    return struct.unpack(">ih", answer[:6])[1]
+
+
+def the_clock_moves():
+    if not shutil.which("cc"):
+        print("skipped: there is no C compiler, so the clock isn't moved")
+        return
+    with tempfile.TemporaryDirectory() as room:
+        shim, clock, logs = f"{room}/clock.so", f"{room}/clock", f"{room}/logs"
+        here = os.path.dirname(os.path.realpath(__file__))
+        subprocess.run(["cc", "-shared", "-fPIC", "-o", shim, f"{here}/clock.c"], check=True)
+
+        def put(seconds):
+            with open(f"{clock}.new", "w") as it:
+                it.write(str(seconds))
+            os.rename(f"{clock}.new", clock)
+
+        put(0)
+        server = Server("--dir", logs, clock=(shim, clock))
+        client, held, epoch, code = begin(server.port, 60000)
+        say("a transaction is committed", (code, commit(client, held, epoch)) == (0, 0))
+        client, held, epoch, code = begin(server.port, 1000)
+        put(-3600)
+        time.sleep(5)
+        ended = commit(client, held, epoch)
+        say("ended, though the clock was put back", code == 0 and ended != 0, f"code {ended}")
+        put(315360000)
+        time.sleep(3)
+        client, held, epoch, code = begin(server.port, 60000)
+        say("committed ten years ahead", (code, commit(client, held, epoch)) == (0, 0))
+        put(0)
+        client, held, epoch, code = begin(server.port, 1000)
+        time.sleep(5)
+        ended = commit(client, held, epoch)
+        say("ended, though the clock was ahead before", code == 0 and ended != 0, f"code {ended}")
+        client, held, epoch, code = begin(server.port, 2000)
+        server.end()
+        server = Server("--dir", logs, clock=(shim, clock))
+        time.sleep(6)
+        client = Client(server.port)
+        ended = commit(client, held, epoch)
+        say("ended after a restart", code == 0 and ended != 0, f"code {ended}")
+        server.end()
+
+
+def main():
+    soft, hard = resource.getrlimit(resource.RLIMIT_NOFILE)
+    resource.setrlimit(resource.RLIMIT_NOFILE, (min(8192, hard), hard))
+    files_run_out()
+    many_gone()
+    the_clock_moves()
+    print(f"{len(FAILED)} failed")
+    return 1 if FAILED else 0
+
+
+if __name__ == "__main__":
+    sys.exit(main())
