@@ -10,23 +10,19 @@
 //! Prints of each case and each file whether its answers came, and how many failed.
 //!
 //! `runs` and `trial` try runs of the program, with its arguments and streams passed in and what
-//! each has to write; `demos`, with `events` and `happened`, demonstrations, with what each has to
-//! print and what happened in it; `output` keeps what is written.
+//! each has to write; `output` keeps what is written.
 #![tactic(auto)]
 
 ghost use Rattle.std.specs.Prelude.{◌≤◌, IfOk};
 
-mod demos;
-mod events;
-mod happened;
 mod output;
 mod runs;
 mod trial;
 
-use crate::demos::try_demo;
 use crate::trial::try_program;
 use kx_cases::{Tally, tell};
 use kx_cases_clients::try_clients;
+use kx_cases_demos::try_demo;
 use kx_cases_example::try_example;
 use kx_cases_formats::try_formats;
 use kx_cases_groups::try_groups;

@@ -21,9 +21,9 @@
 //!   on, and `count WORDS` the same, but of standard error it tells only how many lines there are;
 //! - `no_words KIND` runs it if its words can't be had: `text` if one isn't text, `memory`
 //!   if memory ran out.
-use crate::happened::Happened;
 use crate::output::Output;
 use kx_cases::{Giving, StepFault, Texts, value};
+use kx_cases_demos::Happened;
 use kx_program::run;
 use kx_text::Ending;
 use std::alloc::{AllocError, Global};

@@ -8,7 +8,7 @@ const LOOKS: usize = 100;
 
 /// The events of a trace, and the lines of the logs after them.
 #[derive(Drop)]
-pub(crate) struct Happened<'a> {
+pub struct Happened<'a> {
     events: Vec<Event<'a>>,
     logs: Vec<&'a str>,
 }
@@ -36,7 +36,7 @@ fn some(count: usize) -> &'static str {
 
 impl<'a> Happened<'a> {
     /// What a trace tells. Its events are numbered from 0 on.
-    pub(crate) fn new(alloc: Global, trace: &'a str) -> Result<Happened<'a>, StepFault> {
+    pub fn new(alloc: Global, trace: &'a str) -> Result<Happened<'a>, StepFault> {
         let mut events = Vec::new(alloc);
         let mut logs = Vec::new(alloc);
         let mut is_log = false;
@@ -179,7 +179,7 @@ impl<'a> Happened<'a> {
     /// `looks`, whether a client looked for a frame more than 1,000 times; `dropped`, how often a
     /// member was dropped; `refused`, whether a member's offsets were refused as of no member;
     /// `logs`, of how many partitions the logs are shown.
-    pub(crate) fn tell(&self, fact: &str, told: &mut String) -> Result<(), StepFault> {
+    pub fn tell(&self, fact: &str, told: &mut String) -> Result<(), StepFault> {
         match fact {
             "lost" => writeln!(told, "lost {}", some(self.lost()))?,
             "repeated" => writeln!(told, "repeated {}", some(self.repeated()))?,
