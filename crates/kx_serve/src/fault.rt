@@ -14,7 +14,7 @@ use thiserror::Error;
 /// What a fault of a server is about.
 #[derive(Clone, Copy, Debug, PartialEq, Eq)]
 pub enum About {
-    /// Nothing that is in a folder.
+    /// The fault is about nothing that is in a folder.
     Neither,
     /// The folder of the logs.
     Logs,

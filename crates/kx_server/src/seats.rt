@@ -25,7 +25,7 @@ struct Count {
 }
 
 impl Count {
-    // None is served.
+    // Counts no connection yet.
     fn new() -> Count {
         Count {
             served: Mutex::new(0),
@@ -33,18 +33,18 @@ impl Count {
         }
     }
 
-    // How many are served now.
+    // How many connections are served now.
     fn get<R: Wait>(&self, rt: &R) -> usize {
         *self.served.lock(rt)
     }
 
-    // One more is served.
+    // Counts a connection that is served from now on.
     fn add<R: Wait>(&self, rt: &R) {
         let mut served = self.served.lock(rt);
         *served = served.saturating_add(1);
     }
 
-    // One of them was closed.
+    // Counts a connection that was closed, and wakes who waits for that.
     fn take<R: Wait>(&self, rt: &R) {
         let mut served = self.served.lock(rt);
         *served = served.saturating_sub(1);
