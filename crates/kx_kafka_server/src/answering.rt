@@ -39,6 +39,11 @@ pub(crate) enum Answer {
     Nothing,
 }
 
+// Whether a name is one that Kafka keeps for topics of its own: no client's question makes them.
+fn is_internal(name: &[u8]) -> bool {
+    matches!(name, [b'_', b'_', ..])
+}
+
 // The text of a request, with what it is answered by.
 #[derive(Drop)]
 pub(crate) struct Asked<'a> {
@@ -129,7 +134,7 @@ impl<'a, L: Readable, J: Naming, R: Wait + Clock + Drop> Session<'a, L, J, R> {
         if !is_topic_name(name) {
             return TopicAnswer::Refused(GatewayCode::InvalidTopic.number());
         }
-        if !may_make || !self.link.shared.makes_topics {
+        if !may_make || !self.link.shared.makes_topics || is_internal(name) {
             return TopicAnswer::Refused(ErrorCode::UnknownTopicOrPartition.number());
         }
         match kept.make(self.alloc, name, 1) {
