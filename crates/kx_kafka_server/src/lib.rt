@@ -14,6 +14,7 @@ mod grouping;
 mod groups;
 mod inbox;
 mod kept;
+mod left;
 mod link;
 mod numbers;
 mod producers;

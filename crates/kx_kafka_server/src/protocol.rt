@@ -4,11 +4,13 @@ use crate::answering::Session;
 use crate::fault::{GatewayFault, GatewayFile};
 use crate::groups::Groups;
 use crate::kept::Lines;
+use crate::left::aborts_of;
 use crate::link::StockLink;
 use crate::numbers::Numbers;
 use crate::producers::Producers;
 use crate::table::Table;
 use kx_gateway::Topics;
+use kx_message::{EndTxn, Message};
 use kx_published::book::Naming;
 use kx_publishing::Readable;
 use kx_server::{Hub, Link, Peer, Protocol};
@@ -51,6 +53,8 @@ pub struct GatewayOptions<'a> {
 #[derive(Drop)]
 pub struct Kafka {
     shared: Arc<Shared>,
+    // what ends the server's own transactions that are under way from before
+    left: Vec<EndTxn>,
 }
 
 impl Kafka {
@@ -77,8 +81,9 @@ impl Kafka {
             makes_topics: options.makes_topics,
             address: Address::of(alloc, options.advertise)?,
         };
+        let left = aborts_of(alloc, entries)?;
         match Arc::new(alloc, shared) {
-            Ok(shared) => Ok(Kafka { shared }),
+            Ok(shared) => Ok(Kafka { shared, left }),
             Err(_) => Err(GatewayFault::Memory),
         }
     }
@@ -103,6 +108,14 @@ impl Protocol for Kafka {
     // The server knows its members' sessions only while it runs.
     fn may_return(&self) -> bool {
         false
+    }
+
+    fn left(&self, alloc: Global) -> Result<Vec<Message>, AllocError> {
+        let mut messages = Vec::new(alloc);
+        for end in &self.left {
+            messages.push(Message::EndTxn(*end))?;
+        }
+        Ok(messages)
     }
 }
 

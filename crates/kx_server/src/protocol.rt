@@ -3,6 +3,7 @@ use crate::connection::Connection;
 use crate::hub::Hub;
 use crate::options::{Partitions, ServerOptions};
 use crate::peer::Peer;
+use kx_message::Message;
 use kx_published::book::Naming;
 use kx_publishing::Readable;
 use std::alloc::{AllocError, Global};
@@ -49,6 +50,14 @@ pub trait Protocol: Drop {
     /// Whether members of groups that the log has may still be there when a server begins. If
     /// they can't, they leave their groups before a connection is served.
     fn may_return(&self) -> bool;
+
+    /// What the core is asked for before a connection is served, since a server before left it
+    /// undone.
+    ///
+    /// # Errors
+    ///
+    /// Only if memory runs out.
+    fn left(&self, alloc: Global) -> Result<Vec<Message>, AllocError>;
 }
 
 /// The project's own protocol: frames of messages.
@@ -96,6 +105,10 @@ impl Protocol for OwnFrames {
 
     fn may_return(&self) -> bool {
         true
+    }
+
+    fn left(&self, alloc: Global) -> Result<Vec<Message>, AllocError> {
+        Ok(Vec::new(alloc))
     }
 }
 

@@ -15,7 +15,7 @@ use crate::seats::Seats;
 use crate::sessions::Member;
 use crate::ticking::{Going, keep_time};
 use crate::watches::Watches;
-use kx_message::Timeout;
+use kx_message::Message;
 use kx_nodes::{JoinSet, Receipt, Workers};
 use kx_published::book::Naming;
 use kx_publishing::{PublishedMachine, Readable};
@@ -217,14 +217,18 @@ impl<
     }
 
     // Members of groups from before the server began are given their time from now on, if they
-    // may return. Else they leave, as does one for whose session memory runs out.
-    fn begin_with(&self, members: &[Member], may_return: bool) {
+    // may return. Else they leave, as does one for whose session memory runs out. What was left
+    // undone is asked for.
+    fn begin_with(&self, members: &[Member], may_return: bool, left: Vec<Message>) {
         let hub = &self.shared.hub;
         for member in members {
             let stays = may_return && hub.sessions.add(&self.rt, *member).is_ok();
             if !stays {
                 hub.drop_member(&self.rt, *member);
             }
+        }
+        for message in left {
+            hub.deliver(&self.rt, message);
         }
     }
 
@@ -341,9 +345,10 @@ pub fn serve_nodes<
     let listener = listen(&rt, port)?;
     tell(out, "listening", usize::from(port_of(&listener)?))?;
     let Nodes { places, members } = nodes;
-    let server = Server::start(rt, alloc, places, WORKERS)?;
     let (protocol, until) = spoken;
-    server.begin_with(members.as_slice(), protocol.may_return());
+    let left = protocol.left(alloc)?;
+    let server = Server::start(rt, alloc, places, WORKERS)?;
+    server.begin_with(members.as_slice(), protocol.may_return(), left);
     // Nodes without traces in memory leave no receipts.
     server.serve_speaking(&listener, options, protocol, until)?;
     Ok(())

@@ -1,0 +1,50 @@
+//! Transactions of the server's own that a server before it left open.
+use crate::committing::is_own;
+use indexmap::IndexMap;
+use kx_message::{Caller, EndTxn, Held, Outcome};
+use kx_txnlog::{Entry, Row, State};
+use std::alloc::{AllocError, Global};
+
+// The request that aborts the transaction of a row.
+fn abort_of(row: &Row) -> EndTxn {
+    EndTxn {
+        caller: Caller {
+            client: row.owner,
+            correlation: 0,
+        },
+        txn: row.txn,
+        held: Held {
+            id: row.id,
+            epoch: row.epoch,
+        },
+        outcome: Outcome::Abort,
+    }
+}
+
+/// The requests that abort the transactions of the server's own that are under way by these entries.
+/// Nobody else ends them before their time is up, and until then the offsets of their groups aren't
+/// stable.
+pub(crate) fn aborts_of(alloc: Global, entries: &[Entry]) -> Result<Vec<EndTxn>, AllocError> {
+    let mut last = IndexMap::new(alloc);
+    for entry in entries {
+        if let Entry::Row(row) = entry
+            && is_own(&row.txn)
+        {
+            let left = if row.state == State::Ongoing {
+                Some(abort_of(row))
+            } else {
+                None
+            };
+            if last.insert(row.txn, left).is_err() {
+                return Err(AllocError);
+            }
+        }
+    }
+    let mut aborts = Vec::new(alloc);
+    for (_, left) in last.iter() {
+        if let Some(abort) = left {
+            aborts.push(*abort)?;
+        }
+    }
+    Ok(aborts)
+}
