@@ -7,6 +7,8 @@ back or forward.
 - With at most 64 open files the server says how many connections it takes, serves so many at a time,
   closes one more at once, and serves others when these have closed, however often.
 - After 1,000 connections that came and went, a new one is answered at once.
+- After a server was killed while it committed offsets, they can be read within seconds of the next
+  start.
 - A transaction whose time is up is ended though the clock is put back by an hour; so is one after
   the clock was ten years ahead for a while, also after a restart. (This needs a C compiler.)
 
@@ -14,6 +16,7 @@ Ends with status 1 if one of these isn't so. Requests are written from Kafka's p
 batches from docs/FORMATS.md.
 """
 import os
+import random
 import re
 import resource
 import shutil
@@ -23,6 +26,7 @@ import struct
 import subprocess
 import sys
 import tempfile
+import threading
 import time
 
 from frames import crc32c, varint
@@ -46,9 +50,9 @@ class Client:
     def __init__(self, port):
         self.socket = socket.create_connection(("127.0.0.1", port), timeout=10)
 
-    def ask(self, api, version, fields=b""):
+    def ask(self, api, version, fields=b"", tags=b""):
         """The fields of the answer; nothing if the server closed the connection."""
-        body = struct.pack(">hhi", api, version, 7) + text("edges") + fields
+        body = struct.pack(">hhi", api, version, 7) + text("edges") + tags + fields
         try:
             self.socket.sendall(struct.pack(">i", len(body)) + body)
             answer = self.take(struct.unpack(">i", self.take(4))[0])
@@ -148,6 +152,45 @@ def many_gone():
     server.end()
 
 
+def commits_until_killed(server, client):
+    """Commits offsets until the server is killed, a little while after the first."""
+    topic = struct.pack(">i", 1) + text("bills") + struct.pack(">i", 1)
+    kill = threading.Timer(random.uniform(0.02, 0.3), server.end)
+    kill.start()
+    for offset in range(100000):
+        partition = struct.pack(">iqh", 0, offset, -1)
+        fields = text("g") + struct.pack(">i", -1) + text("") + struct.pack(">q", -1)
+        if not client.ask(8, 2, fields + topic + partition):
+            break
+    kill.join()
+
+
+def stable_code(client):
+    """The code of a group's stable offset, of version 7: 88 if a transaction holds it."""
+    topic = b"\2" + b"\6bills" + b"\2" + struct.pack(">i", 0) + b"\0"
+    answer = client.ask(9, 7, b"\2g" + topic + b"\1\0", tags=b"\0")
+    # tags, throttling, topics, the name, partitions, the partition, its offset and epoch, metadata
+    return struct.unpack(">h", answer[1 + 4 + 1 + 6 + 1 + 4 + 8 + 4 + 1:][:2])[0]
+
+
+def killed_within_commits():
+    longest, held = 0, 0
+    with tempfile.TemporaryDirectory() as room:
+        for _ in range(12):
+            server = Server("--dir", f"{room}/logs")
+            begun = time.time()
+            client = Client(server.port)
+            client.ask(3, 1, struct.pack(">i", 1) + text("bills"))
+            codes = [stable_code(client)]
+            while codes[-1] != 0 and time.time() < begun + 20:
+                time.sleep(0.05)
+                codes.append(stable_code(client))
+            longest = max(longest, time.time() - begun)
+            held += len(codes) > 1
+            commits_until_killed(server, client)
+    say("stable offsets after a kill", longest < 5, f"{longest:.1f} s at most; {held} of 12 were held")
+
+
 def batch(held, epoch, sequence):
     """A batch of one record in a transaction."""
     record = bytes([0, 0, 0, 1]) + varint(4) + b"rent" + b"\0"
@@ -231,6 +274,7 @@ def main():
     resource.setrlimit(resource.RLIMIT_NOFILE, (min(8192, hard), hard))
     files_run_out()
     many_gone()
+    killed_within_commits()
     the_clock_moves()
     print(f"{len(FAILED)} failed")
     return 1 if FAILED else 0
