@@ -5,9 +5,10 @@
 
 The `rt` of rattle-kit-13b takes the sum of a crate's files, and the list of the crates below it,
 anew along each path of crates that leads there: some two million times in this repository, which
-is hours of one processor. This loads the same `rt` and replaces these two functions,
-`Crate.stamp` and `Crate.below`, in memory. Within one call of either it keeps what the call has found of each crate; the next call begins anew. Nothing that
-`rt` proves, tries, runs or compares is other than without it.
+is hours of one processor. This loads the same `rt` and replaces these two functions, `Crate.stamp`
+and `Crate.below`, in memory. Within one call of either it keeps what the call has found of each
+crate; the next call begins anew. Nothing that `rt` proves, tries, runs or compares is other than
+without it.
 """
 import functools
 import importlib.machinery
