@@ -5,3 +5,4 @@ pub mod Reopening
 pub mod NotedTables
 pub mod NotedCounts
 pub mod Completing
+pub mod Responding

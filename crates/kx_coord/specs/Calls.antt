@@ -68,6 +68,13 @@ RespondsBy old new a reply handed (Some note) = Hands old new note (reply a.code
 abbrev pub Responds : CoordinatorState → CoordinatorState → Answer → Reply → List Message → Type 0
 Responds old new a reply handed = RespondsBy old new a reply handed a.note
 
+-- an entry is to be appended, an id isn't missing for it, and the log isn't closed
+pub record IsToAppend (co : CoordinatorState) (a : Answer) : Type 0 where
+  pub note : TxnEntry
+  pub is : a.note ≡ Some note
+  pub has_id : has_no_id note ≡ false
+  pub not_closed : co.log.closed ≡ false
+
 ------ replies to markers
 
 -- the row's entry was appended, and its markers are forgotten; or it wasn't, and nothing else

@@ -1,16 +1,15 @@
 //! A partition asks to be added to a transaction (KIP-890, "AddPartitionsToTxn").
-ghost use Rattle.std.specs.Prelude.{◌≡◌, ◌<◌, IfNone, IfOk, not, false, Some, ◌&&◌, ◌||◌};
+ghost use Rattle.std.specs.Prelude.{◌≡◌, ◌<◌, IfNone, not, false, Some, ◌&&◌, ◌||◌};
 ghost use Rattle.kx_model.specs.Coordinator.{is};
 ghost use Rattle.kx_message.specs.Ranges.{spent_epoch};
 ghost use Rattle.kx_model.specs.Requests as model;
 ghost use Rattle.kx_txnlog.specs.Entry.{row_of};
 ghost use Rattle.kx_coord.specs.Internal.Answers.{IsAnswer};
 
-use crate::answer::{Answer, refuses, repeats, writes};
-use crate::rows::added;
+use crate::answer::{Answer, refuses, repeats, writes_draft};
+use crate::rows::Fresh;
 use kx_message::{Epoch, ErrorCode, Held, PartitionId, ProducerId};
 use kx_txnlog::{Row, State};
-use std::alloc::AllocError;
 
 /// Whether there is an id, and it is this one.
 pub(crate) fn is(id: Option<ProducerId>, other: ProducerId) -> bool
@@ -53,39 +52,38 @@ pub(crate) fn is_old(row: &Row, held: &Held) -> bool
 }
 
 // The partition is listed.
-fn lists(row: &Row, partition: PartitionId, start: u64) -> Result<Answer, AllocError>
+fn lists(fresh: Fresh, row: &Row, partition: PartitionId, start: u64) -> Answer<'_>
     requires { row.now.epoch < spent_epoch }
-    ensures { IfOk result (λ answer.
-        IsAnswer answer (model.writes (model.with_added (row_of row.now) start partition))) }
+    ensures { IsAnswer result (model.writes (model.with_added (row_of row.now) start partition)) }
 {
-    let row = added(row, partition, start)?;
-    Ok(writes(Some(row)))
+    writes_draft(fresh.added(row, partition, start))
 }
 
 /// What a partition is answered if the transactional id has a row.
-pub(crate) fn add_row(
+pub(crate) fn add_row<'r>(
+    fresh: Fresh,
     clock: u64,
-    row: &Row,
+    row: &'r Row,
     held: &Held,
     partition: PartitionId,
-) -> Result<Answer, AllocError>
-    ensures { IfOk result (λ answer.
-        IsAnswer answer (model.add_at clock (Some (row_of row.now)) held.now partition)) }
+) -> Answer<'r>
+    ensures { IsAnswer result
+        (model.add_at clock (Some (row_of row.now)) held.now partition) }
 {
     if let Some(code) = refused_first(row, held) {
-        return Ok(refuses(code));
+        return refuses(code);
     }
     if is_old(row, held) {
-        return Ok(refuses(ErrorCode::ProducerFenced));
+        return refuses(ErrorCode::ProducerFenced);
     }
     match row.state {
-        State::Prepare(_) => Ok(refuses(ErrorCode::ConcurrentTransactions)),
+        State::Prepare(_) => refuses(ErrorCode::ConcurrentTransactions),
         State::Ongoing => {
             if row.partitions.contains(partition) {
-                return Ok(repeats(*held));
+                return repeats(*held);
             }
-            lists(row, partition, row.start)
+            lists(fresh, row, partition, row.start)
         }
-        State::Empty | State::Complete(_) => lists(row, partition, clock),
+        State::Empty | State::Complete(_) => lists(fresh, row, partition, clock),
     }
 }

@@ -1,5 +1,5 @@
 //! A client ends its transaction (KIP-98, "EndTxnRequest"; KIP-890).
-ghost use Rattle.std.specs.Prelude.{◌≡◌, ◌==◌, ◌+◌, IfOk, List, Some};
+ghost use Rattle.std.specs.Prelude.{◌≡◌, ◌==◌, ◌+◌, List, Some};
 ghost use Rattle.kx_model.specs.Coordinator as coordinator;
 ghost use Rattle.kx_model.specs.Coordinator.{ByEnd, TxnEntry, Ongoing};
 ghost use Rattle.kx_model.specs.Requests as model;
@@ -8,11 +8,10 @@ ghost use Rattle.kx_txnlog.specs.State.{state_of};
 ghost use Rattle.kx_coord.specs.Internal.Answers.{IsAnswer, IsNextId, is_settled};
 
 use crate::add_partition::{is, is_old, refused_first};
-use crate::answer::{Answer, held_after, own_pair, refuses, repeats, writes};
+use crate::answer::{Answer, held_after, own_pair, refuses, repeats, writes, writes_draft};
 use crate::rows::Fresh;
 use kx_message::{Epoch, ErrorCode, Held, Outcome};
 use kx_txnlog::{Cause, Row, State};
-use std::alloc::AllocError;
 
 // Whether a state is one with this outcome decided.
 fn has_outcome(outcome: Outcome, state: State) -> bool
@@ -59,7 +58,7 @@ fn ended_as(row: &Row) -> Held
 }
 
 // No partition was added: only an abort ends it.
-fn nothing_sent(fresh: Fresh, row: &Row, outcome: Outcome) -> Answer
+fn nothing_sent(fresh: Fresh, row: &Row, outcome: Outcome) -> Answer<'static>
     ensures { (log : List TxnEntry) → IsNextId log fresh.next
         → IsAnswer result (model.nothing_sent log (row_of row.now) outcome) }
 {
@@ -70,41 +69,37 @@ fn nothing_sent(fresh: Fresh, row: &Row, outcome: Outcome) -> Answer
 }
 
 // The transaction ends, and waits for its markers.
-fn decides(fresh: Fresh, row: &Row, outcome: Outcome) -> Result<Answer, AllocError>
+fn decides(fresh: Fresh, row: &Row, outcome: Outcome) -> Answer<'_>
     requires { (row_of row.now).state ≡ Ongoing }
-    ensures { IfOk result (λ answer. (log : List TxnEntry) → IsNextId log fresh.next
-        → IsAnswer answer
-        (model.writes (model.prepared log (row_of row.now) outcome ByEnd))) }
+    ensures { (log : List TxnEntry) → IsNextId log fresh.next
+        → IsAnswer result (model.writes (model.prepared log (row_of row.now) outcome ByEnd)) }
 {
-    let prepared = fresh.prepared(row, outcome, Cause::End)?;
-    Ok(writes(prepared))
+    match fresh.prepared(row, outcome, Cause::End) {
+        Some(prepared) => writes_draft(prepared),
+        None => Answer::UsedUp,
+    }
 }
 
 /// What a client is answered if the transactional id has a row.
-pub(crate) fn end_row(
-    fresh: Fresh,
-    row: &Row,
-    held: &Held,
-    outcome: Outcome,
-) -> Result<Answer, AllocError>
-    ensures { IfOk result (λ answer. (log : List TxnEntry) → IsNextId log fresh.next
-        → IsAnswer answer (model.end_at log (Some (row_of row.now)) held.now outcome)) }
+pub(crate) fn end_row<'r>(fresh: Fresh, row: &'r Row, held: &Held, outcome: Outcome) -> Answer<'r>
+    ensures { (log : List TxnEntry) → IsNextId log fresh.next
+        → IsAnswer result (model.end_at log (Some (row_of row.now)) held.now outcome) }
 {
     if let Some(code) = refused_first(row, held) {
-        return Ok(refuses(code));
+        return refuses(code);
     }
     if ends(row, held) {
         if has_outcome(outcome, row.state) {
-            return Ok(repeats(ended_as(row)));
+            return repeats(ended_as(row));
         }
-        return Ok(refuses(ErrorCode::InvalidTxnState));
+        return refuses(ErrorCode::InvalidTxnState);
     }
     if is_old(row, held) {
-        return Ok(refuses(ErrorCode::ProducerFenced));
+        return refuses(ErrorCode::ProducerFenced);
     }
     match row.state {
-        State::Empty | State::Complete(_) => Ok(nothing_sent(fresh, row, outcome)),
+        State::Empty | State::Complete(_) => nothing_sent(fresh, row, outcome),
         State::Ongoing => decides(fresh, row, outcome),
-        State::Prepare(_) => Ok(refuses(ErrorCode::ConcurrentTransactions)),
+        State::Prepare(_) => refuses(ErrorCode::ConcurrentTransactions),
     }
 }

@@ -57,9 +57,12 @@ impl<S: Store> Coordinator<S> {
         ensures refused { OnErr result (is_some (expire self.now.log.notes now) ≡ true) }
     {
         let fresh = self.fresh();
-        match overdue(now, self.table.rows()) {
+        let Some(row) = overdue(now, self.table.rows()) else {
+            return Ok(None);
+        };
+        match fresh.prepared(row, Outcome::Abort, Cause::Expiry) {
             None => Ok(None),
-            Some(row) => fresh.prepared(row, Outcome::Abort, Cause::Expiry),
+            Some(prepared) => Ok(Some(prepared.into_row()?)),
         }
     }
 

@@ -1,18 +1,18 @@
 //! A client asks for an id and an epoch (KIP-98, "InitProducerIdRequest").
-ghost use Rattle.std.specs.Prelude.{◌≡◌, ℕ, IfOk, List, None};
+ghost use Rattle.std.specs.Prelude.{◌≡◌, ℕ, List, None};
 ghost use Rattle.kx_model.specs.Coordinator.{TxnEntry, Ongoing};
 ghost use Rattle.kx_model.specs.Requests as model;
 ghost use Rattle.kx_txnlog.specs.Entry.{row_of};
 ghost use Rattle.kx_coord.specs.Internal.Answers.{IsAnswer, IsNextId};
 
 use crate::answer::{Answer, own_pair, refuses, repeats, writes};
+use crate::draft::Draft;
 use crate::rows::Fresh;
 use kx_message::{ClientId, Epoch, ErrorCode, Held, Outcome, Timeout, TxnId};
-use kx_txnlog::{Cause, Entry, Row, State};
-use std::alloc::AllocError;
+use kx_txnlog::{Cause, Row, State};
 
 // Its owner asks.
-fn asked_again(row: &Row) -> Answer
+fn asked_again(row: &Row) -> Answer<'static>
     ensures { IsAnswer result
         (model.asked_again (row_of row.now) (row_of row.now).state) }
 {
@@ -25,7 +25,7 @@ fn asked_again(row: &Row) -> Answer
 }
 
 // A later client takes the transactional id over.
-fn takes_over(fresh: Fresh, client: ClientId, timeout: Timeout, row: &Row) -> Answer
+fn takes_over(fresh: Fresh, client: ClientId, timeout: Timeout, row: &Row) -> Answer<'static>
     ensures { (log : List TxnEntry) → IsNextId log fresh.next
         → IsAnswer result (model.takes_over log client timeout (row_of row.now)) }
 {
@@ -39,46 +39,46 @@ fn takes_over(fresh: Fresh, client: ClientId, timeout: Timeout, row: &Row) -> An
 }
 
 // The owner's transaction is aborted, and the newcomer is to ask again.
-fn fences_owner(fresh: Fresh, row: &Row) -> Result<Answer, AllocError>
+fn fences_owner(fresh: Fresh, row: &Row) -> Answer<'_>
     requires { (row_of row.now).state ≡ Ongoing }
-    ensures { IfOk result (λ answer. (log : List TxnEntry) → IsNextId log fresh.next
-        → IsAnswer answer (model.fences_owner log (row_of row.now))) }
+    ensures { (log : List TxnEntry) → IsNextId log fresh.next
+        → IsAnswer result (model.fences_owner log (row_of row.now)) }
 {
-    let Some(prepared) = fresh.prepared(row, Outcome::Abort, Cause::Init)? else {
-        return Ok(Answer::UsedUp);
+    let Some(prepared) = fresh.prepared(row, Outcome::Abort, Cause::Init) else {
+        return Answer::UsedUp;
     };
-    Ok(Answer::Writes {
-        entry: Entry::Row(prepared),
+    Answer::Writes {
+        entry: Draft::Row(prepared),
         code: ErrorCode::ConcurrentTransactions,
         held: None,
-    })
+    }
 }
 
 /// What a client is answered if the transactional id has a row.
-pub(crate) fn init_row(
-    fresh: Fresh,
-    client: ClientId,
-    timeout: Timeout,
-    row: &Row,
-) -> Result<Answer, AllocError>
-    ensures { IfOk result (λ answer. (log : List TxnEntry) → IsNextId log fresh.next
-        → IsAnswer answer (model.init_row log client timeout (row_of row.now))) }
+pub(crate) fn init_row(fresh: Fresh, client: ClientId, timeout: Timeout, row: &Row) -> Answer<'_>
+    ensures { (log : List TxnEntry) → IsNextId log fresh.next
+        → IsAnswer result (model.init_row log client timeout (row_of row.now)) }
 {
     if client < row.owner {
-        return Ok(refuses(ErrorCode::ProducerFenced));
+        return refuses(ErrorCode::ProducerFenced);
     }
     if client == row.owner {
-        return Ok(asked_again(row));
+        return asked_again(row);
     }
     match row.state {
-        State::Empty | State::Complete(_) => Ok(takes_over(fresh, client, timeout, row)),
+        State::Empty | State::Complete(_) => takes_over(fresh, client, timeout, row),
         State::Ongoing => fences_owner(fresh, row),
-        State::Prepare(_) => Ok(refuses(ErrorCode::ConcurrentTransactions)),
+        State::Prepare(_) => refuses(ErrorCode::ConcurrentTransactions),
     }
 }
 
 /// What a client is answered whose transactional id is used for the first time.
-pub(crate) fn init_first(fresh: Fresh, client: ClientId, txn: TxnId, timeout: Timeout) -> Answer
+pub(crate) fn init_first(
+    fresh: Fresh,
+    client: ClientId,
+    txn: TxnId,
+    timeout: Timeout,
+) -> Answer<'static>
     ensures { (log : List TxnEntry) → IsNextId log fresh.next
         → IsAnswer result (model.writes (model.first_use log client txn timeout)) }
 {
@@ -86,7 +86,7 @@ pub(crate) fn init_first(fresh: Fresh, client: ClientId, txn: TxnId, timeout: Ti
 }
 
 /// What a client without a transactional id is answered.
-pub(crate) fn allot(fresh: Fresh) -> Answer
+pub(crate) fn allot(fresh: Fresh) -> Answer<'static>
     ensures { (log : List TxnEntry) (client timeout : ℕ) → IsNextId log fresh.next
         → IsAnswer result (model.init log client None timeout) }
 {
@@ -94,7 +94,7 @@ pub(crate) fn allot(fresh: Fresh) -> Answer
         return Answer::UsedUp;
     };
     Answer::Writes {
-        entry: Entry::Allot(id),
+        entry: Draft::Allot(id),
         code: ErrorCode::NoError,
         held: Some(Held {
             id,

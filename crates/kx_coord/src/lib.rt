@@ -7,6 +7,7 @@
 mod add_partition;
 mod answer;
 mod coordinator;
+mod draft;
 mod end_txn;
 mod expiry;
 mod fault;

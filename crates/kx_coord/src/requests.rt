@@ -1,15 +1,16 @@
 //! The requests of clients and partitions: each is answered, and its entry appended first.
-ghost use Rattle.std.specs.Prelude.{◌≡◌, ◌<◌, [], ◌∷◌, length, IfOk, OnErr, MatchResult};
+ghost use Rattle.std.specs.Prelude.{◌≡◌, [], ◌∷◌, None, IfOk, OnErr, MatchResult};
 ghost use Rattle.kx_model.specs.Coordinator as coordinator;
 ghost use Rattle.kx_model.specs.Markers.{markers_after};
 ghost use Rattle.kx_model.specs.Requests as model;
 ghost use Rattle.kx_txnlog.specs.Entry.{note_of};
 ghost use Rattle.kx_message.specs.Messages as the;
-ghost use Rattle.kx_coord.specs.Internal.Answers.{IsAnswer, reply_by};
-ghost use Rattle.kx_coord.specs.Calls.{Hands, Responds};
+ghost use Rattle.kx_message.specs.declared.code.ErrorCode.TheVariants as error;
+ghost use Rattle.kx_coord.specs.Internal.Answers.{IsAnswer, IsResponse, reply_by};
+ghost use Rattle.kx_coord.specs.Calls.{Hands, IsToAppend, Responds};
 
 use crate::add_partition::add_row;
-use crate::answer::{Answer, ReplyTo, refuses};
+use crate::answer::{Answer, ReplyTo, Response, refuses};
 use crate::coordinator::Coordinator;
 use crate::end_txn::end_row;
 use crate::init_producer_id::{allot, init_first, init_row};
@@ -18,30 +19,37 @@ use kx_log::Store;
 use kx_message::{
     AddPartition, ClientId, EndTxn, ErrorCode, InitProducerId, Message, Timeout, TxnId,
 };
-use kx_txnlog::Entry;
+use kx_messages::Messages;
+use kx_txnlog::{Entry, State};
 use std::alloc::AllocError;
 
-// This message alone, in the place of others.
-fn only(mut handed: Vec<Message>, message: Message) -> Vec<Message>
-    requires { 0 < length handed.items }
-    ensures { result.items ≡ message ∷ [] }
+// Nothing is appended: an id is missing for the entry, or the log is closed.
+fn unwritten() -> Response
+    ensures { result ≡ record { entry = None; code = error.KafkaStorageError; held = None } }
 {
-    handed.truncate(1);
-    handed[0] = message;
-    handed
+    Response {
+        entry: None,
+        code: ErrorCode::KafkaStorageError,
+        held: None,
+    }
 }
 
 impl<S: Store> Coordinator<S> {
-    // The messages of an appended entry: this one and the markers that the entry owes.
-    fn handed_with(&self, message: Message, entry: &Entry) -> Result<Vec<Message>, AllocError>
-        ensures { IfOk result (λ handed. handed.items ≡ message ∷ markers_after
+    // The messages of an appended entry: this one and the markers that the entry owes. This one
+    // alone takes no memory.
+    fn handed_with(&self, message: Message, entry: &Entry) -> Result<Messages, AllocError>
+        ensures { IfOk result (λ handed. handed ≡ message ∷ markers_after
             (coordinator.coordinator_epoch self.now.log.notes) (note_of entry.now)) }
     {
-        let mut handed = vec![in self.alloc; message]?;
-        if let Entry::Row(row) = entry {
-            push_markers(&mut handed, self.alloc, self.table.epoch, row)?;
+        let Entry::Row(row) = entry else {
+            return Ok(Messages::one(message));
+        };
+        if !matches!(row.state, State::Prepare(_)) {
+            return Ok(Messages::one(message));
         }
-        Ok(handed)
+        let mut handed = vec![in self.alloc; message]?;
+        push_markers(&mut handed, self.alloc, self.table.epoch, row)?;
+        Ok(Messages::from_vec(handed))
     }
 
     // Appends an entry. Sends this message and the markers that the entry owes, or the other one
@@ -51,82 +59,100 @@ impl<S: Store> Coordinator<S> {
         entry: Entry,
         done: Message,
         failed: Message,
-    ) -> Result<Vec<Message>, AllocError>
+    ) -> Result<Messages, AllocError>
         ensures { MatchResult result (λ handed.
-            Hands self.old self.new (note_of entry) (done ∷ []) (failed ∷ []) handed.items)
+            Hands self.old self.new (note_of entry) (done ∷ []) (failed ∷ []) handed)
             (λ refused. self.new ≡ self.old) }
     {
         let handed = self.handed_with(done, &entry)?;
         if self.append(entry)? {
             Ok(handed)
         } else {
-            Ok(only(handed, failed))
+            Ok(Messages::one(failed))
         }
     }
 
-    // Does what was decided about a request, and answers it.
-    fn respond(&mut self, answer: Answer, to: ReplyTo) -> Result<Vec<Message>, AllocError>
-        ensures ok { (a : model.Answer) → IsAnswer answer a → IfOk result
-            (λ handed. Responds self.old self.new a (reply_by to) handed.items) }
-        ensures err { OnErr result (self.new ≡ self.old) }
+    // What is done about a request that is answered so. No entry is made for a closed log.
+    fn response(&self, answer: Answer<'_>) -> Result<Response, AllocError>
+        ensures ok { (a : model.Answer) → IsAnswer answer.entry a
+            → IfOk result (IsResponse self.now a) }
+        ensures memory { (a : model.Answer) → IsAnswer answer.entry a
+            → OnErr result (IsToAppend self.now a) }
     {
         match answer {
-            Answer::Replies { code, held } => Ok(vec![in self.alloc; to.message(code, held)]?),
-            Answer::UsedUp => {
-                let failed = to.message(ErrorCode::KafkaStorageError, None);
-                Ok(vec![in self.alloc; failed]?)
-            }
+            Answer::Replies { code, held } => Ok(Response {
+                entry: None,
+                code,
+                held,
+            }),
+            Answer::UsedUp => Ok(unwritten()),
             Answer::Writes { entry, code, held } => {
-                let done = to.message(code, held);
-                let failed = to.message(ErrorCode::KafkaStorageError, None);
-                self.write(entry, done, failed)
+                if self.log.is_closed() {
+                    return Ok(unwritten());
+                }
+                let entry = entry.into_entry()?;
+                Ok(Response {
+                    entry: Some(entry),
+                    code,
+                    held,
+                })
             }
         }
+    }
+
+    // Does what is to be done about a request, and answers it. A reply alone takes no memory.
+    fn respond(&mut self, response: Response, to: &ReplyTo) -> Result<Messages, AllocError>
+        ensures ok { (a : model.Answer) → IsResponse self.old a response → IfOk result
+            (λ handed. Responds self.old self.new a (reply_by to.now) handed) }
+        ensures err { OnErr result (self.new ≡ self.old) }
+        ensures memory { (a : model.Answer) → IsResponse self.old a response
+            → OnErr result (IsToAppend self.old a) }
+    {
+        let Response { entry, code, held } = response;
+        let reply = to.message(code, held);
+        let Some(entry) = entry else {
+            return Ok(Messages::one(reply));
+        };
+        let failed = to.message(ErrorCode::KafkaStorageError, None);
+        self.write(entry, reply, failed)
     }
 
     // What a client is answered that asks for an id.
-    fn init_answer(
-        &self,
-        client: ClientId,
-        txn: Option<TxnId>,
-        timeout: Timeout,
-    ) -> Result<Answer, AllocError>
-        ensures { IfOk result (λ answer. IsAnswer answer
-            (model.init self.now.log.notes client txn timeout)) }
+    fn init_answer(&self, client: ClientId, txn: Option<TxnId>, timeout: Timeout) -> Answer<'_>
+        ensures { IsAnswer result (model.init self.now.log.notes client txn timeout) }
     {
         let fresh = self.fresh();
         let txn = match txn {
-            None => return Ok(allot(fresh)),
+            None => return allot(fresh),
             Some(txn) => txn,
         };
         let Some(row) = self.row(txn) else {
-            return Ok(init_first(fresh, client, txn, timeout));
+            return init_first(fresh, client, txn, timeout);
         };
         init_row(fresh, client, timeout, row)
     }
 
     // What a partition is answered that asks to be added.
-    fn add_answer(&self, request: &AddPartition) -> Result<Answer, AllocError>
-        ensures { IfOk result (λ answer. IsAnswer answer
-            (model.add self.now.log.notes self.now.clock request.now.txn request.now.held
-            request.now.partition)) }
+    fn add_answer(&self, request: &AddPartition) -> Answer<'_>
+        ensures { IsAnswer result (model.add self.now.log.notes self.now.clock request.now.txn
+            request.now.held request.now.partition) }
     {
         let clock = self.clock;
+        let fresh = self.fresh();
         let Some(row) = self.row(request.txn) else {
-            return Ok(refuses(ErrorCode::InvalidProducerIdMapping));
+            return refuses(ErrorCode::InvalidProducerIdMapping);
         };
-        add_row(clock, row, &request.held, request.partition)
+        add_row(fresh, clock, row, &request.held, request.partition)
     }
 
     // What a client is answered that ends its transaction.
-    fn end_answer(&self, request: &EndTxn) -> Result<Answer, AllocError>
-        ensures { IfOk result (λ answer. IsAnswer answer
-            (model.end_txn self.now.log.notes request.now.txn request.now.held
-            request.now.outcome)) }
+    fn end_answer(&self, request: &EndTxn) -> Answer<'_>
+        ensures { IsAnswer result (model.end_txn self.now.log.notes request.now.txn
+            request.now.held request.now.outcome) }
     {
         let fresh = self.fresh();
         let Some(row) = self.row(request.txn) else {
-            return Ok(refuses(ErrorCode::InvalidProducerIdMapping));
+            return refuses(ErrorCode::InvalidProducerIdMapping);
         };
         end_row(fresh, row, &request.held, request.outcome)
     }
@@ -137,51 +163,63 @@ impl<S: Store> Coordinator<S> {
     ///
     /// # Errors
     ///
-    /// Only if memory runs out; then the coordinator is as before.
-    pub fn init(&mut self, request: InitProducerId) -> Result<Vec<Message>, AllocError>
+    /// Only if memory runs out, and if an entry is to be appended and the coordinator isn't
+    /// closed; then the coordinator is as before.
+    pub fn init(&mut self, request: InitProducerId) -> Result<Messages, AllocError>
         ensures ok { IfOk result (λ handed. Responds self.old self.new
             (model.init self.old.log.notes request.caller.client request.txn request.timeout)
-            (the.InitReply request.caller) handed.items) }
+            (the.InitReply request.caller) handed) }
         ensures err { OnErr result (self.new ≡ self.old) }
+        // Memory is asked for only if an entry is to be appended, to a log that isn't closed.
+        ensures memory { OnErr result (IsToAppend self.old
+            (model.init self.old.log.notes request.caller.client request.txn request.timeout)) }
     {
         let InitProducerId {
             caller,
             txn,
             timeout,
         } = request;
-        let answer = self.init_answer(caller.client, txn, timeout)?;
-        self.respond(answer, ReplyTo::Init(caller))
+        let response = self.response(self.init_answer(caller.client, txn, timeout))?;
+        self.respond(response, &ReplyTo::Init(caller))
     }
 
     /// A partition asks to be added to the transaction of this id and epoch. Sends its reply.
     ///
     /// # Errors
     ///
-    /// Only if memory runs out; then the coordinator is as before.
-    pub fn add_partition(&mut self, request: AddPartition) -> Result<Vec<Message>, AllocError>
+    /// Only if memory runs out, and if an entry is to be appended and the coordinator isn't
+    /// closed; then the coordinator is as before.
+    pub fn add_partition(&mut self, request: AddPartition) -> Result<Messages, AllocError>
         ensures ok { IfOk result (λ handed. Responds self.old self.new
             (model.add self.old.log.notes self.old.clock request.txn request.held
             request.partition)
             (λ code after. the.AddReply request.partition request.txn request.held code)
-            handed.items) }
+            handed) }
         ensures err { OnErr result (self.new ≡ self.old) }
+        // Memory is asked for only if an entry is to be appended, to a log that isn't closed.
+        ensures memory { OnErr result (IsToAppend self.old (model.add self.old.log.notes
+            self.old.clock request.txn request.held request.partition)) }
     {
-        let answer = self.add_answer(&request)?;
-        self.respond(answer, ReplyTo::Add(request))
+        let response = self.response(self.add_answer(&request))?;
+        self.respond(response, &ReplyTo::Add(request))
     }
 
     /// A client ends its transaction. Sends its reply and the markers.
     ///
     /// # Errors
     ///
-    /// Only if memory runs out; then the coordinator is as before.
-    pub fn end_txn(&mut self, request: EndTxn) -> Result<Vec<Message>, AllocError>
+    /// Only if memory runs out, and if an entry is to be appended and the coordinator isn't
+    /// closed; then the coordinator is as before.
+    pub fn end_txn(&mut self, request: EndTxn) -> Result<Messages, AllocError>
         ensures ok { IfOk result (λ handed. Responds self.old self.new
             (model.end_txn self.old.log.notes request.txn request.held request.outcome)
-            (the.EndReply request.caller) handed.items) }
+            (the.EndReply request.caller) handed) }
         ensures err { OnErr result (self.new ≡ self.old) }
+        // Memory is asked for only if an entry is to be appended, to a log that isn't closed.
+        ensures memory { OnErr result (IsToAppend self.old
+            (model.end_txn self.old.log.notes request.txn request.held request.outcome)) }
     {
-        let answer = self.end_answer(&request)?;
-        self.respond(answer, ReplyTo::End(request.caller))
+        let response = self.response(self.end_answer(&request))?;
+        self.respond(response, &ReplyTo::End(request.caller))
     }
 }

@@ -2,18 +2,20 @@
 //!
 //! An id with its epoch is borrowed (&Held): a copied struct that is passed on twice is refused by
 //! the toolchain's borrow check.
-ghost use Rattle.std.specs.Prelude.{◌≡◌, ◌+◌, ◌<◌, [], IfOk, List, true, false};
-ghost use Rattle.kx_model.specs.Coordinator.{TxnEntry};
+ghost use Rattle.std.specs.Prelude.{◌≡◌, ◌+◌, ◌<◌, [], List, true, false};
+ghost use Rattle.kx_model.specs.Coordinator.{Prepare, TxnEntry};
 ghost use Rattle.kx_message.specs.Ranges.{spent_epoch};
 ghost use Rattle.kx_model.specs.Requests as model;
 ghost use Rattle.kx_txnlog.specs.Entry.{row_of};
 ghost use Rattle.kx_txnlog.specs.State.{cause_of, state_of};
 ghost use Rattle.kx_txnlog.specs.Ranges.{may_stand};
-ghost use Rattle.kx_coord.specs.Internal.Answers.{IsMade, IsNextId, is_settled};
+ghost use Rattle.kx_coord.specs.Internal.Answers.{IsDrafted, IsMade, IsNextId, is_settled};
+ghost use Rattle.kx_coord.specs.Internal.Drafts.{drafted};
 
+use crate::draft::{Listed, RowDraft};
 use kx_message::{ClientId, Epoch, Outcome, PartitionId, ProducerId, Timeout, TxnId};
 use kx_txnlog::{Cause, Partitions, Row, State};
-use std::alloc::{AllocError, Global};
+use std::alloc::Global;
 
 /// The next id, if one is left, and where memory is taken from.
 #[derive(Clone, Copy)]
@@ -23,23 +25,24 @@ pub(crate) struct Fresh {
 }
 
 impl Fresh {
-    /// A transaction that ends and waits for its markers.
-    pub(crate) fn prepared(
+    // The row with its epoch raised, which names this next id, with the outcome and the cause. It
+    // lists what it listed.
+    fn decided(
         self,
         row: &Row,
+        next: Option<ProducerId>,
         outcome: Outcome,
         cause: Cause,
-    ) -> Result<Option<Row>, AllocError>
+    ) -> RowDraft<'_>
         requires { row.now.epoch < spent_epoch }
-        ensures { IfOk result (λ made. (log : List TxnEntry) → IsNextId log self.next
-            → IsMade (model.prepared log (row_of row.now) outcome (cause_of cause)) made) }
+        ensures { drafted result ≡ record (row_of row.now) {
+          epoch = row.now.epoch + 1;
+          next = next;
+          state = Prepare outcome;
+          cause = cause_of cause;
+        } }
     {
-        let is_last = row.epoch == Epoch::LAST;
-        let next = if is_last { self.next } else { None };
-        if is_last && next.is_none() {
-            return Ok(None);
-        }
-        Ok(Some(Row {
+        let decided = Row {
             txn: row.txn,
             id: row.id,
             epoch: row.epoch.raised().unwrap(),
@@ -50,8 +53,50 @@ impl Fresh {
             owner: row.owner,
             timeout: row.timeout,
             start: row.start,
-            partitions: row.partitions.clone()?,
-        }))
+            partitions: Partitions::new(self.alloc),
+        };
+        RowDraft {
+            row: decided,
+            listed: Listed::Before(&row.partitions),
+        }
+    }
+
+    /// A transaction that ends and waits for its markers.
+    pub(crate) fn prepared(self, row: &Row, outcome: Outcome, cause: Cause) -> Option<RowDraft<'_>>
+        requires { row.now.epoch < spent_epoch }
+        ensures { (log : List TxnEntry) → IsNextId log self.next
+            → IsDrafted (model.prepared log (row_of row.now) outcome (cause_of cause)) result }
+    {
+        if row.epoch != Epoch::LAST {
+            return Some(self.decided(row, None, outcome, cause));
+        }
+        let id = self.next?;
+        Some(self.decided(row, Some(id), outcome, cause))
+    }
+
+    /// The row with a partition listed last, unless it lists it, in a transaction that began at
+    /// this time.
+    pub(crate) fn added(self, row: &Row, partition: PartitionId, start: u64) -> RowDraft<'_>
+        requires { row.now.epoch < spent_epoch }
+        ensures { drafted result ≡ model.with_added (row_of row.now) start partition }
+    {
+        let added = Row {
+            txn: row.txn,
+            id: row.id,
+            epoch: row.epoch,
+            previous: row.previous,
+            next: row.next,
+            state: State::Ongoing,
+            cause: Cause::Add,
+            owner: row.owner,
+            timeout: row.timeout,
+            start,
+            partitions: Partitions::new(self.alloc),
+        };
+        RowDraft {
+            row: added,
+            listed: Listed::With(&row.partitions, partition),
+        }
     }
 
     // A row without partitions, as this one but for its id and epoch, the id before, the state and
@@ -142,28 +187,4 @@ impl Fresh {
             partitions: Partitions::new(self.alloc),
         })
     }
-}
-
-/// The row with a partition listed last, unless it lists it, in a transaction that began at this
-/// time.
-pub(crate) fn added(row: &Row, partition: PartitionId, start: u64) -> Result<Row, AllocError>
-    requires { row.now.epoch < spent_epoch }
-    ensures { IfOk result (λ made.
-        row_of made ≡ model.with_added (row_of row.now) start partition) }
-{
-    let mut partitions = row.partitions.clone()?;
-    partitions.insert(partition)?;
-    Ok(Row {
-        txn: row.txn,
-        id: row.id,
-        epoch: row.epoch,
-        previous: row.previous,
-        next: row.next,
-        state: State::Ongoing,
-        cause: Cause::Add,
-        owner: row.owner,
-        timeout: row.timeout,
-        start,
-        partitions,
-    })
 }

@@ -94,16 +94,16 @@ impl<S: Store> CoordinatorMachine<S> {
     }
 
     // What it answers with these messages, if its log was closed before, or wasn't.
-    fn answer(&self, was_closed: bool, messages: Vec<Message>) -> Taken
+    fn answer(&self, was_closed: bool, messages: Messages) -> Taken
         ensures { result ≡ record {
-          messages = messages.items;
+          messages = messages;
           note = note.Done;
           failed = not was_closed && self.now.log.closed;
           found = false;
         } }
     {
         Taken {
-            messages: Messages::from_vec(messages),
+            messages,
             note: Note::Done,
             failed: !was_closed && self.coordinator.is_closed(),
             found: false,
@@ -168,7 +168,7 @@ impl<S: Store> CoordinatorMachine<S> {
     {
         let was_closed = self.is_closed();
         let messages = self.coordinator.marker_reply(reply)?;
-        Ok(self.answer(was_closed, messages))
+        Ok(self.answer(was_closed, Messages::from_vec(messages)))
     }
 
     // A message comes.
@@ -193,7 +193,7 @@ impl<S: Store> CoordinatorMachine<S> {
     {
         let was_closed = self.is_closed();
         let messages = self.coordinator.expire(now)?;
-        Ok(self.answer(was_closed, messages))
+        Ok(self.answer(was_closed, Messages::from_vec(messages)))
     }
 
     // It sends again the markers that weren't answered.
@@ -202,7 +202,7 @@ impl<S: Store> CoordinatorMachine<S> {
     {
         let was_closed = self.is_closed();
         let messages = self.coordinator.remind()?;
-        Ok(self.answer(was_closed, messages))
+        Ok(self.answer(was_closed, Messages::from_vec(messages)))
     }
 
     // How many more entries its log has than this many.

@@ -1,3 +1,2 @@
 pub mod Fitting
 mod Growing
-mod Pairs

@@ -1,4 +1,3 @@
-pub mod Internal
 pub mod Logs
 pub mod Meaning
 pub mod Stores

@@ -2,9 +2,10 @@
 ghost use Rattle.std.specs.Prelude.{◌≡◌};
 ghost use Rattle.std.specs.Bool.{Decides};
 
-use crate::same::{same_message, same_offsets, same_values};
+use crate::same::same_values;
 use kx_client::Values;
 use kx_message::{ClientId, GroupId, Message, Offsets, Outcome, PartitionId};
+use kx_messages::{same_message, same_offsets};
 use std::alloc::AllocError;
 
 /// What a client is told to do (KIP-98's producer API; KIP-447).

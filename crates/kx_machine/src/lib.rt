@@ -7,14 +7,12 @@ mod fits;
 mod input;
 mod logs;
 mod machine;
-mod messages;
 mod same;
 mod taken;
 
 pub use fits::{client_making_fits, input_fits};
 pub use input::{Command, Input};
+pub use kx_messages::{Messages, same_message};
 pub use logs::steps_only_add;
 pub use machine::{Failing, Machine, Making, StoreMode};
-pub use messages::Messages;
-pub use same::same_message;
 pub use taken::{Closing, Note, Taken};

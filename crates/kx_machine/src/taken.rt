@@ -2,9 +2,9 @@
 ghost use Rattle.std.specs.Prelude.{◌≡◌};
 ghost use Rattle.std.specs.Bool.{Decides};
 
-use crate::messages::Messages;
 use kx_client::ClientFault;
 use kx_message::ErrorCode;
+use kx_messages::Messages;
 use kx_partition::Produced;
 
 /// What closed a node's log at a restart.

@@ -11,7 +11,7 @@ pub returns : goal.returns
 returns g c =
     let old = c.self.inside.coordinator in
     let new = c.add_partition.new.self in
-    let handed = c.in_ok-messages.messages.items in
+    let handed = c.in_ok-messages.messages in
     let holds = subst IsHeld (sym c.self.view_is) c.is_closed-was_closed.ensures.holds in
     let was = c.is_closed-was_closed.ensures.value
     ∙ ap (λ (s : CoordinatorState). s.log.closed) (sym c.self.view_is) in

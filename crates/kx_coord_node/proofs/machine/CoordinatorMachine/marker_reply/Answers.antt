@@ -11,12 +11,12 @@ pub returns : goal.returns
 returns g c =
     let old = c.self.inside.coordinator in
     let new = c.marker_reply.new.self in
-    let handed = c.in_ok-messages.messages.items in
+    let handed = c.from_vec.result in
     let holds = subst IsHeld (sym c.self.view_is) c.is_closed-was_closed.ensures.holds in
     let was = c.is_closed-was_closed.ensures.value
     ∙ ap (λ (s : CoordinatorState). s.log.closed) (sym c.self.view_is) in
     subst
     (λ (s : CoordinatorState). Takes (Comes (msg.MarkerReply c.args.reply)) s new c.answer.result)
     c.self.view_is (takes_reply old new c.args.reply handed c.answer.result holds
-    c.in_ok-messages.ensures.settles c.in_ok-messages.ensures.handed
+    c.in_ok-messages.ensures.settles (c.from_vec.ensures ∙ c.in_ok-messages.ensures.handed)
     (answered_so old new handed c.is_closed-was_closed.result c.answer.result c.answer.ensures was))

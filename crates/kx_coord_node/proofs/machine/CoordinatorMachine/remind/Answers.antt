@@ -7,8 +7,8 @@ use Rattle.kx_coord_node.proofs.machine.CoordinatorMachine.remind.Goals as goal
 pub returns : goal.returns
 returns g c =
     let old = c.args.self.now in
-    let handed = c.in_ok-messages.messages.items in
-    let handed_is = c.in_ok-messages.ensures.ok
+    let handed = c.from_vec.result in
+    let handed_is = c.from_vec.ensures ∙ c.in_ok-messages.ensures.ok
     ∙ ap (λ (s : CoordinatorState). remind s.log.notes s.answered) c.self.view_is in
     takes_reminder old handed c.answer.result handed_is
     (answered_so old old handed c.is_closed-was_closed.result c.answer.result c.answer.ensures

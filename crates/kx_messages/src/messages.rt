@@ -24,7 +24,7 @@ pub struct Messages {
 impl Model for Messages {
     ghost use Rattle.std.specs.Prelude.{List};
     ghost use Rattle.kx_message.specs.declared.message.Message.{Message};
-    ghost use Rattle.kx_machine.specs.Internal.{items_of};
+    ghost use Rattle.kx_messages.specs.Internal.{items_of};
 
     ghost Value = { List Message };
 

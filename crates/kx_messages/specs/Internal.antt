@@ -1,7 +1,7 @@
 -- What stands behind the contracts of this crate and in none of its public calls.
 use Rattle.std.specs.Prelude.{List, [], ◌∷◌}
-use Rattle.kx_machine.specs.declared.messages.Items.{Items}
-use Rattle.kx_machine.specs.declared.messages.Items.TheVariants.{One, Many}
+use Rattle.kx_messages.specs.declared.messages.Items.{Items}
+use Rattle.kx_messages.specs.declared.messages.Items.TheVariants.{One, Many}
 use Rattle.kx_message.specs.declared.message.Message.{Message}
 
 -- the messages of a step, one or a list

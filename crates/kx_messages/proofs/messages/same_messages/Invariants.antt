@@ -1,5 +1,5 @@
 use Rattle.std.proofs.Common.{◌≡◌, take}
-use Rattle.kx_machine.proofs.messages.same_messages.Given as goal
+use Rattle.kx_messages.proofs.messages.same_messages.Given as goal
 
 -- the messages so far are the same
 abbrev pub invariant-loop-at : goal.invariant-loop-at

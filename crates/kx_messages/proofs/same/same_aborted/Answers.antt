@@ -1,6 +1,6 @@
 use Rattle.std.proofs.lemmas.Slice.Eq.{slice_eq-Decides}
-use Rattle.kx_machine.proofs.Pairs.{aborted_is}
-use Rattle.kx_machine.proofs.same.same_aborted.Goals as goal
+use Rattle.kx_messages.proofs.Pairs.{aborted_is}
+use Rattle.kx_messages.proofs.same.same_aborted.Goals as goal
 
 pub returns : goal.returns
 returns c =
