@@ -20,6 +20,8 @@ fault_number (fault.Untold file) = 13
 fault_number (fault.Gone file) = 14
 fault_number (fault.Gateway why) = 15
 fault_number (fault.Elsewhere file) = 16
+fault_number (fault.Changed file why) = 17
+fault_number (fault.Sums file) = 18
 
 -- a folder, a file in one, or neither
 abbrev pub about_of : ServeFault → About
@@ -37,3 +39,5 @@ about_of (fault.Untold file) = about.InLogs
 about_of (fault.Gone file) = about.InTraces
 about_of (fault.Gateway why) = about.InLogs
 about_of (fault.Elsewhere file) = about.InTraces
+about_of (fault.Changed file why) = about.InLogs
+about_of (fault.Sums file) = about.InLogs

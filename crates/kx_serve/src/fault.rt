@@ -6,6 +6,7 @@ use crate::files::LogFile;
 use kx_kafka_server::GatewayFault;
 use kx_log::OpenFault;
 use kx_server::{NetFault, ServerFault};
+use kx_sums::SumFault;
 use kx_trace_files::{TraceFileFault, TraceName};
 use std::alloc::AllocError;
 use std::io::ErrorKind;
@@ -48,6 +49,21 @@ pub enum ServeFault {
         file: LogFile,
         /// Why.
         fault: OpenFault,
+    },
+    /// The log in this file isn't the one that was written, by the checksums beside it. Nothing was
+    /// served, and the log stays as it is.
+    #[error("{file}: {fault}, by the checksums beside it")]
+    Changed {
+        /// The file.
+        file: LogFile,
+        /// How it differs.
+        fault: SumFault,
+    },
+    /// The checksums of the log in this file can't be opened, read or cut. Nothing was served.
+    #[error("{file}: its checksums cannot be read")]
+    Sums {
+        /// The file.
+        file: LogFile,
     },
     /// Memory ran out, or a thread can't be started.
     #[error("out of memory")]
@@ -114,7 +130,7 @@ pub enum ServeFault {
 impl ServeFault {
     /// The number of the fault, by which another program knows it: `Net` 1, `Write` 2, `Open` 3,
     /// `Memory` 4, `Folder` 6, `InUse` 7, `NotWhole` 9, `TraceFolder` 10, `TracesInUse` 11, `Trace`
-    /// 12, `Untold` 13, `Gone` 14, `Gateway` 15, `Elsewhere` 16.
+    /// 12, `Untold` 13, `Gone` 14, `Gateway` 15, `Elsewhere` 16, `Changed` 17, `Sums` 18.
     pub fn number(self) -> u8
         ensures { result ≡ fault_number self }
     {
@@ -133,6 +149,8 @@ impl ServeFault {
             ServeFault::Gone { .. } => 14,
             ServeFault::Gateway(_) => 15,
             ServeFault::Elsewhere { .. } => 16,
+            ServeFault::Changed { .. } => 17,
+            ServeFault::Sums { .. } => 18,
         }
     }
 
@@ -145,6 +163,7 @@ impl ServeFault {
             ServeFault::Folder { .. } | ServeFault::InUse => About::Logs,
             ServeFault::TraceFolder { .. } | ServeFault::TracesInUse => About::Traces,
             ServeFault::Open { .. } | ServeFault::NotWhole { .. } => About::InLogs,
+            ServeFault::Changed { .. } | ServeFault::Sums { .. } => About::InLogs,
             ServeFault::Untold { .. } | ServeFault::Gateway(_) => About::InLogs,
             ServeFault::Trace { .. } | ServeFault::Gone { .. } => About::InTraces,
             ServeFault::Elsewhere { .. } => About::InTraces,

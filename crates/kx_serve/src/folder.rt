@@ -1,7 +1,7 @@
 //! Where a server's logs are: in memory, or in the files of a folder.
 use crate::fault::ServeFault;
 use crate::files::LogFile;
-use kx_files::FileStore;
+use kx_files::{FileStore, SummedStore, SumsFault, open_file};
 use kx_log::{MemStore, OpenFault, Store, StoreFault};
 use std::alloc::{AllocError, Global};
 use std::fs;
@@ -62,7 +62,7 @@ pub(crate) struct InFiles<'a, R: Drop> {
     pub(crate) tells_progress: bool,
 }
 
-impl<'a, R: Files<File = File> + Eprint + Drop> InFiles<'a, R> {
+impl<'a, R: Files<File = File> + AllocGlobal + Eprint + Drop> InFiles<'a, R> {
     // Reports that a log is opened, which may take a while.
     fn tell(&self, path: &str) {
         if let Ok(held) = fs::metadata(&self.rt, path) {
@@ -70,18 +70,61 @@ impl<'a, R: Files<File = File> + Eprint + Drop> InFiles<'a, R> {
             let _ = eprintln!(self.rt; "opening {path}, {} bytes", held.len());
         }
     }
+
+    // The store of the coordinator's log, compared with the checksums in `co.sum`.
+    fn summed(&self, alloc: Global, store: FileStore<File>) -> Result<SummedStore<File>, ServeFault> {
+        let file = LogFile::Coordinator;
+        let path = format!(in alloc; "{}/co.sum", self.dir)?;
+        let Ok(sums) = open_file(&self.rt, path.as_str()) else {
+            drop(store);
+            return Err(ServeFault::Sums { file });
+        };
+        match SummedStore::new(alloc, store, sums) {
+            Ok(store) => {
+                self.warn_of_unsummed(file, &store);
+                Ok(store)
+            }
+            Err((fault, store)) => {
+                drop(store);
+                Err(fault_of_sums(file, fault))
+            }
+        }
+    }
+
+    // Warns of bytes of a log that have no checksum: what was changed of them can't be known.
+    fn warn_of_unsummed(&self, file: LogFile, store: &SummedStore<File>) {
+        let len = store.len();
+        let summed = store.summed().unwrap_or(0);
+        if summed < len {
+            // Nobody may watch.
+            let _ = eprintln!(self.rt;
+                "{file}: the bytes from {summed} up to {len} have no checksum, and are taken as they are");
+        }
+    }
+}
+
+// A fault of the checksums of the log in this file.
+fn fault_of_sums(file: LogFile, fault: SumsFault) -> ServeFault {
+    match fault {
+        SumsFault::Memory => ServeFault::Memory,
+        SumsFault::Device => ServeFault::Sums { file },
+        SumsFault::Differs(fault) => ServeFault::Changed { file, fault },
+    }
 }
 
 impl<'a, R: Files<File = File> + AllocGlobal + Eprint + Drop> Folder for InFiles<'a, R> {
-    type Kept = FileStore<File>;
+    type Kept = SummedStore<File>;
 
-    fn store(&self, alloc: Global, file: LogFile) -> Result<FileStore<File>, ServeFault> {
+    fn store(&self, alloc: Global, file: LogFile) -> Result<SummedStore<File>, ServeFault> {
         let path = file.path_in(alloc, self.dir)?;
         if self.tells_progress {
             self.tell(path.as_str());
         }
         match FileStore::open(&self.rt, path.as_str()) {
-            Ok(store) => Ok(store),
+            Ok(store) => match file {
+                LogFile::Coordinator => self.summed(alloc, store),
+                LogFile::Partition(_) | LogFile::Offsets => Ok(SummedStore::plain(store)),
+            },
             Err(StoreFault::Memory) => Err(ServeFault::Memory),
             Err(StoreFault::Device) => Err(fault_in(file, OpenFault::Device)),
         }
