@@ -1,16 +1,16 @@
 #!/usr/bin/env python3
-"""Changes the coordinator's log of a server and the checksums beside it, and starts the server again.
+"""Changes the files of a server that have checksums beside them, and starts the server again.
 
     bits.py PROGRAM [--every N]
 
 A server writes a transaction that commits and one that is open, and is killed. Then, each on a copy of
-its folder:
+its folder, of co.log, of topics and of clients:
 
-- with one bit of co.log changed, or of co.sum, the start is refused, and names co.log;
-- with co.log cut at any byte, or empty, or missing, the start is refused, and names co.log;
-- with co.sum cut anywhere, empty or missing, the server starts. If bytes of co.log have no checksum
-  it says so on standard error, and from which byte on;
-- a server that ran on the folder as it was left starts without a word, so does the next one.
+- with one bit of it changed, or of its checksums, the start is refused, and names the file;
+- with it cut at any byte, or empty, or missing, the start is refused, and names the file;
+- with its checksums cut anywhere, empty or missing, the server starts. If bytes of co.log have no
+  checksum it says so on standard error, and from which byte on;
+- on the folder as it was left the server starts without a word, and so it does once more.
 
 --every N changes each Nth bit, and cuts at each Nth byte: 1 by default, which makes some 3,000 starts.
 Ends with status 1 if one of these isn't so.
@@ -38,17 +38,26 @@ def start(folder):
     return None if listened else it.returncode, words
 
 
+def copy_of(left, room):
+    copy = f"{room}/copy"
+    shutil.rmtree(copy, ignore_errors=True)
+    shutil.copytree(left, copy)
+    return copy
+
+
 class Folder:
     """A copy of a folder, in which one file is another."""
 
     def __init__(self, left, room):
         self.left, self.room = left, room
 
+    def content(self, name):
+        with open(f"{self.left}/{name}", "rb") as it:
+            return it.read()
+
     def started_with(self, name, content):
         """What a start comes to with this content of a file, or without the file."""
-        copy = f"{self.room}/copy"
-        shutil.rmtree(copy, ignore_errors=True)
-        shutil.copytree(self.left, copy)
+        copy = copy_of(self.left, self.room)
         if content is None:
             os.remove(f"{copy}/{name}")
         else:
@@ -57,10 +66,10 @@ class Folder:
         return start(copy)
 
 
-def is_refused(answer):
-    """Whether the start was refused with status 1 and a line that names the log."""
+def is_refused(answer, name):
+    """Whether the start was refused with status 1 and a line that names the file."""
     status, words = answer
-    return status == 1 and "co.log" in words and words.count("\n") == 1
+    return status == 1 and f"/{name}: " in words and words.count("\n") == 1
 
 
 def flipped(content, bit):
@@ -75,6 +84,29 @@ def each(what, tries):
     say(f"{what}, {len(tries)} tries", not wrong, *wrong[:1])
 
 
+def look_at(folder, name, sums, every):
+    """Changes a file and its checksums."""
+    content, records = folder.content(name), folder.content(sums)
+    say(f"each append to {name} has a checksum", len(records) % 12 == 0 and records, len(records) // 12)
+    for changed, of in ((name, content), (sums, records)):
+        tries = []
+        for bit in range(0, len(of) * 8, every):
+            answer = folder.started_with(changed, flipped(of, bit))
+            tries.append((f"bit {bit}", answer, is_refused(answer, name)))
+        each(f"one bit of {changed} changed", tries)
+    tries = []
+    for size in [*range(0, len(content), every), None]:
+        answer = folder.started_with(name, size if size is None else content[:size])
+        tries.append((f"{size} bytes", answer, is_refused(answer, name)))
+    each(f"{name} cut", tries)
+    tries = []
+    for size in [*range(0, len(records), every), None]:
+        status, words = folder.started_with(sums, size if size is None else records[:size])
+        is_said = words.startswith("co.log: the bytes from ") and words.count("\n") == 1
+        tries.append((f"{size} bytes", (status, words), status is None and (is_said or name != "co.log")))
+    each(f"{sums} cut", tries)
+
+
 def main():
     every = int(sys.argv[sys.argv.index("--every") + 1]) if "--every" in sys.argv else 1
     with tempfile.TemporaryDirectory() as room:
@@ -85,32 +117,11 @@ def main():
         begin(server.port, 60000)
         server.end()
         folder = Folder(left, room)
-        with open(f"{left}/co.log", "rb") as it:
-            log = it.read()
-        with open(f"{left}/co.sum", "rb") as it:
-            sums = it.read()
-        say("each append has a checksum", len(sums) % 12 == 0 and len(sums) > 24, len(sums) // 12)
-        say("a folder as it was left", folder.started_with("co.log", log) == (None, ""))
+        say("a folder as it was left", start(copy_of(left, room)) == (None, ""))
         # (the copy was served, so its log has an entry more)
         say("and once more", start(f"{room}/copy") == (None, ""))
-        for name, content in (("co.log", log), ("co.sum", sums)):
-            tries = []
-            for bit in range(0, len(content) * 8, every):
-                answer = folder.started_with(name, flipped(content, bit))
-                tries.append((f"bit {bit}", answer, is_refused(answer)))
-            each(f"one bit of {name} changed", tries)
-        tries = []
-        for size in range(0, len(log), every):
-            answer = folder.started_with("co.log", log[:size])
-            tries.append((f"{size} bytes", answer, is_refused(answer)))
-        answer = folder.started_with("co.log", None)
-        each("co.log cut", tries + [("missing", answer, is_refused(answer))])
-        tries = []
-        for size in [*range(0, len(sums), every), None]:
-            status, words = folder.started_with("co.sum", size if size is None else sums[:size])
-            is_said = words.startswith("co.log: the bytes from ") and words.count("\n") == 1
-            tries.append((f"{size} bytes", (status, words), status is None and is_said))
-        each("co.sum cut", tries)
+        for name, sums in (("co.log", "co.sum"), ("topics", "topics.sum"), ("clients", "clients.sum")):
+            look_at(folder, name, sums, every)
     print(f"{len(edges.FAILED)} failed")
     return 1 if edges.FAILED else 0
 

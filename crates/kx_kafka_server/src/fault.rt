@@ -1,4 +1,5 @@
 //! Why stock clients aren't served.
+use kx_sums::SumFault;
 use std::alloc::AllocError;
 use std::fmt;
 use std::fmt::{Display, Formatter};
@@ -40,6 +41,20 @@ pub enum GatewayFault {
     /// A file can't be read or written.
     #[error("{file}: the device failed")]
     Device {
+        /// The file.
+        file: GatewayFile,
+    },
+    /// A file isn't the one that was written, by the checksums beside it.
+    #[error("{file}: {fault}, by the checksums beside it")]
+    Changed {
+        /// The file.
+        file: GatewayFile,
+        /// How it differs.
+        fault: SumFault,
+    },
+    /// The checksums of a file can't be opened, read or cut.
+    #[error("{file}: its checksums cannot be read")]
+    Sums {
         /// The file.
         file: GatewayFile,
     },

@@ -1,7 +1,7 @@
 //! Where a server's logs are: in memory, or in the files of a folder.
 use crate::fault::ServeFault;
 use crate::files::LogFile;
-use kx_files::{FileStore, SummedStore, SumsFault, open_file};
+use kx_files::{FileStore, SummedStore, SumsFault};
 use kx_log::{MemStore, OpenFault, Store, StoreFault};
 use std::alloc::{AllocError, Global};
 use std::fs;
@@ -71,23 +71,26 @@ impl<'a, R: Files<File = File> + AllocGlobal + Eprint + Drop> InFiles<'a, R> {
         }
     }
 
-    // The store of the coordinator's log, compared with the checksums in `co.sum`.
-    fn summed(&self, alloc: Global, store: FileStore<File>) -> Result<SummedStore<File>, ServeFault> {
-        let file = LogFile::Coordinator;
-        let path = format!(in alloc; "{}/co.sum", self.dir)?;
-        let Ok(sums) = open_file(&self.rt, path.as_str()) else {
-            drop(store);
-            return Err(ServeFault::Sums { file });
-        };
-        match SummedStore::new(alloc, store, sums) {
+    // The store of a log, compared with the checksums beside it.
+    fn summed(&self, alloc: Global, file: LogFile) -> Result<SummedStore<File>, ServeFault> {
+        let path = file.path_in(alloc, self.dir)?;
+        let sums = format!(in alloc; "{}/co.sum", self.dir)?;
+        match SummedStore::open(&self.rt, path.as_str(), sums.as_str()) {
             Ok(store) => {
                 self.warn_of_unsummed(file, &store);
                 Ok(store)
             }
-            Err((fault, store)) => {
-                drop(store);
-                Err(fault_of_sums(file, fault))
-            }
+            Err(fault) => Err(fault_of_sums(file, fault)),
+        }
+    }
+
+    // The store of a log, of which no checksums are kept.
+    fn plain(&self, alloc: Global, file: LogFile) -> Result<SummedStore<File>, ServeFault> {
+        let path = file.path_in(alloc, self.dir)?;
+        match FileStore::open(&self.rt, path.as_str()) {
+            Ok(store) => Ok(SummedStore::plain(store)),
+            Err(StoreFault::Memory) => Err(ServeFault::Memory),
+            Err(StoreFault::Device) => Err(fault_in(file, OpenFault::Device)),
         }
     }
 
@@ -107,7 +110,8 @@ impl<'a, R: Files<File = File> + AllocGlobal + Eprint + Drop> InFiles<'a, R> {
 fn fault_of_sums(file: LogFile, fault: SumsFault) -> ServeFault {
     match fault {
         SumsFault::Memory => ServeFault::Memory,
-        SumsFault::Device => ServeFault::Sums { file },
+        SumsFault::Device => fault_in(file, OpenFault::Device),
+        SumsFault::Sums => ServeFault::Sums { file },
         SumsFault::Differs(fault) => ServeFault::Changed { file, fault },
     }
 }
@@ -120,13 +124,9 @@ impl<'a, R: Files<File = File> + AllocGlobal + Eprint + Drop> Folder for InFiles
         if self.tells_progress {
             self.tell(path.as_str());
         }
-        match FileStore::open(&self.rt, path.as_str()) {
-            Ok(store) => match file {
-                LogFile::Coordinator => self.summed(alloc, store),
-                LogFile::Partition(_) | LogFile::Offsets => Ok(SummedStore::plain(store)),
-            },
-            Err(StoreFault::Memory) => Err(ServeFault::Memory),
-            Err(StoreFault::Device) => Err(fault_in(file, OpenFault::Device)),
+        match file {
+            LogFile::Coordinator => self.summed(alloc, file),
+            LogFile::Partition(_) | LogFile::Offsets => self.plain(alloc, file),
         }
     }
 
