@@ -55,6 +55,7 @@ impl Wanted {
             expires: self.expires,
             session_timeout: None,
             tells_progress: false,
+            tells_notices: false,
         }
     }
 }
@@ -123,6 +124,7 @@ impl Stock {
             connections: self.connections,
             until: Until::Served,
             tells_progress: false,
+            tells_notices: false,
         }
     }
 }

@@ -17,10 +17,11 @@ use kx_kafka::{
     Version, read_request,
 };
 use kx_message::{Caller, ErrorCode, Fetch, Message, PartitionId};
+use kx_notices::{Closing, Said, TopicRefusal, Unserved};
 use kx_published::book::Naming;
 use kx_publishing::Readable;
 use kx_server::{Hub, LogEnds};
-use std::alloc::Global;
+use std::alloc::{AllocError, Global};
 use std::sync::Wait;
 use std::time::{Clock, Duration};
 
@@ -60,9 +61,42 @@ fn code_of(fault: MakeFault) -> i16 {
     }
 }
 
+// Why a topic can't be made, as whoever runs the server is told.
+fn refusal_of(fault: MakeFault) -> TopicRefusal {
+    match fault {
+        MakeFault::Refused(TopicFault::Name) => TopicRefusal::Name,
+        MakeFault::Refused(TopicFault::Memory) => TopicRefusal::Memory,
+        MakeFault::Refused(_) => TopicRefusal::Full,
+        MakeFault::Device => TopicRefusal::Device,
+    }
+}
+
+// Why a connection closes whose request can't be read.
+fn closing_of(fault: KafkaFault) -> Closing {
+    match fault {
+        KafkaFault::Key | KafkaFault::Version => Closing::NotServed,
+        KafkaFault::Memory => Closing::Unanswered,
+        _ => Closing::Request,
+    }
+}
+
+// What a request asks for that isn't served: an API, or a version of one.
+fn unserved_in(alloc: Global, front: &RequestFront<'_>) -> Result<Unserved, AllocError> {
+    let Some(api) = ApiKey::from_number(front.api_key) else {
+        return Ok(Unserved::Api { key: front.api_key });
+    };
+    let name = format!(in alloc; "{api:?}")?;
+    Ok(Unserved::Version {
+        api: Said::of(alloc, name.as_bytes())?,
+        version: front.api_version,
+        least: api.first_version() as i16,
+        greatest: api.last_version() as i16,
+    })
+}
+
 // The response to a request for the versions in a version that isn't spoken; any other request that
 // can't be read closes the connection.
-fn answer_unread(alloc: Global, text: &[u8], fault: KafkaFault) -> Result<Answer, Closed> {
+fn unread_answer(alloc: Global, text: &[u8], fault: KafkaFault) -> Result<Answer, Closed> {
     if fault != KafkaFault::Version {
         return Err(Closed);
     }
@@ -126,20 +160,35 @@ impl<'a, L: Readable, J: Naming, R: Wait + Clock + Drop> Session<'a, L, J, R> {
         kept.topics.partition(topic, index)
     }
 
+    // Tells whoever runs the server that a topic is made, or why not.
+    fn tell_topic(&self, name: &[u8], made: Result<u16, TopicRefusal>) {
+        self.hub.notices().topic_asked(self.rt, name, made);
+    }
+
     // A topic that a client asks for: it is there, or is made if that is allowed.
     fn topic_for(&self, kept: &mut Kept, name: &[u8], may_make: bool) -> TopicAnswer {
         if let Some(count) = kept.topics.count_of(name) {
             return TopicAnswer::Partitions(count);
         }
         if !is_topic_name(name) {
+            self.tell_topic(name, Err(TopicRefusal::Name));
             return TopicAnswer::Refused(GatewayCode::InvalidTopic.number());
         }
         if !may_make || !self.link.shared.makes_topics || is_internal(name) {
+            if may_make {
+                self.tell_topic(name, Err(TopicRefusal::Forbidden));
+            }
             return TopicAnswer::Refused(ErrorCode::UnknownTopicOrPartition.number());
         }
         match kept.make(self.alloc, name, 1) {
-            Ok(()) => TopicAnswer::Partitions(1),
-            Err(fault) => TopicAnswer::Refused(code_of(fault)),
+            Ok(()) => {
+                self.tell_topic(name, Ok(1));
+                TopicAnswer::Partitions(1)
+            }
+            Err(fault) => {
+                self.tell_topic(name, Err(refusal_of(fault)));
+                TopicAnswer::Refused(code_of(fault))
+            }
         }
     }
 
@@ -249,6 +298,7 @@ impl<'a, L: Readable, J: Naming, R: Wait + Clock + Drop> Session<'a, L, J, R> {
         let answers = self.append_all(request)?;
         if !is_answered {
             if answers.iter().any(|answer| answer.error_code != 0) {
+                self.link.peer.closes(self.rt, Closing::Batch);
                 return Err(Closed);
             }
             return Ok(Answer::Nothing);
@@ -350,11 +400,37 @@ impl<'a, L: Readable, J: Naming, R: Wait + Clock + Drop> Session<'a, L, J, R> {
         }
     }
 
+    // Tells whoever runs the server of a request that isn't served.
+    fn tell_unserved(&self, text: &[u8]) -> Result<(), Closed> {
+        let mut reader = FieldReader { rest: text };
+        let front = RequestFront::read(&mut reader, ANY_VERSION)?;
+        let client = reader.nullable_text(ANY_VERSION)?.unwrap_or(b"");
+        let asked = unserved_in(self.alloc, &front)?;
+        let number = self.link.peer.number();
+        self.hub
+            .notices()
+            .not_served(self.rt, number, client, asked);
+        Ok(())
+    }
+
+    // What a request that can't be read is answered by, if the connection doesn't close.
+    fn answer_unread(&self, text: &[u8], fault: KafkaFault) -> Result<Answer, Closed> {
+        if closing_of(fault) == Closing::NotServed {
+            // (a name that can't be read isn't told)
+            let _ = self.tell_unserved(text);
+        }
+        let answer = unread_answer(self.alloc, text, fault);
+        if answer.is_err() {
+            self.link.peer.closes(self.rt, closing_of(fault));
+        }
+        answer
+    }
+
     // What a request is answered by.
     fn answer(&self, text: &[u8]) -> Result<Answer, Closed> {
         let (header, request) = match read_request(text) {
             Ok(read) => read,
-            Err(fault) => return answer_unread(self.alloc, text, fault),
+            Err(fault) => return self.answer_unread(text, fault),
         };
         let asked = Asked { header, text };
         match request {
@@ -396,6 +472,7 @@ impl<'a, L: Readable, J: Naming, R: Wait + Clock + Drop> Session<'a, L, J, R> {
             match self.answer(text.as_slice())? {
                 Answer::Frame(frame) => {
                     if !self.link.peer.write(frame.as_slice()) {
+                        self.link.peer.closes(self.rt, Closing::Unwritten);
                         return Err(Closed);
                     }
                 }
@@ -409,6 +486,9 @@ impl<'a, L: Readable, J: Naming, R: Wait + Clock + Drop> Session<'a, L, J, R> {
     /// closes it. One that can't be read, or isn't offered, closes it.
     pub(crate) fn answer_all(&self) {
         let ended = self.answer_each();
+        if ended.is_err() {
+            self.link.peer.closes(self.rt, Closing::Unanswered);
+        }
         self.hub.forget(&self.link.peer);
         self.link.inbox.close(self.rt);
         if ended.is_err() {

@@ -4,12 +4,22 @@ use crate::protocol::Shared;
 use kx_gateway::Broker;
 use kx_kafka::{Frames, KafkaFault};
 use kx_message::ClientId;
+use kx_notices::Closing;
 use kx_server::{Peer, Waker};
 use std::alloc::{AllocError, Global};
 use std::sync::{Arc, Wait};
 
 // How many bytes are read at once.
 const PIECE: usize = 65_536;
+
+// Why a connection closes from which no more is read.
+fn why_of(has_ended: &Result<bool, KafkaFault>) -> Closing {
+    match has_ended {
+        Ok(_) => Closing::Client,
+        Err(KafkaFault::Memory) => Closing::Unanswered,
+        Err(_) => Closing::Frame,
+    }
+}
 
 /// A connection: what is read from it waits in its inbox, and one thread takes each request when the
 /// one before was answered, so that responses are in order.
@@ -94,6 +104,7 @@ impl StockLink {
     /// answered, also if bytes arrived that no frame begins with.
     pub(crate) fn take_requests<R: Wait>(&self, rt: &R, alloc: Global) {
         let has_ended = self.read_all(rt, alloc);
+        self.peer.closes(rt, why_of(&has_ended));
         self.inbox.close(rt);
         self.waker.wake(rt);
         if has_ended.is_err() {

@@ -120,6 +120,10 @@ impl Protocol for Kafka {
 }
 
 impl Link for StockLink {
+    fn peer(&self) -> &Peer {
+        &*self.peer
+    }
+
     fn read<L: Readable, J: Naming, R: Wait + Clock + Drop>(
         &self,
         rt: &R,

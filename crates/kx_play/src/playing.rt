@@ -63,6 +63,7 @@ fn serving() -> ServerOptions {
         expires: false,
         session_timeout: None,
         since: 0,
+        tells_notices: false,
     }
 }
 

@@ -1,6 +1,6 @@
 -- What the words of a command line ask for, by what clap finds in them.
-use Rattle.std.specs.Prelude.{◌≡◌, ◌<◌, ◌^◌, ℕ, List, Bool, true, false, Option, None, Some, codes}
-use Rattle.std.specs.Prelude.{option_map}
+use Rattle.std.specs.Prelude.{◌≡◌, ◌<◌, ◌^◌, ◌&&◌, ◌||◌, ℕ, List, Bool, true, false, Option, None, Some, codes}
+use Rattle.std.specs.Prelude.{not, option_map}
 use Rattle.std.specs.Str.Parse.{IsNumeral, digits_value, without_leading_plus}
 use Rattle.clap.specs.Words.{Row, Text, first_of, one_of, subcommand_of}
 use Rattle.kx_bounded.specs.Bounds.{IsWithin}
@@ -45,6 +45,7 @@ pub record IsServe (rows : List Row) (is_watched : Bool) (options : ServeOptions
   pub traces : option_map (λ d. d.now) options.traces ≡ first_of (codes "trace") rows
   pub renews : Flags (one_of (codes "new-traces") rows) options.new_traces
   pub tells : options.tells_progress ≡ is_watched
+  pub notices : Flags (one_of (codes "log") rows) options.tells_notices
   pub expires : Flags (one_of (codes "expire") rows) options.expires
   pub session : Writes 32 (one_of (codes "session-timeout") rows)
       (millis_of options.session_timeout)
@@ -59,7 +60,13 @@ pub record IsKafka (rows : List Row) (is_watched : Bool) (asked : StockClients) 
   pub traces : option_map (λ d. d.now) asked.traces ≡ first_of (codes "trace") rows
   pub renews : Flags (one_of (codes "new-traces") rows) asked.new_traces
   pub makes : Flags (one_of (codes "no-auto-topics") rows) asked.no_auto_topics
+  pub log : Flags (one_of (codes "log") rows) asked.log
+  pub no_log : Flags (one_of (codes "no-log") rows) asked.no_log
   pub tells : asked.tells_progress ≡ is_watched
+
+-- whether notices are written: they are asked for, or somebody watches and nobody asked for none
+abbrev pub tells_notices : StockClients → Bool
+tells_notices asked = asked.log || (asked.tells_progress && not asked.no_log)
 
 -- what is played
 pub record IsPlay (rows : List Row) (options : PlayOptions) : Type 0 where

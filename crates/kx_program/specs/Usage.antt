@@ -74,10 +74,19 @@ abbrev pub session_timeout_rule : Rule
 session_timeout_rule =
     read_by (between 0 900000) (with_default (codes "0") (option_of (codes "session-timeout")))
 
+abbrev pub log_rule : Rule
+log_rule = record (new_rule (codes "log")) { long = Some (codes "log"); action = Some SetTrue }
+
+abbrev pub no_log_rule : Rule
+no_log_rule = record (new_rule (codes "no-log")) {
+  long = Some (codes "no-log");
+  action = Some SetTrue;
+}
+
 abbrev pub serve_app : App
 serve_app = with_rule (with_rule (with_rule (with_rule (with_rule (with_rule (with_rule (with_rule
-    (new_app (codes "serve")) partitions_rule) connections_rule) port_rule) dir_rule) traces_rule)
-    new_traces_rule) expire_rule) session_timeout_rule
+    (with_rule (new_app (codes "serve")) partitions_rule) connections_rule) port_rule) dir_rule)
+    traces_rule) new_traces_rule) expire_rule) session_timeout_rule) log_rule
 
 abbrev pub topics_rule : Rule
 topics_rule = read_by parser.NonEmptyString (option_of (codes "topics"))
@@ -95,9 +104,9 @@ no_auto_topics_rule = record (new_rule (codes "no-auto-topics")) {
 }
 
 abbrev pub kafka_app : App
-kafka_app = with_rule (with_rule (with_rule (with_rule (with_rule (with_rule (with_rule
-    (new_app (codes "kafka")) topics_rule) kafka_port_rule) advertise_rule) dir_rule) traces_rule)
-    new_traces_rule) no_auto_topics_rule
+kafka_app = with_rule (with_rule (with_rule (with_rule (with_rule (with_rule (with_rule (with_rule
+    (with_rule (new_app (codes "kafka")) topics_rule) kafka_port_rule) advertise_rule) dir_rule)
+    traces_rule) new_traces_rule) no_auto_topics_rule) log_rule) no_log_rule
 
 abbrev pub workers_rule : Rule
 workers_rule = read_by (between 1 16) (with_default (codes "4") (option_of (codes "workers")))

@@ -3,6 +3,7 @@ ghost use Rattle.std.specs.Prelude.{◌≡◌, ◌⊎◌, MatchResult, Option, o
 ghost use Rattle.std.specs.Io.Buffered.{writer_contents};
 ghost use Rattle.kx_kafka_server.specs.declared.advertised.Advertised.{Advertised as Asked};
 ghost use Rattle.kx_program.specs.Program.{IsAddressIn, ServesStock};
+ghost use Rattle.kx_program.specs.Tasks.{tells_notices};
 ghost use Rattle.kx_text.specs.declared.program.Ending.TheVariants as ending;
 
 use crate::streams::failed;
@@ -70,6 +71,13 @@ fn address_of<'a, E: Write>(
     }
 }
 
+// Whether notices are written: if that is asked for, or somebody watches and nobody asked for none.
+fn tells_notices(asked: &StockClients<'_>) -> bool
+    ensures { result ≡ tells_notices asked.now }
+{
+    asked.log || (asked.tells_progress && !asked.no_log)
+}
+
 // Serves stock clients, who find these topics and are told this address.
 fn serve_stock<
     R: Files<File = File>
@@ -111,6 +119,7 @@ fn serve_stock<
         connections,
         until: Until::Killed,
         tells_progress: asked.tells_progress,
+        tells_notices: tells_notices(asked),
     };
     let folders = Folders {
         logs: asked.dir,
@@ -152,8 +161,8 @@ fn serve_told<
     }
 }
 
-/// Serves stock clients until the process is killed.
-pub(crate) fn kafka<
+// Serves stock clients, of whom whoever runs the server is told or not.
+fn serve_asked<
     R: Files<File = File>
         + Net<Listener = TcpListener, Stream = TcpStream>
         + AllocGlobal
@@ -176,4 +185,34 @@ pub(crate) fn kafka<
         Ok(advertise) => serve_told(rt, asked, advertise, out, errors),
         Err(ending) => ending,
     }
+}
+
+/// Serves stock clients until the process is killed.
+pub(crate) fn kafka<
+    R: Files<File = File>
+        + Net<Listener = TcpListener, Stream = TcpStream>
+        + AllocGlobal
+        + Eprint
+        + Threads
+        + Wait
+        + Clock
+        + Copy
+        + Send
+        + Sync
+        + Drop
+        + 'static,
+    O: Write + Drop,
+    E: Write,
+>(rt: &R, asked: &StockClients<'_>, out: &mut BufWriter<O>, errors: &mut E) -> Ending
+    ensures { ServesStock (writer_contents O.contents out.old) (writer_contents O.contents out.new)
+        result }
+{
+    if asked.log && asked.no_log {
+        let _ = writeln!(
+            errors,
+            "kx: --log and --no-log: only one of them can be asked for"
+        );
+        return Ending::WrongArguments;
+    }
+    serve_asked(rt, asked, out, errors)
 }

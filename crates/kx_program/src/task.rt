@@ -64,6 +64,10 @@ pub struct StockClients<'a> {
     pub new_traces: bool,
     /// Whether no topic is made when a client first asks for it.
     pub no_auto_topics: bool,
+    /// Whether it writes notices of what happens to standard error, also if nobody watches that.
+    pub log: bool,
+    /// Whether it writes none, also if somebody watches.
+    pub no_log: bool,
     /// Whether it tells on standard error which log it opens.
     pub tells_progress: bool,
 }
@@ -154,6 +158,7 @@ fn serve_options<'a>(given: &ArgMatches<'a>, is_watched: bool) -> Option<ServeOp
         traces: given.get_str("trace"),
         new_traces: given.get_flag("new-traces"),
         tells_progress: is_watched,
+        tells_notices: given.get_flag("log"),
         expires: given.get_flag("expire"),
         session_timeout: session_in(given)?,
     })
@@ -173,6 +178,8 @@ fn kafka_in<'a>(given: &ArgMatches<'a>, is_watched: bool) -> Option<StockClients
         traces: given.get_str("trace"),
         new_traces: given.get_flag("new-traces"),
         no_auto_topics: given.get_flag("no-auto-topics"),
+        log: given.get_flag("log"),
+        no_log: given.get_flag("no-log"),
         tells_progress: is_watched,
     })
 }

@@ -7,7 +7,7 @@ ghost use Rattle.kx_program.specs.Usage.{session_timeout_rule};
 ghost use Rattle.kx_program.specs.Usage.{connections_rule, demo_app, dir_rule, dump_app};
 ghost use Rattle.kx_program.specs.Usage.{dumped_rule, expire_rule};
 ghost use Rattle.kx_program.specs.Usage.{hold_rule, kafka_app, kafka_port_rule, logs_rule, lose_rule};
-ghost use Rattle.kx_program.specs.Usage.{needed, new_traces_rule};
+ghost use Rattle.kx_program.specs.Usage.{log_rule, needed, new_traces_rule, no_log_rule};
 ghost use Rattle.kx_program.specs.Usage.{no_auto_topics_rule, option_of, page_rule};
 ghost use Rattle.kx_program.specs.Usage.{partitions_rule, port_rule, svg_rule};
 ghost use Rattle.kx_program.specs.Usage.{program_app, records_rule, seed_rule, serve_app, sim_app};
@@ -183,6 +183,28 @@ fn no_auto_topics<'a>(alloc: Global) -> Arg<'a>
         .help("Makes no topic when a client first asks for it")
 }
 
+// Whether a server writes notices of what happens.
+fn log<'a>(alloc: Global) -> Arg<'a>
+    ensures rule { rule_of result ≡ log_rule }
+    ensures local { result.global ≡ false }
+{
+    Arg::new(alloc, "log")
+        .long("log")
+        .action(ArgAction::SetTrue)
+        .help("Writes to standard error what happens: connections, refusals, topics")
+}
+
+// Whether a server of stock clients writes none.
+fn no_log<'a>(alloc: Global) -> Arg<'a>
+    ensures rule { rule_of result ≡ no_log_rule }
+    ensures local { result.global ≡ false }
+{
+    Arg::new(alloc, "no-log")
+        .long("no-log")
+        .action(ArgAction::SetTrue)
+        .help("Writes none of it, also if standard error is a terminal")
+}
+
 // How many threads serve a demonstration.
 fn workers<'a>(alloc: Global) -> Arg<'a>
     ensures rule { rule_of result ≡ workers_rule }
@@ -316,7 +338,8 @@ fn serve_usage<'a>(alloc: Global) -> Result<Command<'a>, AllocError>
         .arg(traces(alloc))?
         .arg(new_traces(alloc))?
         .arg(expire(alloc))?
-        .arg(session_timeout(alloc))
+        .arg(session_timeout(alloc))?
+        .arg(log(alloc))
 }
 
 // `kafka`.
@@ -332,7 +355,9 @@ fn kafka_usage<'a>(alloc: Global) -> Result<Command<'a>, AllocError>
         .arg(dir(alloc))?
         .arg(traces(alloc))?
         .arg(new_traces(alloc))?
-        .arg(no_auto_topics(alloc))
+        .arg(no_auto_topics(alloc))?
+        .arg(log(alloc))?
+        .arg(no_log(alloc))
 }
 
 // `demo`.

@@ -81,6 +81,7 @@ impl<'a> KafkaOptions<'a> {
             expires: true,
             session_timeout: None,
             tells_progress: self.tells_progress,
+            tells_notices: self.tells_notices,
         }
     }
 }

@@ -28,6 +28,8 @@ pub struct ServeOptions<'a> {
     pub session_timeout: Option<Timeout>,
     /// Whether it tells on standard error which log it opens, and how long that is.
     pub tells_progress: bool,
+    /// Whether notices of what happens are written to standard error.
+    pub tells_notices: bool,
 }
 
 impl<'a> ServeOptions<'a> {
@@ -39,6 +41,7 @@ impl<'a> ServeOptions<'a> {
             expires: self.expires,
             session_timeout: self.session_timeout,
             since,
+            tells_notices: self.tells_notices,
         }
     }
 }
@@ -68,4 +71,6 @@ pub struct KafkaOptions<'a> {
     pub until: Until,
     /// Whether it tells on standard error which log it opens, and how long that is.
     pub tells_progress: bool,
+    /// Whether notices of what happens are written to standard error.
+    pub tells_notices: bool,
 }

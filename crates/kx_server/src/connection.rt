@@ -5,27 +5,41 @@ use crate::options::Partitions;
 use crate::peer::Peer;
 use crate::speakers::Speakers;
 use kx_message::{ClientId, Message};
+use kx_notices::Closing;
 use kx_published::book::Naming;
 use kx_publishing::Readable;
 use kx_stream::{FrameReader, StreamFault};
 use std::alloc::{AllocError, Global};
 use std::sync::{Arc, Wait};
 
-/// A connection is closed by the server.
+/// A connection is closed by the server, and why.
 #[derive(Drop)]
-pub(crate) struct Closed;
+pub(crate) struct Closed(Closing);
 
 /// Memory ran out.
 impl From<AllocError> for Closed {
     fn from(_: AllocError) -> Self {
-        Closed
+        Closed(Closing::Unanswered)
     }
 }
 
 /// The connection can't be read, or bytes arrived that are no frame.
 impl From<StreamFault> for Closed {
-    fn from(_: StreamFault) -> Self {
-        Closed
+    fn from(fault: StreamFault) -> Self {
+        Closed(match fault {
+            StreamFault::Read => Closing::Client,
+            StreamFault::Write => Closing::Unwritten,
+            StreamFault::Frame(_) if fault == StreamFault::from(AllocError) => Closing::Unanswered,
+            StreamFault::Frame(_) => Closing::Frame,
+        })
+    }
+}
+
+// Why a connection closes whose requests were taken so far.
+fn why_of(ended: &Result<(), Closed>) -> Closing {
+    match ended {
+        Ok(()) => Closing::Client,
+        Err(Closed(why)) => *why,
     }
 }
 
@@ -62,7 +76,7 @@ impl<'a, L: Readable, J: Naming, R: Wait + Drop> Connection<'a, L, J, R> {
     // Notes that the connection speaks for a client.
     fn hear(&mut self, client: ClientId) -> Result<(), Closed> {
         if !self.speakers.hear(client)? {
-            return Err(Closed);
+            return Err(Closed(Closing::Crowded));
         }
         self.hub.speaks(client, self.peer)?;
         Ok(())
@@ -71,7 +85,7 @@ impl<'a, L: Readable, J: Naming, R: Wait + Drop> Connection<'a, L, J, R> {
     // One request: a page is read, and any other message is a step of its node.
     fn take(&mut self, rt: &R, message: Message) -> Result<(), Closed> {
         let Some(client) = asker(&message) else {
-            return Err(Closed);
+            return Err(Closed(Closing::Request));
         };
         self.hear(client)?;
         if self.hears {
@@ -95,7 +109,7 @@ impl<'a, L: Readable, J: Naming, R: Wait + Drop> Connection<'a, L, J, R> {
     fn take_all(&mut self, rt: &R, messages: Vec<Message>) -> Result<(), Closed> {
         for message in messages {
             if !self.peer.is_ready(rt) {
-                return Err(Closed);
+                return Err(Closed(Closing::Unwritten));
             }
             self.hub.wait_for_workers(rt);
             self.take(rt, message)?;
@@ -120,6 +134,7 @@ impl<'a, L: Readable, J: Naming, R: Wait + Drop> Connection<'a, L, J, R> {
     /// if bytes came that are no frame.
     pub(crate) fn serve(mut self, rt: &R) {
         let ended = self.take_stream(rt);
+        self.peer.closes(rt, why_of(&ended));
         self.peer.finish(rt);
         self.hub.forget(self.peer);
         if ended.is_err() {

@@ -1,5 +1,6 @@
 //! What the threads of a server share: its nodes with the readers of their logs, and over which
 //! connection each client is answered.
+use crate::notices::Notices;
 use crate::peer::Peer;
 use crate::readers::Readers;
 use crate::routes::Routes;
@@ -159,14 +160,16 @@ pub struct Hub<L: Readable, J: Naming, R: Wait + Drop> {
     // the receipts of steps that no worker made; None once some were lost
     kept: Mutex<Option<Vec<Receipt>>>,
     pub(crate) sessions: Sessions,
+    notices: Arc<Notices>,
 }
 
 impl<L: Readable, J: Naming, R: Wait + Drop> Hub<L, J, R> {
-    /// Nodes with their readers, and what their workers share.
+    /// Nodes with their readers, what their workers share, and the notices of all that.
     pub(crate) fn new(
         alloc: Global,
         places: Vec<Place<L, J, R>>,
         nodes: Handle<PublishedMachine<L, J, R>, Answers<R>>,
+        notices: Arc<Notices>,
     ) -> Self {
         Hub {
             alloc,
@@ -174,7 +177,13 @@ impl<L: Readable, J: Naming, R: Wait + Drop> Hub<L, J, R> {
             nodes,
             kept: Mutex::new(Some(Vec::new(alloc))),
             sessions: Sessions::new(alloc),
+            notices,
         }
+    }
+
+    /// The notices for whoever runs the server.
+    pub fn notices(&self) -> &Notices {
+        &*self.notices
     }
 
     /// Replies to a client go over this connection from now on.

@@ -23,4 +23,6 @@ pub struct ServerOptions {
     /// The latest time that its nodes know, in milliseconds since 1970: its clock goes on from there
     /// if the one on the wall is behind.
     pub since: u64,
+    /// Whether notices of what happens are written to standard error.
+    pub tells_notices: bool,
 }

@@ -1,12 +1,13 @@
 //! The other end of a connection.
 use crate::outbox::{Outbox, Put};
 use kx_message::Message;
+use kx_notices::Closing;
 use kx_stream::{FrameReader, StreamFault, send};
-use std::alloc::Global;
+use std::alloc::{AllocError, Global};
 use std::io;
 use std::io::{Read, Write};
 use std::net::{Shutdown, TcpStream};
-use std::sync::Wait;
+use std::sync::{Mutex, Wait};
 use std::time::{Clock, Duration};
 
 // How long a connection that the server closes is read on without a byte, and in how many pieces.
@@ -22,6 +23,8 @@ pub struct Peer {
     number: usize,
     stream: TcpStream,
     outbox: Outbox,
+    // why it closes, if that is known
+    why: Mutex<Option<Closing>>,
 }
 
 impl Peer {
@@ -33,6 +36,32 @@ impl Peer {
             number,
             stream,
             outbox: Outbox::new(alloc),
+            why: Mutex::new(None),
+        }
+    }
+
+    /// The connection closes for this reason, unless it closes for another already.
+    pub fn closes<R: Wait>(&self, rt: &R, why: Closing) {
+        let mut first = self.why.lock(rt);
+        if first.is_none() {
+            *first = Some(why);
+        }
+    }
+
+    /// Why the connection closes: by the client, if nothing else is known.
+    pub(crate) fn why<R: Wait>(&self, rt: &R) -> Closing {
+        (*self.why.lock(rt)).unwrap_or(Closing::Client)
+    }
+
+    /// The address of the other end, `?` if the system can't tell.
+    ///
+    /// # Errors
+    ///
+    /// Only if memory runs out.
+    pub(crate) fn address(&self, alloc: Global) -> Result<String, AllocError> {
+        match self.stream.peer_addr() {
+            Ok(address) => format!(in alloc; "{address}"),
+            Err(_) => format!(in alloc; "?"),
         }
     }
 
@@ -94,7 +123,10 @@ impl Peer {
     pub(crate) fn answer<R: Wait>(&self, rt: &R, message: Message) {
         match self.outbox.put(rt, message) {
             Put::Taken | Put::Closed => {}
-            Put::Refused => self.hang_up(rt),
+            Put::Refused => {
+                self.closes(rt, Closing::Slow);
+                self.hang_up(rt);
+            }
         }
     }
 
@@ -117,6 +149,7 @@ impl Peer {
         if self.write_all(rt, alloc) {
             self.end_writing();
         } else {
+            self.closes(rt, Closing::Unwritten);
             self.hang_up(rt);
         }
     }

@@ -13,6 +13,9 @@ use std::time::Clock;
 /// A connection whose clients speak a protocol. Two threads serve it: one reads what arrives, and
 /// the other writes what is answered.
 pub trait Link: Drop {
+    /// The other end of the connection.
+    fn peer(&self) -> &Peer;
+
     /// Reads until either end closes the connection.
     fn read<L: Readable, J: Naming, R: Wait + Clock + Drop>(
         &self,
@@ -113,6 +116,10 @@ impl Protocol for OwnFrames {
 }
 
 impl Link for OwnLink {
+    fn peer(&self) -> &Peer {
+        &*self.peer
+    }
+
     fn read<L: Readable, J: Naming, R: Wait + Clock + Drop>(
         &self,
         rt: &R,

@@ -2,6 +2,7 @@
 use crate::fault::NetFault;
 use crate::hub::Hub;
 use crate::protocol::Link;
+use kx_notices::Closing;
 use kx_published::book::Naming;
 use kx_publishing::Readable;
 use std::alloc::{AllocError, Global};
@@ -108,15 +109,22 @@ impl<L: Readable, J: Naming, R: Wait + Clock + Drop, K: Link> Wire<L, J, R, K> {
     fn write(&self, rt: &R) {
         self.link.write(rt, self.alloc, &*self.hub);
     }
+
+    // Tells whoever runs the server that the connection closes, and why.
+    fn tell_closed(&self, rt: &R) {
+        let peer = self.link.peer();
+        self.hub.notices().closed(rt, peer.number(), peer.why(rt));
+    }
 }
 
 // A thread has nothing more to do with a connection. The last one closes it.
-fn leave<L: Readable, J: Naming, R: Wait + Drop, K: Link>(
+fn leave<L: Readable, J: Naming, R: Wait + Clock + Drop, K: Link>(
     rt: &R,
     wire: Arc<Wire<L, J, R, K>>,
     count: &Count,
 ) {
     if let Some(wire) = Arc::into_inner(wire) {
+        wire.tell_closed(rt);
         drop(wire);
         count.take(rt);
     }
@@ -208,6 +216,11 @@ impl<
         unreachable!()
     }
 
+    /// The connection of this number is closed before it is served.
+    pub(crate) fn refuse(&self, number: usize, why: Closing) {
+        self.hub.notices().closed(&self.rt, number, why);
+    }
+
     /// How many connections are served.
     pub(crate) fn count(&self) -> usize {
         self.count.get(&self.rt)
@@ -248,6 +261,7 @@ impl<
             return Err(AllocError);
         };
         self.count.add(&self.rt);
+        self.hub.notices().opened(&self.rt, wire.link.peer());
         self.start(Side::Writer, &wire);
         self.start(Side::Reader, &wire);
         leave(&self.rt, wire, &*self.count);

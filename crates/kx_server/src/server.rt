@@ -6,6 +6,7 @@ use crate::fault::ServerFault;
 use crate::hub::{Answers, Hub, Nodes, Place};
 use crate::lines::tell;
 use crate::listening::{fault_of, listen, port_of};
+use crate::notices::{Notices, write_notices};
 use crate::operator::Operator;
 use crate::options::ServerOptions;
 use crate::peer::Peer;
@@ -17,6 +18,7 @@ use crate::ticking::{Going, keep_time};
 use crate::watches::Watches;
 use kx_message::Message;
 use kx_nodes::{JoinSet, Receipt, Workers};
+use kx_notices::Closing;
 use kx_published::book::Naming;
 use kx_publishing::{PublishedMachine, Readable};
 use std::alloc::{AllocError, Global};
@@ -34,6 +36,7 @@ const WORKERS: usize = 4;
 #[derive(Drop)]
 struct Shared<L: Readable, J: Naming, R: Wait + Drop> {
     hub: Arc<Hub<L, J, R>>,
+    notices: Arc<Notices>,
     going: Arc<Going>,
 }
 
@@ -58,6 +61,31 @@ impl<
         };
         threads.push(handle);
         Ok(())
+    }
+
+    // Starts the thread that writes notices. It isn't joined, since nobody may read them.
+    fn start_notices(&self, rt: R, alloc: Global) -> Result<(), AllocError> {
+        let notices = Arc::try_clone(&self.notices)?;
+        self.notices.open(&rt);
+        let Ok(_) = thread::spawn(&rt, move || write_notices(&rt, alloc, &*notices)) else {
+            self.notices.finish(&rt);
+            return Err(AllocError);
+        };
+        Ok(())
+    }
+
+    // Starts the threads that a server has beside its connections.
+    fn start_beside(
+        &self,
+        threads: &mut JoinSet<R>,
+        rt: R,
+        alloc: Global,
+        options: &ServerOptions,
+    ) -> Result<(), AllocError> {
+        if options.tells_notices {
+            self.start_notices(rt, alloc)?;
+        }
+        self.add_clock(threads, rt, options)
     }
 }
 
@@ -114,11 +142,15 @@ fn take_connections<
             Err(fault) => return Err(fault_of(listener, fault)),
         };
         if seats.count() >= usize::from(options.connections.get()) {
+            seats.refuse(number, Closing::Full);
             continue;
         }
-        if let Some(link) = opened(&rt, alloc, protocol, number, stream) {
-            // Without memory for it the connection is closed.
-            let _ = seats.serve(link);
+        let served = match opened(&rt, alloc, protocol, number, stream) {
+            Some(link) => seats.serve(link),
+            None => Err(AllocError),
+        };
+        if served.is_err() {
+            seats.refuse(number, Closing::Memory);
         }
     }
     Ok(())
@@ -158,8 +190,11 @@ fn share<
     places: Vec<Place<L, J, R>>,
     workers: &Served<L, J, R>,
 ) -> Result<Shared<L, J, R>, AllocError> {
+    let notices = Arc::new(alloc, Notices::new(alloc))?;
+    let hub = Hub::new(alloc, places, workers.handle()?, Arc::try_clone(&notices)?);
     Ok(Shared {
-        hub: Arc::new(alloc, Hub::new(alloc, places, workers.handle()?))?,
+        hub: Arc::new(alloc, hub)?,
+        notices,
         going: Arc::new(alloc, Going::new())?,
     })
 }
@@ -244,11 +279,12 @@ impl<
         let hub = Arc::try_clone(&self.shared.hub)?;
         let mut clock = JoinSet::new(rt, alloc);
         let seats = Seats::new(rt, alloc, hub)?;
-        let served = match self.shared.add_clock(&mut clock, rt, options) {
+        let served = match self.shared.start_beside(&mut clock, rt, alloc, options) {
             Ok(()) => { take_connections(rt, alloc, &seats, listener, options, (protocol, until)) }
             Err(_) => Err(ServerFault::Memory),
         };
         seats.join();
+        self.shared.notices.end(&rt);
         self.shared.going.end(&rt);
         clock.join();
         served

@@ -84,6 +84,11 @@ pub fn moment<R: Clock>(rt: &R) -> Option<u64> {
     Some(millis_of(rt.since_1970().ok()?))
 }
 
+/// The milliseconds that have passed since a moment, none if the clock can't be read.
+pub(crate) fn millis_since<R: Clock>(rt: &R, begun: &Option<Instant>) -> u64 {
+    passed_between(begun, &Instant::now(rt).ok())
+}
+
 // What a tick does at this time, in milliseconds since 1970.
 fn tick<L: Readable, J: Naming, R: Wait + Drop>(
     rt: &R,

@@ -21,5 +21,13 @@ returns c = record {
       (one_text-rows (found_of c.args.given.now) (codes "no-auto-topics"))
       (flags (one_text (found_of c.args.given.now) (codes "no-auto-topics")) c.get_flag-2.result
       c.get_flag-2.ensures.none c.get_flag-2.ensures.value c.get_flag-2.ensures.other);
+  log = subst (λ (text : Option Text). Flags text c.get_flag-3.result)
+      (one_text-rows (found_of c.args.given.now) (codes "log"))
+      (flags (one_text (found_of c.args.given.now) (codes "log")) c.get_flag-3.result
+      c.get_flag-3.ensures.none c.get_flag-3.ensures.value c.get_flag-3.ensures.other);
+  no_log = subst (λ (text : Option Text). Flags text c.get_flag-4.result)
+      (one_text-rows (found_of c.args.given.now) (codes "no-log"))
+      (flags (one_text (found_of c.args.given.now) (codes "no-log")) c.get_flag-4.result
+      c.get_flag-4.ensures.none c.get_flag-4.ensures.value c.get_flag-4.ensures.other);
   tells = refl;
 }

@@ -19,10 +19,14 @@ returns c = record {
       (flags (one_text (found_of c.args.given.now) (codes "new-traces")) c.get_flag.result
       c.get_flag.ensures.none c.get_flag.ensures.value c.get_flag.ensures.other);
   tells = refl;
-  expires = subst (λ (text : Option Text). Flags text c.get_flag-2.result)
-      (one_text-rows (found_of c.args.given.now) (codes "expire"))
-      (flags (one_text (found_of c.args.given.now) (codes "expire")) c.get_flag-2.result
+  notices = subst (λ (text : Option Text). Flags text c.get_flag-2.result)
+      (one_text-rows (found_of c.args.given.now) (codes "log"))
+      (flags (one_text (found_of c.args.given.now) (codes "log")) c.get_flag-2.result
       c.get_flag-2.ensures.none c.get_flag-2.ensures.value c.get_flag-2.ensures.other);
+  expires = subst (λ (text : Option Text). Flags text c.get_flag-3.result)
+      (one_text-rows (found_of c.args.given.now) (codes "expire"))
+      (flags (one_text (found_of c.args.given.now) (codes "expire")) c.get_flag-3.result
+      c.get_flag-3.ensures.none c.get_flag-3.ensures.value c.get_flag-3.ensures.other);
   session = search rules;
   session_fits = search rules;
 }

@@ -22,10 +22,12 @@ returns c =
     c.new_traces.ensures.rule c.new_traces.ensures.local in
     let made_7 = with_argument _ _ _ _ _ c.in_ok-arg-7.ensures made_6
     c.expire.ensures.rule c.expire.ensures.local in
+    let made_8 = with_argument _ _ _ _ _ c.in_ok-arg-8.ensures made_7
+    c.session_timeout.ensures.rule c.session_timeout.ensures.local in
     record {
-      app = IfOk-weaker c.arg-8.result _ _ (λ command adds. (with_argument _ _ _ _ _ adds
-          made_7 c.session_timeout.ensures.rule c.session_timeout.ensures.local).is) c.arg-8.ensures;
-      local = IfOk-weaker c.arg-8.result _ _ (λ command adds. (with_argument _ _ _ _ _ adds
-          made_7 c.session_timeout.ensures.rule c.session_timeout.ensures.local).local)
-          c.arg-8.ensures;
+      app = IfOk-weaker c.arg-9.result _ _ (λ command adds. (with_argument _ _ _ _ _ adds
+          made_8 c.log.ensures.rule c.log.ensures.local).is) c.arg-9.ensures;
+      local = IfOk-weaker c.arg-9.result _ _ (λ command adds. (with_argument _ _ _ _ _ adds
+          made_8 c.log.ensures.rule c.log.ensures.local).local)
+          c.arg-9.ensures;
     }

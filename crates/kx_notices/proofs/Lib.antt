@@ -1,0 +1,5 @@
+mod Calendar
+mod Counting
+mod Flat
+mod Joined
+mod Visible
