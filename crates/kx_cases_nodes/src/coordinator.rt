@@ -1,6 +1,6 @@
 //! Steps of the coordinator on a store that is made to fail. A step is answered with the messages
 //! that are sent, each as `RECEIVER TEXT`.
-use crate::parts::{nothing, or_dash, told_messages};
+use crate::parts::{nothing, or_dash, told_each, told_messages};
 use crate::words::{caller, code, held, partition, raised};
 use kx_cases::{StepFault, Subject, Texts, known, told_name, told_value, value};
 use kx_coord::{Coordinator, RestartFault};
@@ -8,6 +8,7 @@ use kx_log::{FaultStore, MemStore, OpenFault, Store};
 use kx_message::{
     AddPartition, EndTxn, InitProducerId, MarkerReply, Message, Outcome, Timeout, TxnId,
 };
+use kx_messages::Messages;
 use kx_txnlog::{Row, State};
 use std::alloc::{AllocError, Global};
 use std::mem;
@@ -66,6 +67,14 @@ fn told_rows(alloc: Global, rows: &[Row]) -> Result<String, StepFault> {
 // What was sent.
 fn handed(alloc: Global, sent: Result<Vec<Message>, AllocError>) -> Result<String, StepFault> {
     told_messages(alloc, sent?)
+}
+
+// What a request was answered.
+fn answered(alloc: Global, sent: Result<Messages, AllocError>) -> Result<String, StepFault> {
+    let sent = sent?;
+    let told = told_each(alloc, sent.as_slice());
+    drop(sent);
+    told
 }
 
 // The messages of an opening, or why there is none.
@@ -138,8 +147,8 @@ fn asked(alloc: Global, running: &mut Running, words: &[&str]) -> Result<String,
         return Err(StepFault::Unknown);
     };
     match *name {
-        "add" => handed(alloc, running.add_partition(add(given)?)),
-        "end" => handed(alloc, running.end_txn(end(given)?)),
+        "add" => answered(alloc, running.add_partition(add(given)?)),
+        "end" => answered(alloc, running.end_txn(end(given)?)),
         "reply" => handed(alloc, running.marker_reply(reply(given)?)),
         _ => Err(StepFault::Unknown),
     }
@@ -158,8 +167,8 @@ fn timed(alloc: Global, running: &mut Running, words: &[&str]) -> Result<String,
 // Takes a step of a coordinator that is open.
 fn taken(alloc: Global, running: &mut Running, words: &[&str]) -> Result<String, StepFault> {
     match words {
-        ["init", by, name] => handed(alloc, running.init(init(by, name)?)),
-        ["init_alone", by] => handed(alloc, running.init(init_of(by, None)?)),
+        ["init", by, name] => answered(alloc, running.init(init(by, name)?)),
+        ["init_alone", by] => answered(alloc, running.init(init_of(by, None)?)),
         ["rows"] => told_rows(alloc, running.rows()),
         ["failures"] => told_value(alloc, running.failures()),
         ["append_fails", keep] => {

@@ -46,7 +46,8 @@ fn tell_messages(told: &mut String, messages: &[Message]) -> Result<(), AllocErr
     or_dash(told)
 }
 
-fn told_each(alloc: Global, messages: &[Message]) -> Result<String, StepFault> {
+/// Messages, each as `RECEIVER TEXT`, or `-` for none.
+pub fn told_each(alloc: Global, messages: &[Message]) -> Result<String, StepFault> {
     let mut told = String::new(alloc);
     tell_messages(&mut told, messages)?;
     Ok(told)

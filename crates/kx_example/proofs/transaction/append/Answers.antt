@@ -25,9 +25,9 @@ returns-then-not-is_listed-clause-answer c =
     (subst (IsProduced c.args.batch.now false c.args.partition.now c.produce.new.self)
     c.in-Unverified.is c.in_ok-answer.ensures.answer)
     (record {
-      replies = c.in_ok-messages.messages.items;
+      replies = c.in_ok-messages.messages;
       responds = c.in_ok-messages.ensures.ok;
-      says = ap says_listed (sym c.as_slice.ensures.value) ∙ sym c.is_listed.ensures
+      says = ap says_listed (sym c.as_slice.ensures) ∙ sym c.is_listed.ensures
           ∙ c.if-not-is_listed.true;
     })
 
@@ -42,9 +42,9 @@ returns-clause-answer c =
     (subst (IsProduced c.args.batch.now false c.args.partition.now c.produce.new.self)
     c.in-Unverified.is c.in_ok-answer.ensures.answer) in
     let asks : Asks c.args.coordinator.now c.add_partition.new.self c.args.request true = record {
-      replies = c.in_ok-messages.messages.items;
+      replies = c.in_ok-messages.messages;
       responds = c.in_ok-messages.ensures.ok;
-      says = ap says_listed (sym c.as_slice.ensures.value) ∙ sym c.is_listed.ensures
+      says = ap says_listed (sym c.as_slice.ensures) ∙ sym c.is_listed.ensures
           ∙ c.if-not-is_listed.false;
     } in
     IfOk-weaker c.produce-2.result _ _
@@ -61,9 +61,9 @@ returns-clause-err c =
 pub returns-clause-asked : goal.returns-clause-asked
 returns-clause-asked c =
     let asks : Asks c.args.coordinator.now c.add_partition.new.self c.args.request true = record {
-      replies = c.in_ok-messages.messages.items;
+      replies = c.in_ok-messages.messages;
       responds = c.in_ok-messages.ensures.ok;
-      says = ap says_listed (sym c.as_slice.ensures.value) ∙ sym c.is_listed.ensures
+      says = ap says_listed (sym c.as_slice.ensures) ∙ sym c.is_listed.ensures
           ∙ c.if-not-is_listed.false;
     } in
     on_any c.produce-2.result (inr asks)
