@@ -1,19 +1,21 @@
 #!/usr/bin/env python3
 """Looks at what a server writes to standard error with --log.
 
-    log.py PROGRAM
+    log.py PROGRAM [PART..]
 
 - A connection that opens and closes, and why: by the client, its frame is too long, its request isn't
   served, too many connections are open.
 - A version and an API that aren't served, with the name that the client gives itself and the versions
   that are. A name with line feeds, escape characters, quotes and 10,000 bytes is one line.
 - A topic that is made, and one that isn't, and why.
-- 5,000 connections in a burst: at most 100 lines a second, and each other one is counted.
+- 5,000 connections in a burst, or as many as there are in a minute: at most 100 lines a second, and
+  each other one is counted.
 - Standard error that nobody reads doesn't stop the server, and `serve` ends all the same.
 - Without --log, and with --no-log, nothing is written if standard error is no terminal; on a terminal
   `kafka` writes by itself, and `serve` doesn't.
 
-Ends with status 1 if one of these isn't so. Requests are written from Kafka's protocol guide.
+Ends with status 1 if one of these isn't so. A PART is a function below. Requests are written from
+Kafka's protocol guide.
 """
 import os
 import pty
@@ -45,7 +47,7 @@ class Client:
     """A connection of a client that gives itself a name."""
 
     def __init__(self, port, name=b"log"):
-        self.socket = socket.create_connection(("127.0.0.1", port), timeout=10)
+        self.socket = socket.create_connection(("127.0.0.1", port), timeout=60)
         self.name = name
 
     def send(self, api, version, fields=b""):
@@ -103,7 +105,7 @@ class Server:
             found.append(re.sub("^" + TIME, "", line) if re.match(TIME, line) else "NO TIME: " + line)
         return found
 
-    def wait_for(self, words, seconds=10):
+    def wait_for(self, words, seconds=30):
         """Whether a line of this form comes within so many seconds."""
         end = time.time() + seconds
         while time.time() < end:
@@ -198,65 +200,75 @@ def counted(lines):
 
 def burst():
     server = Server("kafka", "--log")
-    begun = time.time()
-    for _ in range(50):
-        clients = [socket.create_connection(("127.0.0.1", server.port)) for _ in range(100)]
+    begun, count = time.time(), 0
+    # (a slow machine takes fewer of them in this time)
+    while count < 5000 and time.time() < begun + 60:
+        clients = [socket.create_connection(("127.0.0.1", server.port), timeout=60) for _ in range(100)]
         for it in clients:
             it.close()
+        count += len(clients)
     took = time.time() - begun
     # the last second's count comes in the next one
-    end, all_of_them = time.time() + 30, 0
-    while time.time() < end and all_of_them < 10000:
+    end, all_of_them = time.time() + 120, 0
+    while time.time() < end and all_of_them < 2 * count:
         time.sleep(0.5)
         lines, notices, left = counted(server.lines())
         all_of_them = notices + left
     took_all = time.time() - begun
-    say("each notice is a line or is counted", all_of_them == 10000,
-        f"{notices} lines, {left} left out, of 10000")
+    say("each notice is a line or is counted", all_of_them == 2 * count,
+        f"{notices} lines, {left} left out, of {2 * count}")
     say("at most 100 lines a second", lines <= 100 * (took_all + 2), f"{lines} in {took_all:.1f} s")
     seconds = {}
     for line in server.bytes().decode("ascii").split("\n")[:-1]:
         seconds[line[:19]] = seconds.get(line[:19], 0) + 1
-    # two seconds of the server's clock may lie in one of the clock on the wall
+    # two seconds of the server's clock may lie in one of the clock on the wall, and a line has the
+    # time of its notice
     say("in no second many more", max(seconds.values()) <= 201, f"{max(seconds.values())}")
-    say("some are left out", left > 0, f"the burst took {took:.1f} s")
+    if count < 5000:
+        print(f"too slow here to leave lines out: {count} connections in {took:.1f} s")
+    else:
+        say("some are left out", left > 0, f"the burst took {took:.1f} s")
     say("it is still served", Client(server.port).is_served())
     server.end()
 
 
-def nobody_reads():
+def full_pipe():
+    """Both ends of a pipe into which nothing more goes."""
     read, write = os.pipe()
+    os.set_blocking(write, False)
+    try:
+        while True:
+            os.write(write, b"-" * 4096)
+    except BlockingIOError:
+        os.set_blocking(write, True)
+    return read, write
+
+
+def nobody_reads():
+    read, write = full_pipe()
     server = Server("kafka", "--log", errors=write)
     begun, are_served = time.time(), 0
-    while time.time() < begun + 20:
-        it = Client(server.port, b"x" * 1000)
+    # three notices each: more than wait at most
+    for _ in range(400):
+        it = Client(server.port)
         are_served += it.is_served()
         it.ask(0, 2)
         it.close()
-        if are_served == 3000:
-            break
-    say("3,000 clients are served though nobody reads", are_served == 3000,
+    say("400 clients are served though nobody reads", are_served == 400,
         f"{are_served} in {time.time() - begun:.1f} s")
     server.end()
     os.close(read)
     server = Server("kafka", "--log", errors=write)
     say("it is served though the pipe is closed",
-        all(Client(server.port).is_served() for _ in range(50)))
+        all(Client(server.port).is_served() for _ in range(20)))
     server.end()
     os.close(write)
-    read, write = os.pipe()
-    os.set_blocking(write, False)
-    while True:
-        try:
-            os.write(write, b"-" * 4096)
-        except BlockingIOError:
-            break
-    os.set_blocking(write, True)
+    read, write = full_pipe()
     server = Server("serve", "--partitions", "1", "--connections", "1", "--log", errors=write)
     socket.create_connection(("127.0.0.1", server.port)).close()
     begun = time.time()
     try:
-        status = server.process.wait(timeout=30)
+        status = server.process.wait(timeout=60)
     except subprocess.TimeoutExpired:
         status = None
         server.end()
@@ -314,13 +326,9 @@ def options():
 def main():
     soft, hard = resource.getrlimit(resource.RLIMIT_NOFILE)
     resource.setrlimit(resource.RLIMIT_NOFILE, (min(8192, hard), hard))
-    connections()
-    unserved()
-    topics()
-    burst()
-    nobody_reads()
-    serves()
-    options()
+    for part in (connections, unserved, topics, burst, nobody_reads, serves, options):
+        if part.__name__ in (sys.argv[2:] or part.__name__):
+            part()
     print(f"{len(FAILED)} failed")
     return 1 if FAILED else 0
 
