@@ -203,7 +203,10 @@ def burst():
     begun, count = time.time(), 0
     # (a slow machine takes fewer of them in this time)
     while count < 5000 and time.time() < begun + 60:
-        clients = [socket.create_connection(("127.0.0.1", server.port), timeout=60) for _ in range(100)]
+        # (one more than 1,024 at a time is closed at once, with one line)
+        while len(os.listdir(f"/proc/{server.process.pid}/fd")) > 800:
+            time.sleep(0.05)
+        clients = [socket.create_connection(("127.0.0.1", server.port), timeout=120) for _ in range(20)]
         for it in clients:
             it.close()
         count += len(clients)

@@ -101,7 +101,8 @@ impl<'a, R: Files<File = File> + AllocGlobal + Eprint + Drop> InFiles<'a, R> {
         if summed < len {
             // Nobody may watch.
             let _ = eprintln!(self.rt;
-                "{file}: the bytes from {summed} up to {len} have no checksum, and are taken as they are");
+                "{file}: the bytes from {summed} up to {len} have no checksum, and are taken as they are"
+            );
         }
     }
 }
