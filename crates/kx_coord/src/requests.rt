@@ -23,7 +23,7 @@ use kx_messages::Messages;
 use kx_txnlog::{Entry, State};
 use std::alloc::AllocError;
 
-// Nothing is appended: an id is missing for the entry, or the log is closed.
+// The response if no entry can be appended, since no producer id is left or the log is closed: 56.
 fn unwritten() -> Response
     ensures { result ≡ record { entry = None; code = error.KafkaStorageError; held = None } }
 {

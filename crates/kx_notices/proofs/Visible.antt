@@ -8,13 +8,15 @@ use Rattle.std.proofs.lemmas.Bool.Decides.{nat_tests}
 use Rattle.kx_notices.specs.Texts.{EachIsOneLine, client_text, closing_words}
 use Rattle.kx_notices.specs.Texts.{connection_text, counted, range_text, signed_text, topic_text}
 use Rattle.kx_notices.specs.Texts.{date_text, digit_of, escaped, escaped_byte, hex_byte, is_visible}
-use Rattle.kx_notices.specs.Texts.{latest, quoted, hours_text, refusal_words, seconds_text, text_of, three, two}
+use Rattle.kx_notices.specs.Texts.{latest, quoted, hours_text, refusal_words, seconds_text, shortage_words, text_of, three, two}
 use Rattle.kx_notices.specs.Texts.{unserved_text, visible}
 use Rattle.kx_notices.specs.declared.closing.Closing.{Closing}
 use Rattle.kx_notices.specs.declared.closing.Closing.TheVariants as closing
 use Rattle.kx_notices.specs.declared.moment.Date.{Date}
 use Rattle.kx_notices.specs.declared.notice.Notice.{Notice}
 use Rattle.kx_notices.specs.declared.notice.Notice.TheVariants as notice
+use Rattle.kx_notices.specs.declared.notice.Shortage.{Shortage}
+use Rattle.kx_notices.specs.declared.notice.Shortage.TheVariants as shortage
 use Rattle.kx_notices.specs.declared.notice.TopicRefusal.{TopicRefusal}
 use Rattle.kx_notices.specs.declared.notice.TopicRefusal.TheVariants as refusal
 use Rattle.kx_notices.specs.declared.notice.Unserved.{Unserved}
@@ -121,6 +123,7 @@ closing_is closing.Batch = refl
 closing_is closing.Unanswered = refl
 closing_is closing.Unwritten = refl
 closing_is closing.Slow = refl
+closing_is closing.Idle = refl
 closing_is closing.Crowded = refl
 closing_is closing.Full = refl
 closing_is closing.Memory = refl
@@ -131,6 +134,12 @@ refusal_is refusal.Forbidden = refl
 refusal_is refusal.Full = refl
 refusal_is refusal.Device = refl
 refusal_is refusal.Memory = refl
+
+shortage_is : (what : Shortage) → Vis (shortage_words what)
+shortage_is shortage.Files = refl
+shortage_is shortage.Threads = refl
+shortage_is shortage.TransactionalIds = refl
+shortage_is shortage.Groups = refl
 
 range_is : (least greatest : ℤ) → Vis (range_text least greatest)
 range_is least greatest =
@@ -178,6 +187,7 @@ text_is (notice.TopicMade topic partitions) =
 text_is (notice.TopicNotMade topic why) =
     both (topic_text topic ++ codes " not made: ") (refusal_words why)
     (both (topic_text topic) (codes " not made: ") (topic_is topic) refl) (refusal_is why)
+text_is (notice.RanOut what) = shortage_is what
 text_is (notice.LeftOut lines) =
     counted_is lines (codes " line left out") (codes " lines left out") refl refl
 

@@ -14,19 +14,19 @@ months leap =
 abbrev pub year_days : ℕ → ℕ
 year_days year = if is_leap year then 366 else 365
 
--- the days of so many years, from 1970 on
+-- the days of the first n years from 1970 on
 abbrev pub days_of_years : ℕ → ℕ
 days_of_years zero = 0
 days_of_years (suc n) = days_of_years n + year_days (1970 + n)
 
--- so many days after 1970-01-01 are in this year, after so many days of it
+-- the day that is `days` days after 1970-01-01 is in this year, after `left` days of it
 pub record IsYearOf (days year left : ℕ) : Type 0 where
   pub years : ℕ
   pub is_year : year ≡ 1970 + years
   pub is_within : left < year_days year
   pub counted : days_of_years years + left ≡ days
 
--- so many days after the first of a year whose months have these lengths
+-- the day that is `days` days after the first of a year whose months have these lengths
 pub record IsMonthOf (days : ℕ) (lengths : List ℕ) (month day : ℕ) : Type 0 where
   pub before : ℕ
   pub is_month : month ≡ before + 1
@@ -35,7 +35,7 @@ pub record IsMonthOf (days : ℕ) (lengths : List ℕ) (month day : ℕ) : Type 
   pub last_day : day ≤ slice_index lengths before
   pub counted : sum (take before lengths) + day ≡ days + 1
 
--- the date so many days after 1970-01-01
+-- the date that is `days` days after 1970-01-01
 pub record IsDateOf (days : ℕ) (date : Date) : Type 0 where
   pub in_year : ℕ
   pub year : IsYearOf days date.year in_year

@@ -8,6 +8,8 @@ use Rattle.kx_notices.specs.declared.closing.Closing.{Closing}
 use Rattle.kx_notices.specs.declared.closing.Closing.TheVariants as closing
 use Rattle.kx_notices.specs.declared.notice.Notice.{Notice}
 use Rattle.kx_notices.specs.declared.notice.Notice.TheVariants as notice
+use Rattle.kx_notices.specs.declared.notice.Shortage.{Shortage}
+use Rattle.kx_notices.specs.declared.notice.Shortage.TheVariants as shortage
 use Rattle.kx_notices.specs.declared.notice.TopicRefusal.{TopicRefusal}
 use Rattle.kx_notices.specs.declared.notice.TopicRefusal.TheVariants as refusal
 use Rattle.kx_notices.specs.declared.notice.Unserved.{Unserved}
@@ -49,6 +51,7 @@ closing_words closing.Batch = codes "its batch is refused, and it wants no answe
 closing_words closing.Unanswered = codes "its request can't be answered"
 closing_words closing.Unwritten = codes "an answer can't be written"
 closing_words closing.Slow = codes "too many answers wait for it"
+closing_words closing.Idle = codes "nothing came for too long"
 closing_words closing.Crowded = codes "it speaks for too many clients"
 closing_words closing.Full = codes "too many connections are open"
 closing_words closing.Memory = codes "out of memory, or of numbers for clients"
@@ -59,6 +62,12 @@ refusal_words refusal.Forbidden = codes "no such topic is made when a client ask
 refusal_words refusal.Full = codes "no partitions are free"
 refusal_words refusal.Device = codes "its line can't be written to the folder"
 refusal_words refusal.Memory = codes "out of memory"
+
+abbrev pub shortage_words : Shortage → List ℕ
+shortage_words shortage.Files = codes "no connection can be taken now; the server waits"
+shortage_words shortage.Threads = codes "no thread can be started now; the server waits"
+shortage_words shortage.TransactionalIds = codes "no more transactional ids are taken"
+shortage_words shortage.Groups = codes "no more groups are taken"
 
 -- a number that may be negative
 unfoldable pub signed_text : ℤ → List ℕ
@@ -81,7 +90,7 @@ unserved_text (unserved.Api key) = api_text key
 unserved_text (unserved.Version api version least greatest) =
     version_text api version least greatest
 
--- so many of something, by its names for one and for more
+-- n of something, by its names for one and for more
 abbrev pub counted : ℕ → List ℕ → List ℕ → List ℕ
 counted n one more = decimal n ++ (if n == 1 then one else more)
 
@@ -118,6 +127,7 @@ text_of (notice.NotServed connection client asked) =
     client_text connection client ++ unserved_text asked
 text_of (notice.TopicMade topic partitions) = made_text topic partitions
 text_of (notice.TopicNotMade topic why) = not_made_text topic why
+text_of (notice.RanOut what) = shortage_words what
 text_of (notice.LeftOut lines) = counted lines (codes " line left out") (codes " lines left out")
 
 -- a number below 100 in two digits

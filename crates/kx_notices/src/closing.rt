@@ -21,6 +21,8 @@ pub enum Closing {
     Unwritten,
     /// Too many bytes wait to be written to it.
     Slow,
+    /// Its client has sent nothing for too long.
+    Idle,
     /// It would speak for too many clients.
     Crowded,
     /// As many connections are served as may be.
@@ -43,6 +45,7 @@ impl Closing {
             Closing::Unanswered => "its request can't be answered",
             Closing::Unwritten => "an answer can't be written",
             Closing::Slow => "too many answers wait for it",
+            Closing::Idle => "nothing came for too long",
             Closing::Crowded => "it speaks for too many clients",
             Closing::Full => "too many connections are open",
             Closing::Memory => "out of memory, or of numbers for clients",

@@ -12,6 +12,6 @@ mod text;
 
 pub use closing::Closing;
 pub use line::{line_of, one_notice_is_one_line};
-pub use notice::{Notice, TopicRefusal, Unserved};
+pub use notice::{Notice, Shortage, TopicRefusal, Unserved};
 pub use rate::{MOST_LINES, Rate, each_notice_passes_or_is_counted, few_pass_in_a_second};
 pub use said::{LONGEST_SAID, Said};

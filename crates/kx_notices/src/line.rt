@@ -193,6 +193,7 @@ fn put_notice(out: &mut Vec<u8>, notice: &Notice) -> Result<(), AllocError>
         }
         Notice::TopicMade { topic, partitions } => put_made(out, topic, u64::from(*partitions)),
         Notice::TopicNotMade { topic, why } => put_not_made(out, topic, *why),
+        Notice::RanOut { what } => put(out, what.words()),
         Notice::LeftOut { lines } => put_count(out, *lines, " line left out", " lines left out"),
     }
 }

@@ -44,7 +44,7 @@ fn months(leap: bool) -> [u64; 12]
     [31, february, 31, 30, 31, 30, 31, 31, 30, 31, 30, 31]
 }
 
-// The year so many days after 1970-01-01.
+// The year of the day that is `days` days after 1970-01-01, and the days of it that have passed.
 fn year_of(days: u64) -> YearDay
     requires { days < 2 ^ 62 }
     ensures { IsYearOf days result.year result.days }
@@ -61,7 +61,8 @@ fn year_of(days: u64) -> YearDay
     }
 }
 
-// The month so many days after the first of a year whose months have these lengths.
+// The month of the day that is `days` days after the first of a year, whose months have these
+// lengths.
 fn month_of(days: u64, lengths: &[u64]) -> MonthDay
     requires { days < sum lengths.now }
     ensures { IsMonthOf days lengths.now result.month result.day }
@@ -81,7 +82,7 @@ fn month_of(days: u64, lengths: &[u64]) -> MonthDay
     unreachable!()
 }
 
-/// The date so many days after 1970-01-01.
+/// The date that is `days` days after 1970-01-01.
 pub(crate) fn date_of(days: u64) -> Date
     requires { days < 2 ^ 62 }
     ensures date { IsDateOf days result }

@@ -1,6 +1,6 @@
 //! What a notice is of.
 ghost use Rattle.std.specs.Prelude.{◌≡◌};
-ghost use Rattle.kx_notices.specs.Texts.{refusal_words};
+ghost use Rattle.kx_notices.specs.Texts.{refusal_words, shortage_words};
 
 use crate::closing::Closing;
 use crate::said::Said;
@@ -56,6 +56,33 @@ impl TopicRefusal {
     }
 }
 
+/// What a server has no more of.
+#[derive(Clone, Copy, Debug, PartialEq, Eq)]
+pub enum Shortage {
+    /// Files: the process has as many as it may have, so no connection can be taken.
+    Files,
+    /// Threads, by which connections are served.
+    Threads,
+    /// Transactional ids: as many are kept as may be.
+    TransactionalIds,
+    /// Groups: as many are kept as may be.
+    Groups,
+}
+
+impl Shortage {
+    /// What comes of it, in words.
+    pub(crate) fn words(self) -> &'static str
+        ensures { result.now ≡ shortage_words self }
+    {
+        match self {
+            Shortage::Files => "no connection can be taken now; the server waits",
+            Shortage::Threads => "no thread can be started now; the server waits",
+            Shortage::TransactionalIds => "no more transactional ids are taken",
+            Shortage::Groups => "no more groups are taken",
+        }
+    }
+}
+
 /// What whoever runs a server is told.
 #[derive(Drop)]
 pub enum Notice {
@@ -95,6 +122,11 @@ pub enum Notice {
         topic: Said,
         /// Why.
         why: TopicRefusal,
+    },
+    /// The server has no more of something.
+    RanOut {
+        /// Of what.
+        what: Shortage,
     },
     /// Lines that aren't there, since there would be too many.
     LeftOut {

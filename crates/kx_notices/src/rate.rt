@@ -64,7 +64,7 @@ impl Rate {
         false
     }
 
-    /// So many notices were lost before they came here.
+    /// Counts `count` notices that were dropped before they arrived.
     pub fn lose(&mut self, count: u64)
         ensures { self.new ≡ record self.old {
           left_out = min (self.old.left_out + count) most_counted;

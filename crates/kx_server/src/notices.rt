@@ -5,7 +5,7 @@ ghost use Rattle.kx_notices.specs.Rates.{most_counted};
 
 use crate::peer::Peer;
 use crate::ticking::{millis_since, moment};
-use kx_notices::{Closing, Notice, Rate, Said, TopicRefusal, Unserved, line_of};
+use kx_notices::{Closing, Notice, Rate, Said, Shortage, TopicRefusal, Unserved, line_of};
 use std::alloc::{AllocError, Global};
 use std::collections::VecDeque;
 use std::mem;
@@ -28,14 +28,25 @@ struct Noticed {
     notice: Notice,
 }
 
+// Which notices are taken in.
+#[derive(Clone, Copy, PartialEq, Eq)]
+enum Taken {
+    // None: the server hasn't begun, or has ended.
+    None,
+    // Those of what the server has no more of.
+    Shortages,
+    // All.
+    All,
+}
+
 // The notices that wait for their lines.
 #[derive(Drop)]
 struct Waiting {
     notices: VecDeque<Noticed>,
     // how many are lost since the last was taken
     lost: u64,
-    // whether more are taken in
-    is_open: bool,
+    // which are taken in
+    taken: Taken,
     // whether their lines are written
     is_written: bool,
 }
@@ -98,28 +109,33 @@ impl Notices {
             waiting: Mutex::new(Waiting {
                 notices: VecDeque::new(alloc),
                 lost: 0,
-                is_open: false,
+                taken: Taken::None,
                 is_written: false,
             }),
             moved: Condvar::new(),
         }
     }
 
-    /// From now on notices are taken in, until [`end`](Notices::end).
-    pub(crate) fn open<R: Wait>(&self, rt: &R) {
-        self.waiting.lock(rt).is_open = true;
+    /// From now on notices are taken in, until [`end`](Notices::end): all of them, or only those of
+    /// what the server has no more of.
+    pub(crate) fn open<R: Wait>(&self, rt: &R, tells_all: bool) {
+        self.waiting.lock(rt).taken = if tells_all {
+            Taken::All
+        } else {
+            Taken::Shortages
+        };
     }
 
-    // Whether notices are taken in at all.
-    fn is_open<R: Wait>(&self, rt: &R) -> bool {
-        self.waiting.lock(rt).is_open
+    // Whether all notices are taken in.
+    fn takes_all<R: Wait>(&self, rt: &R) -> bool {
+        self.waiting.lock(rt).taken == Taken::All
     }
 
-    // Puts a notice in, if they are taken in at all. One for which there is no memory is lost.
+    // Puts a notice in, unless none are taken in. One for which there is no memory is lost.
     fn put<R: Wait + Clock>(&self, rt: &R, notice: Result<Notice, AllocError>) {
         let time = moment(rt).unwrap_or(0);
         let mut waiting = self.waiting.lock(rt);
-        if !waiting.is_open {
+        if waiting.taken == Taken::None {
             return;
         }
         match notice {
@@ -139,17 +155,24 @@ impl Notices {
         })
     }
 
+    /// The server has no more of something. This is taken in even if other notices aren't.
+    pub fn ran_out<R: Wait + Clock>(&self, rt: &R, what: Shortage) {
+        self.put(rt, Ok(Notice::RanOut { what }));
+    }
+
     /// A connection is served from now on.
     pub(crate) fn opened<R: Wait + Clock>(&self, rt: &R, peer: &Peer) {
-        if self.is_open(rt) {
+        if self.takes_all(rt) {
             self.put(rt, self.opening(peer));
         }
     }
 
     /// The connection of this number closes.
     pub(crate) fn closed<R: Wait + Clock>(&self, rt: &R, number: usize, why: Closing) {
-        let connection = number as u64;
-        self.put(rt, Ok(Notice::Closed { connection, why }));
+        if self.takes_all(rt) {
+            let connection = number as u64;
+            self.put(rt, Ok(Notice::Closed { connection, why }));
+        }
     }
 
     // The notice of a client that asks for what isn't served.
@@ -170,7 +193,7 @@ impl Notices {
         client: &[u8],
         asked: Unserved,
     ) {
-        if self.is_open(rt) {
+        if self.takes_all(rt) {
             self.put(rt, self.refusal(number, client, asked));
         }
     }
@@ -184,14 +207,15 @@ impl Notices {
         })
     }
 
-    /// A topic of this name is made, with so many partitions, or isn't.
+    /// A client asked for a topic of this name: how many partitions it was made with, or why it wasn't
+    /// made.
     pub fn topic_asked<R: Wait + Clock>(
         &self,
         rt: &R,
         name: &[u8],
         made: Result<u16, TopicRefusal>,
     ) {
-        if self.is_open(rt) {
+        if self.takes_all(rt) {
             self.put(rt, self.topic(name, made));
         }
     }
@@ -206,8 +230,9 @@ impl Notices {
                 .wait_timeout_while(rt, self.waiting.lock(rt), due, |it| it.is_idle());
             waiting
         } else {
-            self.moved
-                .wait_while(rt, self.waiting.lock(rt), |it| it.is_open && it.is_idle())
+            self.moved.wait_while(rt, self.waiting.lock(rt), |it| {
+                it.taken != Taken::None && it.is_idle()
+            })
         };
         if !owes && waiting.is_idle() {
             return None;
@@ -228,10 +253,10 @@ impl Notices {
     /// long: nobody may read them.
     pub(crate) fn end<R: Wait + Clock>(&self, rt: &R) {
         let mut waiting = self.waiting.lock(rt);
-        if !waiting.is_open {
+        if waiting.taken == Taken::None {
             return;
         }
-        waiting.is_open = false;
+        waiting.taken = Taken::None;
         self.moved.notify_all();
         let patience = Duration::from_millis(LAST_MILLIS);
         let _ = self
@@ -250,7 +275,8 @@ fn write_line<R: Eprint>(rt: &R, alloc: Global, time: u64, notice: &Notice) {
     }
 }
 
-// Writes what is next, as far as there may be so many lines in this second.
+// Writes the next notice, if this second has room for its line, and before it how many lines were
+// left out.
 fn write_next<R: Eprint + Clock>(rt: &R, alloc: Global, rate: &mut Rate, now: u64, next: Next) {
     let lines = rate.turn(now);
     if lines != 0 {

@@ -2,7 +2,7 @@
 use crate::fault::NetFault;
 use crate::hub::Hub;
 use crate::protocol::Link;
-use kx_notices::Closing;
+use kx_notices::{Closing, Shortage};
 use kx_published::book::Naming;
 use kx_publishing::Readable;
 use std::alloc::{AllocError, Global};
@@ -86,11 +86,6 @@ struct Wire<L: Readable, J: Naming, R: Wait + Drop, K: Link> {
     alloc: Global,
     hub: Arc<Hub<L, J, R>>,
     link: K,
-}
-
-// Tells whoever runs the server. Nobody may watch.
-fn warn<R: Eprint>(rt: &R, words: &str) {
-    let _ = eprintln!(rt; "{words}");
 }
 
 // Whether a listener that fails so never works again: it is no listener (EBADF, EFAULT, EINVAL,
@@ -208,7 +203,7 @@ impl<
                 Err(_) => {}
             }
             if !has_told {
-                warn(&rt, "no connection can be taken now; the server waits");
+                self.hub.notices().ran_out(&rt, Shortage::Files);
                 has_told = true;
             }
             self.count.wait_for_fewer(&rt);
@@ -239,7 +234,7 @@ impl<
                 return;
             }
             if !has_told {
-                warn(&rt, "no thread can be started now; the server waits");
+                self.hub.notices().ran_out(&rt, Shortage::Threads);
                 has_told = true;
             }
             thread::sleep(&rt, Duration::from_millis(PAUSE_MILLIS));

@@ -64,9 +64,9 @@ impl<
     }
 
     // Starts the thread that writes notices. It isn't joined, since nobody may read them.
-    fn start_notices(&self, rt: R, alloc: Global) -> Result<(), AllocError> {
+    fn start_notices(&self, rt: R, alloc: Global, tells_all: bool) -> Result<(), AllocError> {
         let notices = Arc::try_clone(&self.notices)?;
-        self.notices.open(&rt);
+        self.notices.open(&rt, tells_all);
         let Ok(_) = thread::spawn(&rt, move || write_notices(&rt, alloc, &*notices)) else {
             self.notices.finish(&rt);
             return Err(AllocError);
@@ -82,9 +82,7 @@ impl<
         alloc: Global,
         options: &ServerOptions,
     ) -> Result<(), AllocError> {
-        if options.tells_notices {
-            self.start_notices(rt, alloc)?;
-        }
+        self.start_notices(rt, alloc, options.tells_notices)?;
         self.add_clock(threads, rt, options)
     }
 }
