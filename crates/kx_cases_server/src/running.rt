@@ -60,11 +60,14 @@ impl Wanted {
     }
 }
 
+// How many topics clients may have made, as the program's default is.
+const MOST_TOPICS: u16 = 16;
+
 /// What a server of stock clients is asked for.
 #[derive(Drop)]
 pub(crate) struct Stock {
     pub(crate) topics: Topics,
-    pub(crate) makes_topics: bool,
+    pub(crate) auto_topics: u16,
     pub(crate) connections: Connections,
     pub(crate) dir: Option<String>,
     pub(crate) advertise: Option<String>,
@@ -87,7 +90,7 @@ impl Stock {
                 Some(topics) => topics_asked(alloc, topics).map_err(|_| StepFault::Unknown)?,
                 None => Topics::new(alloc),
             },
-            makes_topics: topics.is_none(),
+            auto_topics: if topics.is_none() { MOST_TOPICS } else { 0 },
             connections: Connections::new(value(connections)?).ok_or(StepFault::Unknown)?,
             dir,
             advertise: None,
@@ -115,7 +118,8 @@ impl Stock {
     fn options(&self) -> KafkaOptions<'_> {
         KafkaOptions {
             topics: &self.topics,
-            makes_topics: self.makes_topics,
+            auto_topics: self.auto_topics,
+            idle: None,
             advertise: self.address(),
             port: 0,
             dir: self.dir.as_deref(),

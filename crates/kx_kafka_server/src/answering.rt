@@ -31,6 +31,10 @@ const ANY_VERSION: Version = Version {
     flexible: false,
 };
 
+/// The code for a request whose node gives no answer: memory ran out, or its trace can't be written.
+/// Clients ask again after it.
+pub(crate) const UNANSWERED: ErrorCode = ErrorCode::KafkaStorageError;
+
 /// How a request is answered.
 #[derive(Drop)]
 pub(crate) enum Answer {
@@ -174,13 +178,13 @@ impl<'a, L: Readable, J: Naming, R: Wait + Clock + Drop> Session<'a, L, J, R> {
             self.tell_topic(name, Err(TopicRefusal::Name));
             return TopicAnswer::Refused(GatewayCode::InvalidTopic.number());
         }
-        if !may_make || !self.link.shared.makes_topics || is_internal(name) {
+        if !may_make || !kept.may_make() || is_internal(name) {
             if may_make {
                 self.tell_topic(name, Err(TopicRefusal::Forbidden));
             }
             return TopicAnswer::Refused(ErrorCode::UnknownTopicOrPartition.number());
         }
-        match kept.make(self.alloc, name, 1) {
+        match kept.make_asked(self.alloc, name) {
             Ok(()) => {
                 self.tell_topic(name, Ok(1));
                 TopicAnswer::Partitions(1)
@@ -246,10 +250,10 @@ impl<'a, L: Readable, J: Naming, R: Wait + Clock + Drop> Session<'a, L, J, R> {
     fn append(&self, index: i32, step: ProduceAsk<'_>) -> Result<PartitionProduceResponse, Closed> {
         match step {
             ProduceAsk::Refused(code) => Ok(refused_produce(index, code)),
-            ProduceAsk::Append(produce) => {
-                let reply = produce_reply(&self.ask(Message::Produce(produce))?)?;
-                Ok(produced(index, &reply))
-            }
+            ProduceAsk::Append(produce) => match self.ask(Message::Produce(produce)) {
+                Ok(reply) => Ok(produced(index, &produce_reply(&reply)?)),
+                Err(Closed) => Ok(refused_produce(index, UNANSWERED.number())),
+            },
             ProduceAsk::InTransaction(batch) => self.append_in_transaction(index, &batch),
         }
     }
@@ -342,8 +346,10 @@ impl<'a, L: Readable, J: Naming, R: Wait + Clock + Drop> Session<'a, L, J, R> {
             let code = ErrorCode::UnknownTopicOrPartition.number();
             return Ok(refused_offset(index, code));
         };
-        let LogEnds { end, lso } = self.ends(partition)?;
-        Ok(listed(index, asked.timestamp, committed, end, lso))
+        match self.ends(partition) {
+            Ok(LogEnds { end, lso }) => Ok(listed(index, asked.timestamp, committed, end, lso)),
+            Err(Closed) => Ok(refused_offset(index, UNANSWERED.number())),
+        }
     }
 
     // The response to ListOffsets. Each partition is refused if Kafka has no such isolation level.
@@ -390,7 +396,10 @@ impl<'a, L: Readable, J: Naming, R: Wait + Clock + Drop> Session<'a, L, J, R> {
         match ask_init(self.caller(), request) {
             InitAsk::Refused(code) => self.refuse_init(asked, code),
             InitAsk::Ask(init) => {
-                let reply = init_reply(&self.ask(Message::InitProducerId(init))?)?;
+                let Ok(reply) = self.ask(Message::InitProducerId(init)) else {
+                    return self.refuse_init(asked, UNANSWERED.number());
+                };
+                let reply = init_reply(&reply)?;
                 Ok(Answer::Frame(init_frame(self.alloc, &asked.header, &reply)?))
             }
             InitAsk::Transactional { txn, timeout, held } => {

@@ -1,11 +1,11 @@
 //! Fetch: pages of the published logs, and waiting for records.
-use crate::answering::{Answer, Asked, Session};
+use crate::answering::{Answer, Asked, Session, UNANSWERED};
 use crate::closed::Closed;
 use crate::replies::fetch_reply;
 use kx_gateway::{
     FetchAsk, FetchBudget, aborted_of, ask_fetch, fetch_frame, fetched, refused_fetch,
 };
-use kx_kafka::{FetchRequest, Request, read_request};
+use kx_kafka::{FetchPartition, FetchRequest, Request, read_request};
 use kx_message::{AbortedTxns, Bytes, ErrorCode, Fetch, FetchReply, Message, PartitionId};
 use kx_published::book::Naming;
 use kx_publishing::Readable;
@@ -132,7 +132,46 @@ impl<'a, L: Readable, J: Naming, R: Wait + Clock + Drop> Session<'a, L, J, R> {
         })
     }
 
-    // Reads each partition that is asked for.
+    // Reads a partition, of whose log no page is read if the request named it before, or its response
+    // has no room for more.
+    fn read_one(
+        &self,
+        fetch: Fetch,
+        asked: &FetchPartition<'_>,
+        budget: &mut FetchBudget,
+        seen: &mut Vec<PartitionId>,
+    ) -> Result<Read, Closed> {
+        let (index, committed) = (asked.partition, fetch.committed);
+        let is_read = seen.contains(&fetch.partition);
+        if !is_read {
+            seen.push(fetch.partition)?;
+        }
+        let read = if is_read || !budget.has_room(asked.partition_max_bytes) {
+            self.empty_page(fetch)
+        } else {
+            self.page(fetch)
+        };
+        let Ok(reply) = read else {
+            return Ok(Read::Refused {
+                index,
+                code: UNANSWERED.number(),
+            });
+        };
+        let sends = budget.take(asked.partition_max_bytes, reply.batches.as_slice().len());
+        let reply = if sends {
+            reply
+        } else {
+            without_records(self.alloc, reply)
+        };
+        Ok(Read::Page {
+            index,
+            committed,
+            reply,
+            sends,
+        })
+    }
+
+    // Reads each partition that is asked for, each once.
     fn read_pages(&self, request: FetchRequest<'_>) -> Result<Pages, Closed> {
         let mut pages = Pages {
             reads: Vec::new(self.alloc),
@@ -140,10 +179,10 @@ impl<'a, L: Readable, J: Naming, R: Wait + Clock + Drop> Session<'a, L, J, R> {
             is_final: false,
         };
         let mut budget = FetchBudget::of(request.max_bytes);
+        let mut seen = Vec::new(self.alloc);
         let level = request.isolation_level;
         for topic in request.topics {
             for asked in topic.partitions {
-                let index = asked.partition;
                 let step = ask_fetch(
                     &self.link.shared.table.lock(self.rt).topics,
                     self.caller(),
@@ -153,27 +192,12 @@ impl<'a, L: Readable, J: Naming, R: Wait + Clock + Drop> Session<'a, L, J, R> {
                     &budget,
                 );
                 let read = match step {
-                    FetchAsk::Refused(code) => Read::Refused { index, code },
+                    FetchAsk::Refused(code) => Read::Refused {
+                        index: asked.partition,
+                        code,
+                    },
                     FetchAsk::Read(fetch) => {
-                        let committed = fetch.committed;
-                        let reply = if budget.has_room(asked.partition_max_bytes) {
-                            self.page(fetch)?
-                        } else {
-                            self.empty_page(fetch)?
-                        };
-                        let len = reply.batches.as_slice().len();
-                        let sends = budget.take(asked.partition_max_bytes, len);
-                        let reply = if sends {
-                            reply
-                        } else {
-                            without_records(self.alloc, reply)
-                        };
-                        Read::Page {
-                            index,
-                            committed,
-                            reply,
-                            sends,
-                        }
+                        self.read_one(fetch, &asked, &mut budget, &mut seen)?
                     }
                 };
                 pages.add(read)?;

@@ -1,4 +1,7 @@
 //! A connection, as its two threads share it.
+ghost use Rattle.std.specs.Prelude.{◌≡◌, ◌≤◌, ◌+◌, ◌↔◌, IfSome, IsNone};
+ghost use Rattle.core.specs.Duration.{as_nanos};
+
 use crate::inbox::Inbox;
 use crate::protocol::Shared;
 use kx_gateway::Broker;
@@ -7,18 +10,36 @@ use kx_message::ClientId;
 use kx_notices::Closing;
 use kx_server::{Peer, Waker};
 use std::alloc::{AllocError, Global};
+use std::io;
+use std::io::ErrorKind;
 use std::sync::{Arc, Wait};
+use std::time::{Clock, Duration};
 
 // How many bytes are read at once.
 const PIECE: usize = 65_536;
 
 // Why a connection closes from which no more is read.
-fn why_of(has_ended: &Result<bool, KafkaFault>) -> Closing {
-    match has_ended {
-        Ok(_) => Closing::Client,
+fn why_of(ended: &Result<Closing, KafkaFault>) -> Closing {
+    match ended {
+        Ok(why) => *why,
         Err(KafkaFault::Memory) => Closing::Unanswered,
         Err(_) => Closing::Frame,
     }
+}
+
+// How much longer a connection may ask for nothing that has done so for this long. None once its time
+// is over.
+fn patience_left(idle: Duration, quiet: Duration) -> Option<Duration>
+    ensures over { IsNone result ↔ (as_nanos idle ≤ as_nanos quiet) }
+    ensures left { IfSome result (λ left. as_nanos left + as_nanos quiet ≡ as_nanos idle) }
+{
+    let left = idle.checked_sub(quiet)?;
+    if left.is_zero() { None } else { Some(left) }
+}
+
+// Whether a read ended since nothing came for as long as it waits.
+fn is_timeout(error: &io::Error) -> bool {
+    matches!(error.kind(), ErrorKind::WouldBlock | ErrorKind::TimedOut)
 }
 
 /// A connection: what is read from it waits in its inbox, and one thread takes each request when the
@@ -59,7 +80,7 @@ impl StockLink {
     }
 
     // Puts the requests in whose frames are whole, and says whether more may come.
-    fn put_all<R: Wait>(
+    fn put_all<R: Wait + Clock>(
         &self,
         rt: &R,
         alloc: Global,
@@ -78,36 +99,67 @@ impl StockLink {
         Ok(false)
     }
 
-    // Reads until the other end closes, and says whether it did so.
-    fn read_all<R: Wait>(&self, rt: &R, alloc: Global) -> Result<bool, KafkaFault> {
+    // Nothing came for as long as a read waits. Says whether the connection stays, since a request
+    // waits or is being answered, or was put in or answered less than an idle time ago.
+    fn stays<R: Wait + Clock>(&self, rt: &R) -> bool {
+        let Some(idle) = self.shared.idle else {
+            return true;
+        };
+        let left = match self.inbox.quiet(rt) {
+            None => Some(idle),
+            Some(quiet) => patience_left(idle, quiet),
+        };
+        if left.is_some() {
+            self.peer.read_within(left);
+        }
+        left.is_some()
+    }
+
+    // Reads the next piece, and returns how many bytes it has; or why the connection closes.
+    fn read_piece<R: Wait + Clock>(&self, rt: &R, piece: &mut [u8]) -> Result<usize, Closing> {
+        for _ in rt.forever() {
+            match self.peer.read(piece) {
+                Ok(0) => return Err(Closing::Client),
+                Ok(count) => return Ok(count),
+                Err(error) if !is_timeout(&error) => return Err(Closing::Client),
+                Err(_) => {}
+            }
+            if !self.stays(rt) {
+                return Err(Closing::Idle);
+            }
+        }
+        unreachable!()
+    }
+
+    // Reads until either end closes, and says why.
+    fn read_all<R: Wait + Clock>(&self, rt: &R, alloc: Global) -> Result<Closing, KafkaFault> {
         let mut frames = Frames::new(alloc);
         let mut piece = vec![in alloc; 0; PIECE]?;
+        self.peer.read_within(self.shared.idle);
         for _ in rt.forever() {
-            let Ok(count) = self.peer.read(piece.as_mut_slice()) else {
-                return Ok(true);
+            let count = match self.read_piece(rt, piece.as_mut_slice()) {
+                Ok(count) => count,
+                Err(why) => return Ok(why),
             };
-            if count == 0 {
-                return Ok(true);
-            }
             let Some(read) = piece.get(..count) else {
-                return Ok(true);
+                return Ok(Closing::Client);
             };
             frames.feed(read)?;
             if !self.put_all(rt, alloc, &mut frames)? {
-                return Ok(false);
+                return Ok(Closing::Client);
             }
         }
-        Ok(false)
+        unreachable!()
     }
 
     /// Reads requests until either end closes the connection. Those that were whole by then are
     /// answered, also if bytes arrived that no frame begins with.
-    pub(crate) fn take_requests<R: Wait>(&self, rt: &R, alloc: Global) {
-        let has_ended = self.read_all(rt, alloc);
-        self.peer.closes(rt, why_of(&has_ended));
+    pub(crate) fn take_requests<R: Wait + Clock>(&self, rt: &R, alloc: Global) {
+        let ended = self.read_all(rt, alloc);
+        self.peer.closes(rt, why_of(&ended));
         self.inbox.close(rt);
         self.waker.wake(rt);
-        if has_ended.is_err() {
+        if ended.is_err() {
             self.peer.linger();
         }
     }

@@ -10,7 +10,7 @@ use crate::numbers::Numbers;
 use crate::producers::Producers;
 use crate::table::Table;
 use kx_gateway::Topics;
-use kx_message::{EndTxn, Message};
+use kx_message::{EndTxn, Message, Timeout};
 use kx_published::book::Naming;
 use kx_publishing::Readable;
 use kx_server::{Hub, Link, Peer, Protocol};
@@ -18,7 +18,7 @@ use kx_txnlog::Entry;
 use std::alloc::{AllocError, Global};
 use std::fs::{File, Files};
 use std::sync::{Arc, Wait};
-use std::time::{Clock, Instant};
+use std::time::{Clock, Duration, Instant};
 
 /// What all connections of stock clients share.
 #[derive(Drop)]
@@ -29,8 +29,8 @@ pub(crate) struct Shared {
     pub(crate) groups: Groups,
     // when the server began
     pub(crate) begun: Option<Instant>,
-    // whether a topic is made when a client first asks for it
-    pub(crate) makes_topics: bool,
+    // for how long a connection may ask for nothing, if not for ever
+    pub(crate) idle: Option<Duration>,
     pub(crate) address: Address,
 }
 
@@ -39,8 +39,10 @@ pub(crate) struct Shared {
 pub struct GatewayOptions<'a> {
     /// The topics that are asked for.
     pub topics: &'a Topics,
-    /// Whether a topic is made, with one partition, when a client first asks for it.
-    pub makes_topics: bool,
+    /// How many topics are made at most, with one partition each, when clients first ask for them.
+    pub auto_topics: u16,
+    /// For how long a connection may ask for nothing until it is closed; None closes none.
+    pub idle: Option<Timeout>,
     /// Where clients are told to find the broker; None is 127.0.0.1 and the port on which the server
     /// listens.
     pub advertise: Option<Advertised<'a>>,
@@ -73,12 +75,12 @@ impl Kafka {
         let topics = Lines::open(rt, options.dir, GatewayFile::Topics)?;
         let clients = Lines::open(rt, options.dir, GatewayFile::Clients)?;
         let shared = Shared {
-            table: Table::open(alloc, topics, options.topics)?,
+            table: Table::open(alloc, topics, options.topics, options.auto_topics)?,
             numbers: Numbers::open(alloc, clients, entries)?,
             producers: Producers::open(alloc, entries)?,
             groups: Groups::new(alloc),
             begun: Instant::now(rt).ok(),
-            makes_topics: options.makes_topics,
+            idle: options.idle.map(|idle| Duration::from_millis(u64::from(idle.get()))),
             address: Address::of(alloc, options.advertise)?,
         };
         let left = aborts_of(alloc, entries)?;

@@ -1,5 +1,5 @@
 //! The table of topics, which threads share and which outlives the server.
-ghost use Rattle.std.specs.Prelude.{◌≡◌, ◌++◌, ◌∷◌, [], OnErr, OnOk};
+ghost use Rattle.std.specs.Prelude.{◌≡◌, ◌<◌, ◌-◌, ◌++◌, ◌∷◌, ◌↔◌, [], OnErr, OnOk, true};
 
 use crate::fault::{GatewayFault, GatewayFile};
 use crate::kept::Lines;
@@ -12,6 +12,8 @@ use std::sync::{Mutex, MutexGuard, Wait};
 pub(crate) struct Kept {
     pub(crate) topics: Topics,
     lines: Lines,
+    // how many topics may still be made when a client first asks for them
+    left: u16,
 }
 
 /// Why a topic isn't made.
@@ -33,6 +35,7 @@ impl Kept {
         ensures made { OnOk result (self.new.topics
             ≡ self.old.topics ++ record { name = name.now; count = count } ∷ []) }
         ensures kept { OnErr result (self.new.topics ≡ self.old.topics) }
+        ensures left { self.new.left ≡ self.old.left }
     {
         let Ok(line) = topic_line(alloc, name, count) else {
             return Err(MakeFault::Refused(TopicFault::Memory));
@@ -45,6 +48,31 @@ impl Kept {
             self.topics.remove_last();
             return Err(MakeFault::Device);
         }
+        Ok(())
+    }
+
+    /// Whether a topic may be made because a client asks for it.
+    pub(crate) fn may_make(&self) -> bool
+        ensures { result ≡ true ↔ (0 < self.now.left) }
+    {
+        self.left > 0
+    }
+
+    /// Makes a topic with one partition, because a client asks for it. It is on the device when this
+    /// returns.
+    ///
+    /// # Errors
+    ///
+    /// As [`make`](Kept::make), and then as many may be made as before.
+    pub(crate) fn make_asked(&mut self, alloc: Global, name: &[u8]) -> Result<(), MakeFault>
+        ensures made { OnOk result (self.new.topics
+            ≡ self.old.topics ++ record { name = name.now; count = 1 } ∷ []) }
+        ensures left { OnOk result (self.new.left ≡ self.old.left - 1) }
+        ensures kept { OnErr result
+            ((self.new.topics ≡ self.old.topics) × (self.new.left ≡ self.old.left)) }
+    {
+        self.make(alloc, name, 1)?;
+        self.left = self.left.saturating_sub(1);
         Ok(())
     }
 
@@ -86,11 +114,13 @@ pub(crate) struct Table {
 }
 
 impl Table {
-    /// The table that these lines keep, with the topics that are asked for.
+    /// The table that these lines keep, with the topics that are asked for. Clients may have this
+    /// many more made.
     pub(crate) fn open(
         alloc: Global,
         mut lines: Lines,
         asked: &Topics,
+        left: u16,
     ) -> Result<Table, GatewayFault> {
         let text = lines.load(alloc)?;
         let (topics, len) = match read_topics(alloc, text.as_slice()) {
@@ -102,7 +132,11 @@ impl Table {
             }
         };
         lines.cut(len)?;
-        let mut kept = Kept { topics, lines };
+        let mut kept = Kept {
+            topics,
+            lines,
+            left,
+        };
         for (place, topic) in asked.topics().iter().enumerate() {
             kept.begin_with(alloc, place.saturating_add(1), topic)?;
         }

@@ -1,6 +1,6 @@
 -- What the words of a command line ask for, by what clap finds in them.
 use Rattle.std.specs.Prelude.{◌≡◌, ◌<◌, ◌^◌, ◌&&◌, ◌||◌, ℕ, List, Bool, true, false, Option, None, Some, codes}
-use Rattle.std.specs.Prelude.{not, option_map}
+use Rattle.std.specs.Prelude.{if◌then◌else◌, not, option_map}
 use Rattle.std.specs.Str.Parse.{IsNumeral, digits_value, without_leading_plus}
 use Rattle.clap.specs.Words.{Row, Text, first_of, one_of, subcommand_of}
 use Rattle.kx_bounded.specs.Bounds.{IsWithin}
@@ -12,6 +12,7 @@ use Rattle.kx_program.specs.declared.task.Pictures.{Pictures}
 use Rattle.kx_program.specs.declared.task.StockClients.{StockClients}
 use Rattle.kx_program.specs.declared.task.Task.{Task}
 use Rattle.kx_program.specs.declared.task.Task.TheVariants as task
+use Rattle.kx_serve.specs.declared.options.KafkaOptions.{KafkaOptions}
 use Rattle.kx_serve.specs.declared.options.ServeOptions.{ServeOptions}
 
 -- the text is this number of so many bits, in decimal digits
@@ -30,9 +31,10 @@ abbrev pub millis_of : Option ℕ → ℕ
 millis_of None = 0
 millis_of (Some timeout) = timeout
 
-abbrev pub IsSession : Option ℕ → Type 0
-IsSession None = Unit {0}
-IsSession (Some timeout) = IsWithin 1 900000 timeout
+-- a timeout, if there is one, is within its range
+abbrev pub FitsTimeout : Option ℕ → Type 0
+FitsTimeout None = Unit {0}
+FitsTimeout (Some timeout) = IsWithin 1 900000 timeout
 
 -- the options of `serve`
 pub record IsServe (rows : List Row) (is_watched : Bool) (options : ServeOptions) : Type 0 where
@@ -49,7 +51,7 @@ pub record IsServe (rows : List Row) (is_watched : Bool) (options : ServeOptions
   pub expires : Flags (one_of (codes "expire") rows) options.expires
   pub session : Writes 32 (one_of (codes "session-timeout") rows)
       (millis_of options.session_timeout)
-  pub session_fits : IsSession options.session_timeout
+  pub session_fits : FitsTimeout options.session_timeout
 
 -- the options of `kafka`
 pub record IsKafka (rows : List Row) (is_watched : Bool) (asked : StockClients) : Type 0 where
@@ -59,7 +61,10 @@ pub record IsKafka (rows : List Row) (is_watched : Bool) (asked : StockClients) 
   pub dir : option_map (λ d. d.now) asked.dir ≡ first_of (codes "dir") rows
   pub traces : option_map (λ d. d.now) asked.traces ≡ first_of (codes "trace") rows
   pub renews : Flags (one_of (codes "new-traces") rows) asked.new_traces
-  pub makes : Flags (one_of (codes "no-auto-topics") rows) asked.no_auto_topics
+  pub makes : Writes 16 (one_of (codes "auto-topics") rows) asked.auto_topics
+  pub makes_none : Flags (one_of (codes "no-auto-topics") rows) asked.no_auto_topics
+  pub idle : Writes 32 (one_of (codes "idle") rows) (millis_of asked.idle)
+  pub idle_fits : FitsTimeout asked.idle
   pub log : Flags (one_of (codes "log") rows) asked.log
   pub no_log : Flags (one_of (codes "no-log") rows) asked.no_log
   pub tells : asked.tells_progress ≡ is_watched
@@ -67,6 +72,21 @@ pub record IsKafka (rows : List Row) (is_watched : Bool) (asked : StockClients) 
 -- whether notices are written: they are asked for, or somebody watches and nobody asked for none
 abbrev pub tells_notices : StockClients → Bool
 tells_notices asked = asked.log || (asked.tells_progress && not asked.no_log)
+
+-- how many topics are made when clients first ask for them
+abbrev pub topics_made : StockClients → ℕ
+topics_made asked = if asked.no_auto_topics then 0 else asked.auto_topics
+
+-- what the server of stock clients is given of what was asked for
+pub record IsGiven (asked : StockClients) (options : KafkaOptions) : Type 0 where
+  pub port : options.port ≡ asked.port
+  pub dir : options.dir ≡ asked.dir
+  pub traces : options.traces ≡ asked.traces
+  pub renews : options.new_traces ≡ asked.new_traces
+  pub makes : options.auto_topics ≡ topics_made asked
+  pub idle : options.idle ≡ asked.idle
+  pub tells : options.tells_progress ≡ asked.tells_progress
+  pub notices : options.tells_notices ≡ tells_notices asked
 
 -- what is played
 pub record IsPlay (rows : List Row) (options : PlayOptions) : Type 0 where

@@ -9,6 +9,10 @@ use Rattle.clap.specs.declared.builder.value_parser.ValueParser.TheVariants as p
 abbrev pub option_of : Text → Rule
 option_of name = record (new_rule name) { long = Some name; value_names = 1; action = Some Set }
 
+-- an option without a value
+abbrev pub flag_of : Text → Rule
+flag_of name = record (new_rule name) { long = Some name; action = Some SetTrue }
+
 -- its value is one that this parser takes
 abbrev pub read_by : ValueParser → Rule → Rule
 read_by how rule = record rule { parser = Some how }
@@ -59,29 +63,20 @@ abbrev pub traces_rule : Rule
 traces_rule = read_by parser.NonEmptyString (option_of (codes "trace"))
 
 abbrev pub new_traces_rule : Rule
-new_traces_rule = record (new_rule (codes "new-traces")) {
-  long = Some (codes "new-traces");
-  action = Some SetTrue;
-}
+new_traces_rule = flag_of (codes "new-traces")
 
 abbrev pub expire_rule : Rule
-expire_rule = record (new_rule (codes "expire")) {
-  long = Some (codes "expire");
-  action = Some SetTrue;
-}
+expire_rule = flag_of (codes "expire")
 
 abbrev pub session_timeout_rule : Rule
 session_timeout_rule =
     read_by (between 0 900000) (with_default (codes "0") (option_of (codes "session-timeout")))
 
 abbrev pub log_rule : Rule
-log_rule = record (new_rule (codes "log")) { long = Some (codes "log"); action = Some SetTrue }
+log_rule = flag_of (codes "log")
 
 abbrev pub no_log_rule : Rule
-no_log_rule = record (new_rule (codes "no-log")) {
-  long = Some (codes "no-log");
-  action = Some SetTrue;
-}
+no_log_rule = flag_of (codes "no-log")
 
 abbrev pub serve_app : App
 serve_app = with_rule (with_rule (with_rule (with_rule (with_rule (with_rule (with_rule (with_rule
@@ -98,15 +93,20 @@ abbrev pub advertise_rule : Rule
 advertise_rule = read_by parser.NonEmptyString (option_of (codes "advertise"))
 
 abbrev pub no_auto_topics_rule : Rule
-no_auto_topics_rule = record (new_rule (codes "no-auto-topics")) {
-  long = Some (codes "no-auto-topics");
-  action = Some SetTrue;
-}
+no_auto_topics_rule = flag_of (codes "no-auto-topics")
+
+abbrev pub auto_topics_rule : Rule
+auto_topics_rule =
+    read_by (between 0 65535) (with_default (codes "16") (option_of (codes "auto-topics")))
+
+abbrev pub idle_rule : Rule
+idle_rule = read_by (between 0 900000) (with_default (codes "600000") (option_of (codes "idle")))
 
 abbrev pub kafka_app : App
 kafka_app = with_rule (with_rule (with_rule (with_rule (with_rule (with_rule (with_rule (with_rule
-    (with_rule (new_app (codes "kafka")) topics_rule) kafka_port_rule) advertise_rule) dir_rule)
-    traces_rule) new_traces_rule) no_auto_topics_rule) log_rule) no_log_rule
+    (with_rule (with_rule (with_rule (new_app (codes "kafka")) topics_rule) kafka_port_rule)
+    advertise_rule) dir_rule) traces_rule) new_traces_rule) auto_topics_rule) no_auto_topics_rule)
+    idle_rule) log_rule) no_log_rule
 
 abbrev pub workers_rule : Rule
 workers_rule = read_by (between 1 16) (with_default (codes "4") (option_of (codes "workers")))

@@ -3,7 +3,7 @@ ghost use Rattle.std.specs.Prelude.{◌≡◌, ◌⊎◌, MatchResult, Option, o
 ghost use Rattle.std.specs.Io.Buffered.{writer_contents};
 ghost use Rattle.kx_kafka_server.specs.declared.advertised.Advertised.{Advertised as Asked};
 ghost use Rattle.kx_program.specs.Program.{IsAddressIn, ServesStock};
-ghost use Rattle.kx_program.specs.Tasks.{tells_notices};
+ghost use Rattle.kx_program.specs.Tasks.{IsGiven, tells_notices, topics_made};
 ghost use Rattle.kx_text.specs.declared.program.Ending.TheVariants as ending;
 
 use crate::streams::failed;
@@ -78,6 +78,43 @@ fn tells_notices(asked: &StockClients<'_>) -> bool
     asked.log || (asked.tells_progress && !asked.no_log)
 }
 
+// How many topics are made when clients first ask for them.
+fn topics_made(asked: &StockClients<'_>) -> u16
+    ensures { result ≡ topics_made asked.now }
+{
+    if asked.no_auto_topics {
+        0
+    } else {
+        asked.auto_topics
+    }
+}
+
+// What the server of stock clients is given of what was asked for.
+fn given<'a>(
+    asked: &StockClients<'a>,
+    topics: &'a Topics,
+    advertise: Option<Advertised<'a>>,
+    connections: Connections,
+) -> KafkaOptions<'a>
+    ensures given { IsGiven asked.now result }
+    ensures advertise { result.advertise ≡ advertise }
+{
+    KafkaOptions {
+        topics,
+        auto_topics: topics_made(asked),
+        advertise,
+        port: asked.port,
+        dir: asked.dir,
+        traces: asked.traces,
+        new_traces: asked.new_traces,
+        idle: asked.idle,
+        connections,
+        until: Until::Killed,
+        tells_progress: asked.tells_progress,
+        tells_notices: tells_notices(asked),
+    }
+}
+
 // Serves stock clients, who find these topics and are told this address.
 fn serve_stock<
     R: Files<File = File>
@@ -108,19 +145,7 @@ fn serve_stock<
     let Some(connections) = Connections::new(MOST_CONNECTIONS) else {
         unreachable!();
     };
-    let options = KafkaOptions {
-        topics,
-        makes_topics: !asked.no_auto_topics,
-        advertise,
-        port: asked.port,
-        dir: asked.dir,
-        traces: asked.traces,
-        new_traces: asked.new_traces,
-        connections,
-        until: Until::Killed,
-        tells_progress: asked.tells_progress,
-        tells_notices: tells_notices(asked),
-    };
+    let options = given(asked, topics, advertise, connections);
     let folders = Folders {
         logs: asked.dir,
         traces: asked.traces,
@@ -161,30 +186,16 @@ fn serve_told<
     }
 }
 
-// Serves stock clients, of whom whoever runs the server is told or not.
-fn serve_asked<
-    R: Files<File = File>
-        + Net<Listener = TcpListener, Stream = TcpStream>
-        + AllocGlobal
-        + Eprint
-        + Threads
-        + Wait
-        + Clock
-        + Copy
-        + Send
-        + Sync
-        + Drop
-        + 'static,
-    O: Write + Drop,
-    E: Write,
->(rt: &R, asked: &StockClients<'_>, out: &mut BufWriter<O>, errors: &mut E) -> Ending
-    ensures { ServesStock (writer_contents O.contents out.old) (writer_contents O.contents out.new)
-        result }
-{
-    match address_of(asked.advertise, errors) {
-        Ok(advertise) => serve_told(rt, asked, advertise, out, errors),
-        Err(ending) => ending,
+// Whether notices are asked for, and none are asked for too: that is refused.
+fn asks_for_both<E: Write>(asked: &StockClients<'_>, errors: &mut E) -> bool {
+    let both = asked.log && asked.no_log;
+    if both {
+        let _ = writeln!(
+            errors,
+            "kx: --log and --no-log: only one of them can be asked for"
+        );
     }
+    both
 }
 
 /// Serves stock clients until the process is killed.
@@ -207,12 +218,11 @@ pub(crate) fn kafka<
     ensures { ServesStock (writer_contents O.contents out.old) (writer_contents O.contents out.new)
         result }
 {
-    if asked.log && asked.no_log {
-        let _ = writeln!(
-            errors,
-            "kx: --log and --no-log: only one of them can be asked for"
-        );
+    if asks_for_both(asked, errors) {
         return Ending::WrongArguments;
     }
-    serve_asked(rt, asked, out, errors)
+    match address_of(asked.advertise, errors) {
+        Ok(advertise) => serve_told(rt, asked, advertise, out, errors),
+        Err(ending) => ending,
+    }
 }

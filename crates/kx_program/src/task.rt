@@ -3,7 +3,7 @@ ghost use Rattle.std.specs.Prelude.{ℕ, ◌≡◌, MatchOption, Option, codes};
 ghost use Rattle.clap.specs.Words.{found_of, one_of, rows_of, subcommand_rows_of};
 ghost use Rattle.kx_play.specs.declared.options.PlayOptions.{PlayOptions};
 ghost use Rattle.kx_program.specs.Tasks.{AsksFor, IsAudit, IsDemo, IsKafka, IsPlay, IsServe};
-ghost use Rattle.kx_program.specs.Tasks.{IsSession, IsSim, Writes, millis_of};
+ghost use Rattle.kx_program.specs.Tasks.{FitsTimeout, IsSim, Writes, millis_of};
 ghost use Rattle.kx_program.specs.declared.task.Auditing.{Auditing};
 ghost use Rattle.kx_program.specs.declared.task.Demonstration.{Demonstration};
 ghost use Rattle.kx_program.specs.declared.task.StockClients.{StockClients};
@@ -62,8 +62,12 @@ pub struct StockClients<'a> {
     pub traces: Option<&'a str>,
     /// Whether its traces begin anew.
     pub new_traces: bool,
+    /// How many topics are made at most when clients first ask for them.
+    pub auto_topics: u16,
     /// Whether no topic is made when a client first asks for it.
     pub no_auto_topics: bool,
+    /// For how long a connection may ask for nothing until it is closed; None closes none.
+    pub idle: Option<Timeout>,
     /// Whether it writes notices of what happens to standard error, also if nobody watches that.
     pub log: bool,
     /// Whether it writes none, also if somebody watches.
@@ -107,21 +111,20 @@ fn seed_in(given: &ArgMatches<'_>) -> Option<u64>
     given.get_one("seed")
 }
 
-// For how many milliseconds a member of a group may be silent.
-fn millis_in(given: &ArgMatches<'_>) -> Option<u32>
+// A number of milliseconds that an option has.
+fn millis_in(given: &ArgMatches<'_>, id: &str) -> Option<u32>
     ensures { MatchOption result
-        ((n : ℕ) → Writes 32 (one_of (codes "session-timeout") (rows_of (found_of given.now))) n
-        → ⊥)
-        (Writes 32 (one_of (codes "session-timeout") (rows_of (found_of given.now)))) }
+        ((n : ℕ) → Writes 32 (one_of id.now (rows_of (found_of given.now))) n → ⊥)
+        (Writes 32 (one_of id.now (rows_of (found_of given.now)))) }
 {
-    given.get_one("session-timeout")
+    given.get_one(id)
 }
 
-// The timeout of so many milliseconds; 0 is none.
-fn session_of(millis: u32) -> Option<Option<Timeout>>
+// The timeout of this many milliseconds; 0 is none.
+fn timeout_of(millis: u32) -> Option<Option<Timeout>>
     ensures { MatchOption result
-        ((timeout : Option ℕ) → millis ≡ millis_of timeout → IsSession timeout → ⊥)
-        (λ timeout. (millis ≡ millis_of timeout) × IsSession timeout) }
+        ((timeout : Option ℕ) → millis ≡ millis_of timeout → FitsTimeout timeout → ⊥)
+        (λ timeout. (millis ≡ millis_of timeout) × FitsTimeout timeout) }
 {
     if millis == 0 {
         return Some(None);
@@ -132,16 +135,16 @@ fn session_of(millis: u32) -> Option<Option<Timeout>>
     }
 }
 
-// For how long a member of a group may be silent; None if 0 is written.
-fn session_in(given: &ArgMatches<'_>) -> Option<Option<Timeout>>
+// A timeout that an option has; None if 0 is written.
+fn timeout_in(given: &ArgMatches<'_>, id: &str) -> Option<Option<Timeout>>
     ensures { MatchOption result
-        ((timeout : Option ℕ) → Writes 32 (one_of (codes "session-timeout")
-        (rows_of (found_of given.now))) (millis_of timeout) → IsSession timeout → ⊥)
-        (λ timeout. Writes 32 (one_of (codes "session-timeout") (rows_of (found_of given.now)))
-        (millis_of timeout) × IsSession timeout) }
+        ((timeout : Option ℕ) → Writes 32 (one_of id.now (rows_of (found_of given.now)))
+        (millis_of timeout) → FitsTimeout timeout → ⊥)
+        (λ timeout. Writes 32 (one_of id.now (rows_of (found_of given.now)))
+        (millis_of timeout) × FitsTimeout timeout) }
 {
-    let millis = millis_in(given)?;
-    session_of(millis)
+    let millis = millis_in(given, id)?;
+    timeout_of(millis)
 }
 
 // What `serve` is asked for.
@@ -160,7 +163,7 @@ fn serve_options<'a>(given: &ArgMatches<'a>, is_watched: bool) -> Option<ServeOp
         tells_progress: is_watched,
         tells_notices: given.get_flag("log"),
         expires: given.get_flag("expire"),
-        session_timeout: session_in(given)?,
+        session_timeout: timeout_in(given, "session-timeout")?,
     })
 }
 
@@ -177,7 +180,9 @@ fn kafka_in<'a>(given: &ArgMatches<'a>, is_watched: bool) -> Option<StockClients
         dir: given.get_str("dir"),
         traces: given.get_str("trace"),
         new_traces: given.get_flag("new-traces"),
+        auto_topics: number_in(given, "auto-topics")?,
         no_auto_topics: given.get_flag("no-auto-topics"),
+        idle: timeout_in(given, "idle")?,
         log: given.get_flag("log"),
         no_log: given.get_flag("no-log"),
         tells_progress: is_watched,

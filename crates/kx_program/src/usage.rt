@@ -3,6 +3,7 @@ ghost use Rattle.std.specs.Prelude.{◌≡◌, IfOk, codes, false};
 ghost use Rattle.clap.specs.Words.{app_of, new_app, rule_of};
 ghost use Rattle.clap.specs.declared.builder.command.Command.TheViews.{out-Command};
 ghost use Rattle.kx_program.specs.Usage.{advertise_rule, audit_app, audited_rule};
+ghost use Rattle.kx_program.specs.Usage.{auto_topics_rule, flag_of, idle_rule};
 ghost use Rattle.kx_program.specs.Usage.{session_timeout_rule};
 ghost use Rattle.kx_program.specs.Usage.{connections_rule, demo_app, dir_rule, dump_app};
 ghost use Rattle.kx_program.specs.Usage.{dumped_rule, expire_rule};
@@ -47,6 +48,17 @@ fn required<'a>(alloc: Global, name: &'a str, value: &'a str, help: &'a str) -> 
         .value_name(value)
         .required(true)
         .action(ArgAction::Set)
+        .help(help)
+}
+
+// A flag: it is on if it is given.
+fn flag<'a>(alloc: Global, name: &'a str, help: &'a str) -> Arg<'a>
+    ensures rule { rule_of result ≡ flag_of name.entry.now }
+    ensures local { result.global ≡ false }
+{
+    Arg::new(alloc, name)
+        .long(name)
+        .action(ArgAction::SetTrue)
         .help(help)
 }
 
@@ -108,10 +120,7 @@ fn new_traces<'a>(alloc: Global) -> Arg<'a>
     ensures rule { rule_of result ≡ new_traces_rule }
     ensures local { result.global ≡ false }
 {
-    Arg::new(alloc, "new-traces")
-        .long("new-traces")
-        .action(ArgAction::SetTrue)
-        .help("Removes the traces that are there; they begin anew, with the logs")
+    flag(alloc, "new-traces", "Removes the traces that are there; they begin anew, with the logs")
 }
 
 // Whether a server's clock aborts transactions.
@@ -119,10 +128,7 @@ fn expire<'a>(alloc: Global) -> Arg<'a>
     ensures rule { rule_of result ≡ expire_rule }
     ensures local { result.global ≡ false }
 {
-    Arg::new(alloc, "expire")
-        .long("expire")
-        .action(ArgAction::SetTrue)
-        .help("Aborts transactions whose time is up; else they stay open")
+    flag(alloc, "expire", "Aborts transactions whose time is up; else they stay open")
 }
 
 // For how long a member of a group may be silent.
@@ -131,7 +137,7 @@ fn session_timeout<'a>(alloc: Global) -> Arg<'a>
     ensures local { result.global ≡ false }
 {
     let help =
-        "Drops members of groups that are silent for so many milliseconds, up to 900000; 0 drops none";
+        "Drops members of groups that are silent for MS milliseconds, up to 900000; 0 drops none";
     number(alloc, "session-timeout", "MS", "0", help).value_parser(clap::value_parser!(u32).range(
         0..=900_000,
     ))
@@ -177,10 +183,28 @@ fn no_auto_topics<'a>(alloc: Global) -> Arg<'a>
     ensures rule { rule_of result ≡ no_auto_topics_rule }
     ensures local { result.global ≡ false }
 {
-    Arg::new(alloc, "no-auto-topics")
-        .long("no-auto-topics")
-        .action(ArgAction::SetTrue)
-        .help("Makes no topic when a client first asks for it")
+    flag(alloc, "no-auto-topics", "Makes no topic when a client first asks for it")
+}
+
+// How many topics are made when clients first ask for them.
+fn auto_topics<'a>(alloc: Global) -> Arg<'a>
+    ensures rule { rule_of result ≡ auto_topics_rule }
+    ensures local { result.global ≡ false }
+{
+    let help = "How many topics are made at most when clients first ask for them";
+    number(alloc, "auto-topics", "N", "16", help).value_parser(clap::value_parser!(u16))
+}
+
+// For how long a connection may be idle.
+fn idle<'a>(alloc: Global) -> Arg<'a>
+    ensures rule { rule_of result ≡ idle_rule }
+    ensures local { result.global ≡ false }
+{
+    let help =
+        "Closes connections that ask for nothing for MS milliseconds, up to 900000; 0 closes none";
+    number(alloc, "idle", "MS", "600000", help).value_parser(clap::value_parser!(u32).range(
+        0..=900_000,
+    ))
 }
 
 // Whether a server writes notices of what happens.
@@ -188,10 +212,7 @@ fn log<'a>(alloc: Global) -> Arg<'a>
     ensures rule { rule_of result ≡ log_rule }
     ensures local { result.global ≡ false }
 {
-    Arg::new(alloc, "log")
-        .long("log")
-        .action(ArgAction::SetTrue)
-        .help("Writes to standard error what happens: connections, refusals, topics")
+    flag(alloc, "log", "Writes to standard error what happens: connections, refusals, topics")
 }
 
 // Whether a server of stock clients writes none.
@@ -199,10 +220,7 @@ fn no_log<'a>(alloc: Global) -> Arg<'a>
     ensures rule { rule_of result ≡ no_log_rule }
     ensures local { result.global ≡ false }
 {
-    Arg::new(alloc, "no-log")
-        .long("no-log")
-        .action(ArgAction::SetTrue)
-        .help("Writes none of it, also if standard error is a terminal")
+    flag(alloc, "no-log", "Writes none of it, also if standard error is a terminal")
 }
 
 // How many threads serve a demonstration.
@@ -355,7 +373,9 @@ fn kafka_usage<'a>(alloc: Global) -> Result<Command<'a>, AllocError>
         .arg(dir(alloc))?
         .arg(traces(alloc))?
         .arg(new_traces(alloc))?
+        .arg(auto_topics(alloc))?
         .arg(no_auto_topics(alloc))?
+        .arg(idle(alloc))?
         .arg(log(alloc))?
         .arg(no_log(alloc))
 }

@@ -58,7 +58,8 @@ fn gateway<R: Files<File = File> + AllocGlobal + Clock>(
 ) -> Result<Kafka, ServeFault> {
     let asked = GatewayOptions {
         topics: options.topics,
-        makes_topics: options.makes_topics,
+        auto_topics: options.auto_topics,
+        idle: options.idle,
         advertise: options.advertise,
         dir: options.dir,
     };

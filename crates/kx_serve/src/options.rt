@@ -51,8 +51,8 @@ impl<'a> ServeOptions<'a> {
 pub struct KafkaOptions<'a> {
     /// The topics that are there from the start.
     pub topics: &'a Topics,
-    /// Whether a topic is made, with one partition, when a client first asks for it.
-    pub makes_topics: bool,
+    /// How many topics are made at most, with one partition each, when clients first ask for them.
+    pub auto_topics: u16,
     /// Where clients are told to find the broker; None is 127.0.0.1 and the port on which it listens.
     pub advertise: Option<Advertised<'a>>,
     /// The port on 127.0.0.1 on which it listens; 0 takes any that is free.
@@ -65,6 +65,8 @@ pub struct KafkaOptions<'a> {
     pub traces: Option<&'a str>,
     /// Whether traces that are there are removed, so that they begin anew.
     pub new_traces: bool,
+    /// For how long a connection may ask for nothing until it is closed; None closes none.
+    pub idle: Option<Timeout>,
     /// How many connections it serves: at a time, or in all.
     pub connections: Connections,
     /// When it ends.

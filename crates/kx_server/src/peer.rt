@@ -3,10 +3,12 @@ use crate::outbox::{Outbox, Put};
 use kx_message::Message;
 use kx_notices::Closing;
 use kx_stream::{FrameReader, StreamFault, send};
+use libc::net::{SO_KEEPALIVE, SOL_SOCKET, setsockopt};
 use std::alloc::{AllocError, Global};
 use std::io;
 use std::io::{Read, Write};
 use std::net::{Shutdown, TcpStream};
+use std::os::fd::AsRawFd;
 use std::sync::{Mutex, Wait};
 use std::time::{Clock, Duration};
 
@@ -16,6 +18,15 @@ const LINGER_MILLIS: u64 = 1000;
 const LINGER_PIECES: usize = 512;
 
 const LINGER_PIECE: usize = 8192;
+
+// Has the system ask now and then whether the other end is still there: one that vanished is found.
+// If this can't be had, it is found by what is written to it.
+fn keep_alive(stream: &TcpStream) {
+    let mut on = [0u8; 16];
+    on[0] = 1;
+    // SAFETY: the option's value is an int, of which `on` has the bytes, and the stream is open.
+    let _ = unsafe { setsockopt(stream.as_raw_fd(), SOL_SOCKET, SO_KEEPALIVE, &on, 4) };
+}
 
 /// A connection, as the threads see it that answer over it.
 #[derive(Drop)]
@@ -32,6 +43,7 @@ impl Peer {
     pub(crate) fn new(alloc: Global, number: usize, stream: TcpStream) -> Peer {
         // Replies are small and are waited for. Where this can't be had they come later.
         let _ = stream.set_nodelay(true);
+        keep_alive(&stream);
         Peer {
             number,
             stream,
@@ -87,6 +99,12 @@ impl Peer {
     /// If the connection can't be read.
     pub fn read(&self, piece: &mut [u8]) -> io::Result<usize> {
         (&mut &self.stream).read(piece)
+    }
+
+    /// From now on a read waits at most this long, and then fails; with None it waits for ever. If the
+    /// system can't do so, nothing changes.
+    pub fn read_within(&self, patience: Option<Duration>) {
+        let _ = self.stream.set_read_timeout(patience);
     }
 
     /// Writes bytes to the connection, and says whether all were written.

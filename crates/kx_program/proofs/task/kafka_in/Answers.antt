@@ -17,10 +17,13 @@ returns c = record {
       (one_text-rows (found_of c.args.given.now) (codes "new-traces"))
       (flags (one_text (found_of c.args.given.now) (codes "new-traces")) c.get_flag.result
       c.get_flag.ensures.none c.get_flag.ensures.value c.get_flag.ensures.other);
-  makes = subst (λ (text : Option Text). Flags text c.get_flag-2.result)
+  makes = search rules;
+  makes_none = subst (λ (text : Option Text). Flags text c.get_flag-2.result)
       (one_text-rows (found_of c.args.given.now) (codes "no-auto-topics"))
       (flags (one_text (found_of c.args.given.now) (codes "no-auto-topics")) c.get_flag-2.result
       c.get_flag-2.ensures.none c.get_flag-2.ensures.value c.get_flag-2.ensures.other);
+  idle = search rules;
+  idle_fits = search rules;
   log = subst (λ (text : Option Text). Flags text c.get_flag-3.result)
       (one_text-rows (found_of c.args.given.now) (codes "log"))
       (flags (one_text (found_of c.args.given.now) (codes "log")) c.get_flag-3.result

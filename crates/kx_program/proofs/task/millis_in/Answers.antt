@@ -1,4 +1,4 @@
-use Rattle.std.proofs.Common.{ℕ, Option, MatchOption, codes, subst}
+use Rattle.std.proofs.Common.{ℕ, Option, MatchOption, subst}
 use Rattle.std.specs.Str.Parse.{ParsesUnsigned, ExplainsUnsignedError, HasUnsignedDigitsIfOk}
 use Rattle.clap.specs.Words.{Text, found_of, one_text}
 use Rattle.clap.proofs.WalkLemmas.{one_text-rows}
@@ -8,7 +8,7 @@ use Rattle.kx_program.proofs.task.millis_in.Goals as goal
 
 pub returns : goal.returns
 returns c =
-    let id : Text = codes "session-timeout" in
+    let id : Text = c.args.id.now in
     subst (λ (text : Option Text). MatchOption c.get_one.result
     ((n : ℕ) → Writes 32 text n → ⊥) (Writes 32 text))
     (one_text-rows (found_of c.args.given.now) id)

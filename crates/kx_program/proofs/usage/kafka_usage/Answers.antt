@@ -21,13 +21,17 @@ returns c =
     let made_6 = with_argument _ _ _ _ _ c.in_ok-arg-6.ensures made_5
     c.new_traces.ensures.rule c.new_traces.ensures.local in
     let made_7 = with_argument _ _ _ _ _ c.in_ok-arg-7.ensures made_6
-    c.no_auto_topics.ensures.rule c.no_auto_topics.ensures.local in
+    c.auto_topics.ensures.rule c.auto_topics.ensures.local in
     let made_8 = with_argument _ _ _ _ _ c.in_ok-arg-8.ensures made_7
+    c.no_auto_topics.ensures.rule c.no_auto_topics.ensures.local in
+    let made_9 = with_argument _ _ _ _ _ c.in_ok-arg-9.ensures made_8
+    c.idle.ensures.rule c.idle.ensures.local in
+    let made_10 = with_argument _ _ _ _ _ c.in_ok-arg-10.ensures made_9
     c.log.ensures.rule c.log.ensures.local in
     record {
-      app = IfOk-weaker c.arg-9.result _ _ (λ command adds. (with_argument _ _ _ _ _ adds
-          made_8 c.no_log.ensures.rule c.no_log.ensures.local).is) c.arg-9.ensures;
-      local = IfOk-weaker c.arg-9.result _ _ (λ command adds. (with_argument _ _ _ _ _ adds
-          made_8 c.no_log.ensures.rule c.no_log.ensures.local).local)
-          c.arg-9.ensures;
+      app = IfOk-weaker c.arg-11.result _ _ (λ command adds. (with_argument _ _ _ _ _ adds
+          made_10 c.no_log.ensures.rule c.no_log.ensures.local).is) c.arg-11.ensures;
+      local = IfOk-weaker c.arg-11.result _ _ (λ command adds. (with_argument _ _ _ _ _ adds
+          made_10 c.no_log.ensures.rule c.no_log.ensures.local).local)
+          c.arg-11.ensures;
     }
