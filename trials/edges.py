@@ -2,7 +2,7 @@
 """Looks at a server of stock clients where files run out, and where the clock on the wall is put
 back or forward.
 
-    edges.py PROGRAM
+    edges.py PROGRAM [LOOK..]
 
 - With at most 64 open files the server says how many connections it takes, serves so many at a time,
   closes one more at once, and serves others when these have closed, however often.
@@ -11,6 +11,12 @@ back or forward.
   start.
 - A transaction whose time is up is ended though the clock is put back by an hour; so is one after
   the clock was ten years ahead for a while, also after a restart. (This needs a C compiler.)
+- A connection that asks for nothing is closed after its time, one that waits in a Fetch isn't, and
+  the system asks each whether it is still there.
+- As many topics are made by being asked for as `--auto-topics` says, and none that begins with `__`.
+- A Fetch that names one partition 40,000 times is answered within seconds; ListOffsets of an unknown
+  isolation level is answered 42.
+- With traces that can't be written any more, a request is answered by a code. (This needs `mount`.)
 
 Ends with status 1 if one of these isn't so. Requests are written from Kafka's protocol guide, and
 batches from docs/FORMATS.md.
@@ -269,13 +275,148 @@ def the_clock_moves():
         server.end()
 
 
+def closed_after(client, patience):
+    """After how many seconds the server closes a connection, at most this many."""
+    begun = time.time()
+    client.socket.settimeout(patience)
+    try:
+        while client.socket.recv(65536):
+            pass
+    except socket.timeout:
+        return None
+    except OSError:
+        pass
+    return time.time() - begun
+
+
+def fetch_fields(partitions, wait):
+    """A Fetch of version 4 for at least one byte, of these places of a topic `bills`."""
+    fields = struct.pack(">iiiib", -1, wait, 1, 1 << 20, 0)
+    fields += struct.pack(">i", 1) + text("bills") + struct.pack(">i", len(partitions))
+    return fields + b"".join(struct.pack(">iqi", it, 0, 1 << 20) for it in partitions)
+
+
+def is_kept_alive(port):
+    """Whether the system asks the other ends of a server's connections if they are still there."""
+    with open("/proc/net/tcp") as it:
+        rows = [row.split() for row in it.readlines()[1:]]
+    served = [row for row in rows if row[1].endswith(f":{port:04X}") and row[3] == "01"]
+    return bool(served) and all(row[5].startswith("02:") for row in served)
+
+
+def idle_ones_are_closed():
+    server = Server("--idle", "2000", "--log")
+    silent, asks, waits = (Client(server.port) for _ in range(3))
+    waits.ask(3, 1, struct.pack(">i", 1) + text("bills"))
+    say("connections are kept alive", is_kept_alive(server.port))
+    found = []
+    thread = threading.Thread(
+        target=lambda: found.append(waits.ask(1, 4, fetch_fields([0], 6000))))
+    thread.start()
+    for _ in range(8):
+        asks.is_served()
+        time.sleep(0.5)
+    took = closed_after(silent, 5)
+    say("a silent connection is closed", took is not None and took < 0.5, f"{took}")
+    say("one that asks isn't", asks.is_served())
+    took = closed_after(asks, 5)
+    say("it is closed once it asks no more", took is not None and 1.5 < took < 3.5, f"{took}")
+    thread.join()
+    say("one that waits in a Fetch is answered", bool(found and found[0]))
+    took = closed_after(waits, 5)
+    say("and closed after its time", took is not None and 1 < took < 3.5, f"{took}")
+    time.sleep(0.5)
+    closed = sum("nothing came for too long" in it for it in server.words().split("\n"))
+    say("each is said", closed == 3, f"{closed}")
+    server.end()
+    server = Server("--idle", "0")
+    client = Client(server.port)
+    say("with --idle 0 none is closed", closed_after(client, 3) is None)
+    server.end()
+
+
+def topic_code(client, name):
+    """The code of a topic that is asked for by Metadata of version 1."""
+    answer = client.ask(3, 1, struct.pack(">i", 1) + text(name))
+    return struct.unpack(">h", answer[answer.index(text(name)) - 2:][:2])[0]
+
+
+def topics_are_bounded():
+    server = Server("--auto-topics", "2", "--log")
+    client = Client(server.port)
+    codes = [topic_code(client, it) for it in ("a", "__b", "b", "c", "a", "d")]
+    say("two topics are made", codes == [0, 3, 0, 3, 0, 3], f"{codes}")
+    server.end()
+    server = Server("--no-auto-topics")
+    say("none is", topic_code(Client(server.port), "a") == 3)
+    server.end()
+
+
+def one_partition_often():
+    server = Server()
+    client = Client(server.port)
+    client.ask(3, 1, struct.pack(">i", 1) + text("bills"))
+    client.socket.settimeout(60)
+    begun = time.time()
+    answer = client.ask(1, 4, fetch_fields([0] * 40000, 0))
+    took = time.time() - begun
+    say("one partition 40,000 times", len(answer) > 40000 and took < 40, f"{took:.1f} s")
+    fields = struct.pack(">ib", -1, 7) + struct.pack(">i", 1) + text("bills")
+    answer = client.ask(2, 2, fields + struct.pack(">iiq", 1, 0, -1))
+    code = struct.unpack(">h", answer[4 + 4 + 7 + 4 + 4:][:2])[0]
+    say("an unknown isolation level", code == 42, f"{code}")
+    server.end()
+
+
+def traces_fill_up():
+    with tempfile.TemporaryDirectory() as room:
+        small = f"{room}/small"
+        os.mkdir(small)
+        if subprocess.run(["mount", "-t", "tmpfs", "-o", "size=256k", "none", small],
+                          capture_output=True).returncode:
+            print("skipped: nothing can be mounted here, so no disk is filled")
+            return
+        try:
+            server = Server("--trace", f"{small}/traces", "--dir", f"{room}/logs")
+            client = Client(server.port)
+            client.ask(3, 1, struct.pack(">i", 1) + text("bills"))
+            codes = []
+            for _ in range(4000):
+                records = plain_batch(b"x" * 512)
+                fields = struct.pack(">hhi", -1, -1, 30000) + struct.pack(">i", 1) + text("bills")
+                answer = client.ask(
+                    0, 3, fields + struct.pack(">iii", 1, 0, len(records)) + records)
+                if not answer:
+                    codes.append(None)
+                    break
+                codes.append(struct.unpack(">h", answer[4 + 7 + 4 + 4:][:2])[0])
+                if len(codes) > 3 and codes[-3:] == [56] * 3:
+                    break
+            say("a full disk of traces", codes[-3:] == [56] * 3, f"{codes[-3:]} after {len(codes)}")
+            answer = client.ask(1, 4, fetch_fields([0], 0))
+            say("records are still read", len(answer) > 512)
+            server.end()
+        finally:
+            subprocess.run(["umount", small])
+
+
+def plain_batch(value):
+    """A batch of one record, of no producer."""
+    record = bytes([0, 0, 0, 1]) + varint(len(value)) + value + b"\0"
+    body = struct.pack(">hiqqqhii", 0, 0, 0, 0, -1, -1, -1, 1) + varint(len(record)) + record
+    return struct.pack(">qiibI", 0, len(body) + 9, 0, 2, crc32c(body)) + body
+
+
+LOOKS = {it.__name__: it for it in (
+    files_run_out, many_gone, killed_within_commits, the_clock_moves, idle_ones_are_closed,
+    topics_are_bounded, one_partition_often, traces_fill_up)}
+
+
 def main():
     soft, hard = resource.getrlimit(resource.RLIMIT_NOFILE)
     resource.setrlimit(resource.RLIMIT_NOFILE, (min(8192, hard), hard))
-    files_run_out()
-    many_gone()
-    killed_within_commits()
-    the_clock_moves()
+    for name in sys.argv[2:] or LOOKS:
+        LOOKS[name]()
     print(f"{len(FAILED)} failed")
     return 1 if FAILED else 0
 

@@ -41,7 +41,7 @@ pub struct Peer {
 impl Peer {
     /// A connection of this number.
     pub(crate) fn new(alloc: Global, number: usize, stream: TcpStream) -> Peer {
-        // Replies are small and are waited for. Where this can't be had they come later.
+        // Replies are small and are waited for. If this can't be had they come later.
         let _ = stream.set_nodelay(true);
         keep_alive(&stream);
         Peer {
