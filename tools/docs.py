@@ -284,11 +284,14 @@ def usages():
     bodies = re.findall(r"^fn (\w+)<[^\n]*\n.*?^\{\n(.*?)^\}", text, re.M | re.S)
     for name, body in bodies:
         short = re.search(r'\b(?:number|required)\(alloc, "([\w-]+)", "([^"]+)"', body)
+        flag = re.search(r'\bflag\(\s*alloc,\s*"([\w-]+)"', body)
         long = re.search(r'\.long\("([\w-]+)"\)', body)
         value = re.search(r'\.value_name\("([^"]+)"\)', body)
         word = re.search(r'Arg::new\(alloc, "([^"]+)"\)', body)
         if short:
             arguments[name] = (f"--{short[1]}", short[2])
+        elif flag:
+            arguments[name] = (f"--{flag[1]}", "")
         elif long:
             arguments[name] = (f"--{long[1]}", value[1] if value else "")
         elif word:
