@@ -1,1 +1,2 @@
 pub mod Advertised
+pub mod Untaken

@@ -4,6 +4,7 @@ use crate::link::StockLink;
 use crate::replies::{fetch_reply, init_reply, produce_reply};
 use crate::table::{Kept, MakeFault};
 use crate::transacting::TxnInit;
+use crate::untaken::{UNTAKEN, untaken_reply};
 use kx_gateway::{
     GatewayCode, InitAsk, NamedTopic, ProduceAsk, TopicAnswer, TopicFault, Topics,
     api_versions_frame, ask_init, ask_produce, asks_all, find_coordinator_frame, init_frame,
@@ -30,10 +31,6 @@ const ANY_VERSION: Version = Version {
     number: 0,
     flexible: false,
 };
-
-/// The code for a request whose node gives no answer: memory ran out, or its trace can't be written.
-/// Clients ask again after it.
-pub(crate) const UNANSWERED: ErrorCode = ErrorCode::KafkaStorageError;
 
 /// How a request is answered.
 #[derive(Drop)]
@@ -132,7 +129,8 @@ impl<'a, L: Readable, J: Naming, R: Wait + Clock + Drop> Session<'a, L, J, R> {
         }
     }
 
-    /// Sends a message to its node, and waits for the reply, at most this long.
+    /// Sends a message to its node, and waits for the reply, at most this long. If the node takes no
+    /// step, the reply is that of a node whose log is closed.
     ///
     /// # Errors
     ///
@@ -142,7 +140,10 @@ impl<'a, L: Readable, J: Naming, R: Wait + Clock + Drop> Session<'a, L, J, R> {
         message: Message,
         patience: Duration,
     ) -> Result<Message, Closed> {
-        self.hub.deliver(self.rt, message);
+        let untaken = untaken_reply(&message);
+        if !self.hub.deliver(self.rt, message) {
+            return untaken.ok_or(Closed);
+        }
         match self.link.peer.take_reply(self.rt, patience) {
             Some(reply) => Ok(reply),
             None => Err(Closed),
@@ -250,10 +251,10 @@ impl<'a, L: Readable, J: Naming, R: Wait + Clock + Drop> Session<'a, L, J, R> {
     fn append(&self, index: i32, step: ProduceAsk<'_>) -> Result<PartitionProduceResponse, Closed> {
         match step {
             ProduceAsk::Refused(code) => Ok(refused_produce(index, code)),
-            ProduceAsk::Append(produce) => match self.ask(Message::Produce(produce)) {
-                Ok(reply) => Ok(produced(index, &produce_reply(&reply)?)),
-                Err(Closed) => Ok(refused_produce(index, UNANSWERED.number())),
-            },
+            ProduceAsk::Append(produce) => {
+                let reply = produce_reply(&self.ask(Message::Produce(produce))?)?;
+                Ok(produced(index, &reply))
+            }
             ProduceAsk::InTransaction(batch) => self.append_in_transaction(index, &batch),
         }
     }
@@ -348,7 +349,7 @@ impl<'a, L: Readable, J: Naming, R: Wait + Clock + Drop> Session<'a, L, J, R> {
         };
         match self.ends(partition) {
             Ok(LogEnds { end, lso }) => Ok(listed(index, asked.timestamp, committed, end, lso)),
-            Err(Closed) => Ok(refused_offset(index, UNANSWERED.number())),
+            Err(Closed) => Ok(refused_offset(index, UNTAKEN.number())),
         }
     }
 
@@ -396,10 +397,7 @@ impl<'a, L: Readable, J: Naming, R: Wait + Clock + Drop> Session<'a, L, J, R> {
         match ask_init(self.caller(), request) {
             InitAsk::Refused(code) => self.refuse_init(asked, code),
             InitAsk::Ask(init) => {
-                let Ok(reply) = self.ask(Message::InitProducerId(init)) else {
-                    return self.refuse_init(asked, UNANSWERED.number());
-                };
-                let reply = init_reply(&reply)?;
+                let reply = init_reply(&self.ask(Message::InitProducerId(init))?)?;
                 Ok(Answer::Frame(init_frame(self.alloc, &asked.header, &reply)?))
             }
             InitAsk::Transactional { txn, timeout, held } => {

@@ -1,7 +1,8 @@
 //! Fetch: pages of the published logs, and waiting for records.
-use crate::answering::{Answer, Asked, Session, UNANSWERED};
+use crate::answering::{Answer, Asked, Session};
 use crate::closed::Closed;
 use crate::replies::fetch_reply;
+use crate::untaken::UNTAKEN;
 use kx_gateway::{
     FetchAsk, FetchBudget, aborted_of, ask_fetch, fetch_frame, fetched, refused_fetch,
 };
@@ -154,7 +155,7 @@ impl<'a, L: Readable, J: Naming, R: Wait + Clock + Drop> Session<'a, L, J, R> {
         let Ok(reply) = read else {
             return Ok(Read::Refused {
                 index,
-                code: UNANSWERED.number(),
+                code: UNTAKEN.number(),
             });
         };
         let sends = budget.take(asked.partition_max_bytes, reply.batches.as_slice().len());

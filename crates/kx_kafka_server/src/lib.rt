@@ -22,6 +22,7 @@ mod protocol;
 mod replies;
 mod table;
 mod transacting;
+mod untaken;
 
 pub use advertised::{Advertised, advertised_in};
 pub use asked::{AskFault, topics_asked};

@@ -101,7 +101,8 @@ impl<'a, L: Readable, J: Naming, R: Wait + Drop> Connection<'a, L, J, R> {
                 return Ok(());
             }
         }
-        self.hub.deliver(rt, message);
+        // (one that is lost is asked again)
+        let _ = self.hub.deliver(rt, message);
         Ok(())
     }
 

@@ -318,10 +318,11 @@ impl<L: Readable, J: Naming, R: Wait + Drop> Hub<L, J, R> {
         }
     }
 
-    /// A message arrives at the node that it names. If there is no memory for the step, it is
-    /// lost.
-    pub fn deliver(&self, rt: &R, message: Message) {
-        let _ = self.step(rt, message.receiver(), Input::Deliver(message));
+    /// A message arrives at the node that it names. Says whether the node took a step for it: if
+    /// memory runs out, or the node's trace can't be written, the message is lost.
+    pub fn deliver(&self, rt: &R, message: Message) -> bool {
+        self.step(rt, message.receiver(), Input::Deliver(message))
+            .is_some()
     }
 
     // The readers of the published log of a node. None if it isn't published.

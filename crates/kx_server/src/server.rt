@@ -261,7 +261,7 @@ impl<
             }
         }
         for message in left {
-            hub.deliver(&self.rt, message);
+            let _ = hub.deliver(&self.rt, message);
         }
     }
 
