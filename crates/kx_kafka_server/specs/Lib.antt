@@ -1,1 +1,3 @@
 pub mod Advertised
+pub mod Numbers
+pub mod Users

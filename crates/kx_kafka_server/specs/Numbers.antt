@@ -1,0 +1,114 @@
+-- Which numbers a server gives to the clients in whose name it speaks to the core.
+use Rattle.std.specs.Prelude.{◌≡◌, ◌==◌, ◌<◌, ◌≤◌, ◌+◌, ◌-◌, ◌*◌, ◌/◌, ◌^◌, ◌&&◌, ◌||◌, ◌∷◌, []}
+use Rattle.std.specs.Prelude.{ℕ, Bool, List, Option, None, Some, All, true}
+use Rattle.std.specs.Prelude.{if◌then◌else◌, max, nat_le, nat_lt, not}
+use Rattle.std.specs.List.{filter}
+use Rattle.kx_message.specs.declared.code.ErrorCode.{ErrorCode}
+use Rattle.kx_message.specs.declared.code.ErrorCode.TheVariants as code
+use Rattle.kx_kafka_server.specs.declared.span.Span.{Span}
+
+-- a server's numbers are below this one
+abbrev pub limit : ℕ
+limit = 2 ^ 31
+
+-- how many of them are left to a server, whatever numbers others had
+abbrev pub spare : ℕ
+spare = 2 ^ 20
+
+-- how many numbers a block has
+abbrev pub block : ℕ
+block = 1024
+
+-- the number is in one of the first blocks
+abbrev pub is_within : ℕ → ℕ → Bool
+is_within blocks number = nat_lt (number / block) blocks
+
+-- the owner of a transactional id, or the member of a group, leaves numbers above its own
+abbrev pub leaves : Span → ℕ → Bool
+leaves span owner =
+    nat_lt owner limit && (is_within span.blocks owner || nat_lt owner (limit - spare))
+
+-- where numbers begin in a folder in which n blocks are reserved: nowhere if no number is left
+abbrev pub begun : ℕ → Option Span
+begun blocks =
+    if nat_lt blocks (limit / block) then Some (record { next = blocks * block; blocks = blocks })
+    else None
+
+-- an owner is known
+abbrev pub noted : Span → ℕ → Span
+noted span owner =
+    if leaves span owner then record span { next = max span.next (owner + 1) } else span
+
+abbrev pub noted_all : Span → List ℕ → Span
+noted_all span [] = span
+noted_all span (owner ∷ owners) = noted_all (noted span owner) owners
+
+-- how many blocks are to be reserved before the next number is taken
+abbrev pub missing : Span → ℕ
+missing span = if nat_lt span.next limit then span.next / block + 1 - span.blocks else 0
+
+-- they are reserved
+abbrev pub reserved : Span → Span
+reserved span = record span { blocks = span.blocks + missing span }
+
+-- the next number can be taken
+abbrev pub can_take : Span → Bool
+can_take span = nat_lt span.next limit && is_within span.blocks span.next
+
+abbrev pub taken : Span → Span
+taken span = if can_take span then record span { next = span.next + 1 } else span
+
+-- a number is used no more: it is the next again if it was the last
+abbrev pub given_back : Span → ℕ → Span
+given_back span number = if number + 1 == span.next then record span { next = number } else span
+
+-- the core keeps nothing of a client whose first request it answers so
+abbrev pub keeps_nothing : ErrorCode → Bool
+keeps_nothing code.UnknownMemberId = true
+keeps_nothing code.ConcurrentTransactions = true
+keeps_nothing code.ProducerFenced = true
+keeps_nothing code = Bool.false
+
+------ What is in use
+
+-- the numbers of a server, and those of them that are in use
+pub record Use : Type 0 where
+  pub span : Span
+  pub used : List ℕ
+
+pub data Step : Type 0 where
+  Reserves : Step
+  Takes : Step
+  GivesBack : ℕ → Step
+
+abbrev pub with_next : Use → Use
+with_next use =
+    if can_take use.span then record { span = taken use.span; used = use.span.next ∷ use.used }
+    else use
+
+abbrev pub after_step : Use → Step → Use
+after_step use Reserves = record use { span = reserved use.span }
+after_step use Takes = with_next use
+after_step use (GivesBack number) = record {
+  span = given_back use.span number;
+  used = filter (λ n. not (n == number)) use.used;
+}
+
+abbrev pub after_steps : Use → List Step → Use
+after_steps use [] = use
+after_steps use (step ∷ steps) = after_steps (after_step use step) steps
+
+-- the next number is above all that are in use
+abbrev pub IsUnused : Use → Type 0
+IsUnused use = All (λ number. number < use.span.next) use.used
+
+-- no number that is in use is taken once more, or is at or above the limit
+abbrev pub NoneIsTakenTwice : Type 0
+NoneIsTakenTwice = (span : Span) (steps : List Step)
+    → IsUnused (after_steps (record { span = span; used = [] }) steps)
+
+-- numbers begin above each owner that leaves some, and above each that is reserved
+abbrev pub BeginAbove : Type 0
+BeginAbove = (span : Span) (owners : List ℕ)
+    → All (λ owner. leaves span owner ≡ true → owner < (noted_all span owners).next) owners
+    × (span.next ≤ (noted_all span owners).next)
