@@ -1,8 +1,7 @@
 -- Which numbers a server gives to the clients in whose name it speaks to the core.
 use Rattle.std.specs.Prelude.{◌≡◌, ◌==◌, ◌<◌, ◌≤◌, ◌+◌, ◌-◌, ◌*◌, ◌/◌, ◌^◌, ◌&&◌, ◌||◌, ◌∷◌, []}
-use Rattle.std.specs.Prelude.{ℕ, Bool, List, Option, None, Some, All, true}
-use Rattle.std.specs.Prelude.{if◌then◌else◌, max, nat_le, nat_lt, not}
-use Rattle.std.specs.List.{filter}
+use Rattle.std.specs.Prelude.{ℕ, Bool, List, Option, None, Some, true, false}
+use Rattle.std.specs.Prelude.{if◌then◌else◌, max, nat_lt}
 use Rattle.kx_message.specs.declared.code.ErrorCode.{ErrorCode}
 use Rattle.kx_message.specs.declared.code.ErrorCode.TheVariants as code
 use Rattle.kx_kafka_server.specs.declared.span.Span.{Span}
@@ -23,10 +22,9 @@ block = 1024
 abbrev pub is_within : ℕ → ℕ → Bool
 is_within blocks number = nat_lt (number / block) blocks
 
--- the owner of a transactional id, or the member of a group, leaves numbers above its own
-abbrev pub leaves : Span → ℕ → Bool
-leaves span owner =
-    nat_lt owner limit && (is_within span.blocks owner || nat_lt owner (limit - spare))
+-- with n blocks reserved, the owner of a transactional id leaves numbers above its own
+abbrev pub leaves : ℕ → ℕ → Bool
+leaves blocks owner = nat_lt owner limit && (is_within blocks owner || nat_lt owner (limit - spare))
 
 -- where numbers begin in a folder in which n blocks are reserved: nowhere if no number is left
 abbrev pub begun : ℕ → Option Span
@@ -37,7 +35,7 @@ begun blocks =
 -- an owner is known
 abbrev pub noted : Span → ℕ → Span
 noted span owner =
-    if leaves span owner then record span { next = max span.next (owner + 1) } else span
+    if leaves span.blocks owner then record span { next = max span.next (owner + 1) } else span
 
 abbrev pub noted_all : Span → List ℕ → Span
 noted_all span [] = span
@@ -67,7 +65,7 @@ abbrev pub keeps_nothing : ErrorCode → Bool
 keeps_nothing code.UnknownMemberId = true
 keeps_nothing code.ConcurrentTransactions = true
 keeps_nothing code.ProducerFenced = true
-keeps_nothing code = Bool.false
+keeps_nothing code = false
 
 ------ What is in use
 
@@ -81,34 +79,45 @@ pub data Step : Type 0 where
   Takes : Step
   GivesBack : ℕ → Step
 
-abbrev pub with_next : Use → Use
-with_next use =
+abbrev pub without : ℕ → List ℕ → List ℕ
+without number [] = []
+without number (n ∷ ns) = if n == number then without number ns else n ∷ without number ns
+
+abbrev pub after_take : Use → Use
+after_take use =
     if can_take use.span then record { span = taken use.span; used = use.span.next ∷ use.used }
     else use
 
 abbrev pub after_step : Use → Step → Use
-after_step use Reserves = record use { span = reserved use.span }
-after_step use Takes = with_next use
-after_step use (GivesBack number) = record {
-  span = given_back use.span number;
-  used = filter (λ n. not (n == number)) use.used;
-}
+after_step use Reserves = record { span = reserved use.span; used = use.used }
+after_step use Takes = after_take use
+after_step use (GivesBack number) =
+    record { span = given_back use.span number; used = without number use.used }
 
 abbrev pub after_steps : Use → List Step → Use
 after_steps use [] = use
 after_steps use (step ∷ steps) = after_steps (after_step use step) steps
 
--- the next number is above all that are in use
-abbrev pub IsUnused : Use → Type 0
-IsUnused use = All (λ number. number < use.span.next) use.used
+abbrev pub AreBelow : ℕ → List ℕ → Type 0
+AreBelow next [] = Unit {0}
+AreBelow next (number ∷ numbers) = (number < next) × AreBelow next numbers
 
--- no number that is in use is taken once more, or is at or above the limit
+-- the next number is above all that are in use
 abbrev pub NoneIsTakenTwice : Type 0
 NoneIsTakenTwice = (span : Span) (steps : List Step)
-    → IsUnused (after_steps (record { span = span; used = [] }) steps)
+    → let after = after_steps (record { span = span; used = [] }) steps in
+    AreBelow after.span.next after.used
 
--- numbers begin above each owner that leaves some, and above each that is reserved
+------ Where numbers begin
+
+-- the next number is above each of these owners that leaves some
+abbrev pub IsAboveAll : ℕ → ℕ → List ℕ → Type 0
+IsAboveAll blocks next [] = Unit {0}
+IsAboveAll blocks next (owner ∷ owners) =
+    (leaves blocks owner ≡ true → owner < next) × IsAboveAll blocks next owners
+
+-- numbers begin above each owner that leaves some, and not below where they began without owners
 abbrev pub BeginAbove : Type 0
 BeginAbove = (span : Span) (owners : List ℕ)
-    → All (λ owner. leaves span owner ≡ true → owner < (noted_all span owners).next) owners
+    → IsAboveAll span.blocks (noted_all span owners).next owners
     × (span.next ≤ (noted_all span owners).next)

@@ -52,7 +52,7 @@ impl Span {
     /// Whether the owner of a transactional id, or the member of a group, leaves numbers above its
     /// own: it is below the limit, and was reserved, or is far enough below the limit.
     pub(crate) fn leaves(&self, owner: ClientId) -> bool
-        ensures { result ≡ leaves self.now owner }
+        ensures { result ≡ leaves self.now.blocks owner }
     {
         let owner = owner.get();
         owner < LIMIT && (is_within(self.blocks, owner) || owner < LIMIT - SPARE)
