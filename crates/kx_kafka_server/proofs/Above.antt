@@ -1,8 +1,8 @@
 -- Numbers begin above the owners that leave some.
-use Rattle.std.proofs.Common.{◌≡◌, ◌+◌, ◌<◌, ◌≤◌, ◌∷◌, [], ℕ, List, Bool, true, false}
-use Rattle.std.proofs.Common.{refl, sym, ap, arith, cond, subst}
+use Rattle.std.proofs.Common.{◌≡◌, ◌+◌, ◌<◌, ◌≤◌, ◌∷◌, [], ℕ, List, true}
+use Rattle.std.proofs.Common.{refl, ap, arith, subst}
 use Rattle.std.specs.Prelude.{max}
-use Rattle.std.proofs.lemmas.Bool.{cond-false, cond-true, cond_both}
+use Rattle.std.proofs.lemmas.Bool.{cond-true, cond_both}
 use Rattle.kx_kafka_server.specs.Numbers.{BeginAbove, IsAboveAll, leaves, noted, noted_all}
 use Rattle.kx_kafka_server.specs.declared.span.Span.{Span}
 
@@ -27,12 +27,13 @@ go_on s [] = omega arith
 go_on s (owner ∷ owners) = omega (arith, goes_on s owner, go_on (noted s owner) owners)
 
 above : (s : Span) (owners : List ℕ) → IsAboveAll s.blocks (noted_all s owners).next owners
-above s [] = ()
+above s [] = tt
 above s (owner ∷ owners) =
     let t : Span = noted s owner in
-    let rest : IsAboveAll t.blocks (noted_all t owners).next owners = above t owners in
-    (λ e. omega (arith, above_one s owner e, go_on t owners),
-    subst (λ (b : ℕ). IsAboveAll b (noted_all t owners).next owners) (same_blocks s owner) rest)
+    let rest : IsAboveAll t.blocks (noted_all t owners).next owners = above t owners in (
+      λ e. omega (arith, above_one s owner e, go_on t owners),
+      subst (λ (b : ℕ). IsAboveAll b (noted_all t owners).next owners) (same_blocks s owner) rest,
+    )
 
 pub begin_above : BeginAbove
 begin_above span owners = (above span owners, go_on span owners)

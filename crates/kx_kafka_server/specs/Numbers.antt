@@ -60,12 +60,11 @@ taken span = if can_take span then record span { next = span.next + 1 } else spa
 abbrev pub given_back : Span → ℕ → Span
 given_back span number = if number + 1 == span.next then record span { next = number } else span
 
--- the core keeps nothing of a client whose first request it answers so
+-- the coordinator keeps nothing of a client whose request for an id it answers so
 abbrev pub keeps_nothing : ErrorCode → Bool
-keeps_nothing code.UnknownMemberId = true
 keeps_nothing code.ConcurrentTransactions = true
 keeps_nothing code.ProducerFenced = true
-keeps_nothing code = false
+keeps_nothing other = false
 
 ------ What is in use
 
@@ -84,19 +83,19 @@ without number [] = []
 without number (n ∷ ns) = if n == number then without number ns else n ∷ without number ns
 
 abbrev pub after_take : Use → Use
-after_take use =
-    if can_take use.span then record { span = taken use.span; used = use.span.next ∷ use.used }
-    else use
+after_take u =
+    if can_take u.span then record { span = taken u.span; used = u.span.next ∷ u.used }
+    else u
 
 abbrev pub after_step : Use → Step → Use
-after_step use Reserves = record { span = reserved use.span; used = use.used }
-after_step use Takes = after_take use
-after_step use (GivesBack number) =
-    record { span = given_back use.span number; used = without number use.used }
+after_step u Reserves = record { span = reserved u.span; used = u.used }
+after_step u Takes = after_take u
+after_step u (GivesBack number) =
+    record { span = given_back u.span number; used = without number u.used }
 
 abbrev pub after_steps : Use → List Step → Use
-after_steps use [] = use
-after_steps use (step ∷ steps) = after_steps (after_step use step) steps
+after_steps u [] = u
+after_steps u (step ∷ steps) = after_steps (after_step u step) steps
 
 abbrev pub AreBelow : ℕ → List ℕ → Type 0
 AreBelow next [] = Unit {0}

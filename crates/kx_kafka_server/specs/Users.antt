@@ -1,6 +1,5 @@
 -- How many threads use an entry that they share.
-use Rattle.std.specs.Prelude.{◌≡◌, ◌==◌, ◌+◌, ◌-◌, ℕ, Bool, min}
-use Rattle.std.specs.Prelude.{◌^◌, nat_le}
+use Rattle.std.specs.Prelude.{◌==◌, ◌+◌, ◌-◌, ◌^◌, ℕ, Bool, min}
 use Rattle.kx_kafka_server.specs.declared.users.Users.{Users}
 
 abbrev pub most_users : ℕ

@@ -8,7 +8,6 @@ use crate::answering::{Answer, Asked, Session};
 use crate::closed::Closed;
 use crate::groups::{KnownGroup, MOST_MEMBERS};
 use crate::replies::{join_reply, leave_reply};
-use crate::span::keeps_nothing;
 use kx_group_gateway::{
     GroupCode, generation_in, group_of, heartbeat_frame, join_frame, leave_frame,
     refused_join_frame, sync_frame,
@@ -19,7 +18,7 @@ use kx_kafka::{
 use kx_membership::{
     Assignment, Assignments, GroupFault, JoinAsk, Joined, Protocol, Protocols, member_id, number_in,
 };
-use kx_message::{Bytes, Caller, ClientId, ErrorCode, GroupId, Join, JoinReply, Leave, Message};
+use kx_message::{Bytes, Caller, ClientId, ErrorCode, GroupId, Join, Leave, Message};
 use kx_notices::Shortage;
 use kx_published::book::Naming;
 use kx_publishing::Readable;
@@ -66,22 +65,15 @@ impl<'a, L: Readable, J: Naming, R: Wait + Clock + Drop> Session<'a, L, J, R> {
         }
     }
 
-    // Tells the core that a member joins.
-    fn ask_join(&self, group: GroupId, member: ClientId) -> Result<JoinReply, Closed> {
+    // Tells the core that a member joins, and returns the group's generation.
+    fn tell_join(&self, group: GroupId, member: ClientId) -> Result<i32, Closed> {
         let caller = Caller {
             client: member,
             correlation: 0,
         };
         let join = Join { caller, group };
-        join_reply(&self.ask_as(member, Message::Join(join))?)
-    }
-
-    // Tells the core that a member joins, which has to take it.
-    fn tell_join(&self, group: GroupId, member: ClientId) -> Result<(), Closed> {
-        match generation_in(&self.ask_join(group, member)?) {
-            Some(_) => Ok(()),
-            None => Err(Closed),
-        }
+        let reply = join_reply(&self.ask_as(member, Message::Join(join))?)?;
+        generation_in(&reply).ok_or(Closed)
     }
 
     // Tells the core of each that leaves.
@@ -112,14 +104,7 @@ impl<'a, L: Readable, J: Naming, R: Wait + Clock + Drop> Session<'a, L, J, R> {
         let Some(guest) = self.link.shared.numbers.take(self.rt) else {
             return Err(Closed);
         };
-        let reply = self.ask_join(id, guest)?;
-        let Some(generation) = generation_in(&reply) else {
-            if keeps_nothing(reply.code) {
-                self.link.shared.numbers.give_back(self.rt, guest);
-            }
-            return Err(Closed);
-        };
-        known.generation = generation;
+        known.generation = self.tell_join(id, guest)?;
         known.guest = Some(guest);
         Ok(())
     }

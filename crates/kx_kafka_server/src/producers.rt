@@ -11,8 +11,8 @@ use std::alloc::{AllocError, Global};
 use std::mem;
 use std::sync::{Arc, Mutex, Wait};
 
-// How many transactional ids are kept at most, beside those that the coordinator's log has when the
-// server begins.
+// While there are as many transactional ids, none is added. All that the coordinator's log has when the
+// server begins are there.
 const MOST_IDS: usize = 100_000;
 
 // The producer of a transactional id.

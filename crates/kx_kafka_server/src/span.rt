@@ -1,6 +1,6 @@
 //! Which client numbers a server takes, and which are left to it.
-ghost use Rattle.std.specs.Prelude.{◌≡◌, ◌<◌, ◌+◌, MatchOption, false};
-ghost use Rattle.kx_kafka_server.specs.Numbers.{BeginAbove, NoneIsTakenTwice, begun, can_take};
+ghost use Rattle.std.specs.Prelude.{◌≡◌, ◌<◌, ◌+◌, MatchOption};
+ghost use Rattle.kx_kafka_server.specs.Numbers.{BeginAbove, NoneIsTakenTwice, begun};
 ghost use Rattle.kx_kafka_server.specs.Numbers.{given_back, is_within, keeps_nothing, leaves, limit};
 ghost use Rattle.kx_kafka_server.specs.Numbers.{missing, noted, reserved, taken};
 
@@ -91,8 +91,9 @@ impl Span {
 
     /// Takes the next number. None if it isn't reserved, or is at the limit.
     pub(crate) fn take(&mut self) -> Option<ClientId>
-        ensures given { MatchOption result (can_take self.old ≡ false)
-            (λ client. (client ≡ self.old.next) × (client < limit)) }
+        ensures given { MatchOption result (self.new ≡ self.old)
+            (λ client. (client ≡ self.old.next) × (client < limit)
+            × (self.new.next ≡ self.old.next + 1)) }
         ensures after { self.new ≡ taken self.old }
     {
         if self.next >= LIMIT || !is_within(self.blocks, self.next) {
@@ -114,15 +115,13 @@ impl Span {
     }
 }
 
-/// Whether the core keeps nothing of a client whose first request it answers with this code: a
-/// request for the id of a transactional id, or one to join a group.
+/// Whether the coordinator keeps nothing of a client whose request for an id of a transactional id it
+/// answers with this code.
 pub(crate) fn keeps_nothing(code: ErrorCode) -> bool
     ensures { result ≡ keeps_nothing code }
 {
     match code {
-        ErrorCode::UnknownMemberId
-        | ErrorCode::ConcurrentTransactions
-        | ErrorCode::ProducerFenced => true,
+        ErrorCode::ConcurrentTransactions | ErrorCode::ProducerFenced => true,
         _ => false,
     }
 }
