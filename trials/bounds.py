@@ -141,32 +141,37 @@ def memory(server):
                 return int(line.split()[1])
 
 
-def ask_all(port, what, first, count, codes):
+def ask_all(client, what, first, count, codes):
     """Asks for this many names from the first on, and adds the codes that are answered."""
     code, ask = REFUSED[what]
-    client = Client(port)
     for number in range(first, first + count):
         codes.add(ask(client, f"{code}-{number}"))
-    client.close()
+
+
+def ask_at_once(clients, what, first, count, codes):
+    """The same over each of these connections at once."""
+    threads = [threading.Thread(target=ask_all, args=(it, what, first, count, codes))
+        for it in clients]
+    for it in threads:
+        it.start()
+    for it in threads:
+        it.join()
 
 
 def refused(room):
     server = Server("--dir", f"{room}/refused", "--topics", "bills:1")
-    client = Client(server.port)
+    client, *others = [Client(server.port) for _ in range(3)]
     say("an id is granted", init(client, "granted")[0] == 0)
+    for what in REFUSED:
+        ask_at_once([client, *others], what, 10 ** 7, 300, set())
     for place, what in enumerate(REFUSED):
         code, codes = REFUSED[what][0], set()
         first = place * 2 * COUNT
-        # (the first requests make room that stays, of the map, of the connection, of threads)
-        ask_all(server.port, what, first, min(COUNT, 500), codes)
+        # (the first requests make room that stays, of the map and of each connection)
+        ask_at_once([client, *others], what, first, 200, codes)
         before, blocks = memory(server), os.path.getsize(f"{room}/refused/clients")
-        ask_all(server.port, what, first, COUNT, codes)
-        sides = [threading.Thread(target=ask_all, args=(server.port, what, first, COUNT // 4, codes))
-            for _ in range(2)]
-        for it in sides:
-            it.start()
-        for it in sides:
-            it.join()
+        ask_all(client, what, first, COUNT, codes)
+        ask_at_once(others, what, first, COUNT // 4, codes)
         more, spent = memory(server) - before, os.path.getsize(f"{room}/refused/clients") - blocks
         say(what, codes == {code} and more < SLACK and spent == 0,
             f"codes {codes}, {more} KiB more, {spent} blocks of numbers")
@@ -296,6 +301,8 @@ def above(room):
 
 
 def main():
+    # (the program without proof keeps what was freed for a while, unless it is asked not to)
+    os.environ.setdefault("ASAN_OPTIONS", "quarantine_size_mb=1:thread_local_quarantine_size_kb=64")
     with tempfile.TemporaryDirectory() as room:
         foreign(room)
         above(room)
