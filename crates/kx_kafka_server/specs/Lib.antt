@@ -1,2 +1,4 @@
 pub mod Advertised
+pub mod Numbers
 pub mod Untaken
+pub mod Users

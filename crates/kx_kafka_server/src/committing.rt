@@ -1,6 +1,7 @@
 //! Offsets of consumer groups: TxnOffsetCommit, OffsetCommit and OffsetFetch.
 //!
 //! The core commits offsets in transactions only. For an OffsetCommit the server has one of its own.
+use crate::absent::ASK_AGAIN;
 use crate::answering::{Answer, Asked, Session};
 use crate::closed::Closed;
 use crate::groups::KnownGroup;
@@ -23,7 +24,7 @@ use kx_message::{
 };
 use kx_published::book::Naming;
 use kx_publishing::Readable;
-use std::sync::{Mutex, Wait};
+use std::sync::{Arc, Mutex, Wait};
 use std::time::{Clock, Duration};
 
 // The server's own transactional ids begin so; a client can't have one.
@@ -40,6 +41,16 @@ pub(crate) fn is_own(txn: &TxnId) -> bool {
     txn.as_bytes().starts_with(OWN)
 }
 
+/// The place of the group whose offsets the server commits with this transactional id, if it is one of
+/// its own.
+pub(crate) fn place_of(txn: &TxnId) -> Option<usize> {
+    if !is_own(txn) {
+        return None;
+    }
+    let (_, digits) = txn.as_bytes().split_at_checked(OWN.len())?;
+    str::from_utf8(digits).ok()?.parse::<usize>().ok()
+}
+
 // Offsets that are to be committed in a group, for a member of a generation.
 #[derive(Drop)]
 struct Commit {
@@ -54,6 +65,23 @@ struct Commit {
 enum Committer {
     Member { member: u32, generation: i32 },
     Anyone,
+}
+
+// In whose name the core is asked to commit offsets.
+#[derive(Clone, Copy)]
+enum By<'g> {
+    // a member of a generation
+    Member { member: u32, generation: i32 },
+    // the guest of a group, which joins if none is there
+    Guest(&'g Mutex<KnownGroup>),
+}
+
+// Offsets that a producer asks to commit in a group.
+#[derive(Drop)]
+struct Claim<'g> {
+    group: GroupId,
+    by: By<'g>,
+    offsets: Vec<PartitionOffset>,
 }
 
 // Who asks to commit offsets in a transaction.
@@ -147,15 +175,16 @@ impl<'a, L: Readable, J: Naming, R: Wait + Clock + Drop> Session<'a, L, J, R> {
         Err(Closed)
     }
 
-    // The code of offsets that a producer commits in its transaction.
+    // The code of offsets that a producer commits in its transaction. A guest joins the group for them
+    // only once the producer may commit.
     fn commit_in(
         &self,
         producer: &Mutex<Producer>,
         txn: TxnId,
         held: &Held,
-        commit: &Commit,
+        claim: Claim<'_>,
     ) -> Result<ErrorCode, Closed> {
-        let Ok(count) = u32::try_from(commit.offsets.len()) else {
+        let Ok(count) = u32::try_from(claim.offsets.len()) else {
             return Err(Closed);
         };
         let mut producer = producer.lock(self.rt);
@@ -163,22 +192,50 @@ impl<'a, L: Readable, J: Naming, R: Wait + Clock + Drop> Session<'a, L, J, R> {
             None => Err(Closed),
             Some(BatchVerdict::Refused(code)) => Ok(code),
             Some(BatchVerdict::Send { held, first }) => {
-                let reply = self.ask_to_commit(txn, held, first, commit)?;
+                let commit = self.commit_of(claim)?;
+                let reply = self.ask_to_commit(txn, held, first, &commit)?;
                 Ok(producer.offsets_answered(reply.code))
             }
         }
     }
 
-    // The commit that a request asks for, with its group.
-    fn commit_of(
+    // The commit that is asked for.
+    fn commit_of(&self, claim: Claim<'_>) -> Result<Commit, Closed> {
+        let Claim { group, by, offsets } = claim;
+        match by {
+            By::Member { member, generation } => Ok(Commit {
+                group,
+                member,
+                generation,
+                offsets,
+            }),
+            By::Guest(known) => {
+                let mut known = known.lock(self.rt);
+                self.commit_as(group, &mut known, Committer::Anyone, offsets)
+            }
+        }
+    }
+
+    // The code for offsets of a transaction that a client commits without saying which member it is.
+    fn txn_commit_as_guest(
         &self,
+        producer: &Mutex<Producer>,
+        txn: TxnId,
+        held: &Held,
         group: GroupId,
-        committer: Committer,
         offsets: Vec<PartitionOffset>,
-    ) -> Result<Commit, Closed> {
-        let known = self.link.shared.groups.find_or_add(self.rt, group)?;
-        let mut known = known.lock(self.rt);
-        self.commit_as(group, &mut known, committer, offsets)
+    ) -> Result<i16, Closed> {
+        let Some(known) = self.enter_group(group)? else {
+            return Ok(ASK_AGAIN);
+        };
+        let claim = Claim {
+            group,
+            by: By::Guest(&known),
+            offsets,
+        };
+        let code = self.commit_in(producer, txn, held, claim);
+        self.link.shared.groups.leave(self.rt, &group);
+        Ok(code?.number())
     }
 
     // The code for offsets of a transaction.
@@ -200,8 +257,14 @@ impl<'a, L: Readable, J: Naming, R: Wait + Clock + Drop> Session<'a, L, J, R> {
         let Some((txn, producer)) = self.producer_of(request.txn) else {
             return Ok(unknown);
         };
-        let commit = self.commit_of(group, committer, offsets)?;
-        Ok(self.commit_in(&producer, txn, &held, &commit)?.number())
+        match committer {
+            Committer::Anyone => self.txn_commit_as_guest(&producer, txn, &held, group, offsets),
+            Committer::Member { member, generation } => {
+                let by = By::Member { member, generation };
+                let claim = Claim { group, by, offsets };
+                Ok(self.commit_in(&producer, txn, &held, claim)?.number())
+            }
+        }
     }
 
     // The code for n offsets, if it doesn't depend on the core.
@@ -323,6 +386,38 @@ impl<'a, L: Readable, J: Naming, R: Wait + Clock + Drop> Session<'a, L, J, R> {
         Ok(alone_code(reply.code, end))
     }
 
+    // The code for offsets outside of a client's transaction, in a group.
+    fn commit_code_in(
+        &self,
+        group: GroupId,
+        known: &Mutex<KnownGroup>,
+        committer: Committer,
+        offsets: Vec<PartitionOffset>,
+    ) -> Result<i16, Closed> {
+        let mut known = known.lock(self.rt);
+        if known.has_members() && matches!(committer, Committer::Anyone) {
+            return Ok(ErrorCode::UnknownMemberId.number());
+        }
+        let commit = self.commit_as(group, &mut known, committer, offsets)?;
+        self.commit_alone(&mut known, &commit)
+    }
+
+    // The group in which offsets are committed outside of a client's transaction, for a thread that
+    // uses it until it calls `leave`; or the code if it isn't there. A member's group is known.
+    fn group_for(
+        &self,
+        group: GroupId,
+        committer: Committer,
+    ) -> Result<Result<Arc<Mutex<KnownGroup>>, i16>, Closed> {
+        match committer {
+            Committer::Anyone => Ok(self.enter_group(group)?.ok_or(ASK_AGAIN)),
+            Committer::Member { .. } => {
+                let known = self.link.shared.groups.enter_known(self.rt, &group);
+                Ok(known.ok_or(ErrorCode::UnknownMemberId.number()))
+            }
+        }
+    }
+
     // The code for offsets outside of a client's transaction.
     fn commit_code(
         &self,
@@ -336,13 +431,13 @@ impl<'a, L: Readable, J: Naming, R: Wait + Clock + Drop> Session<'a, L, J, R> {
         let Some(committer) = committer else {
             return Ok(ErrorCode::UnknownMemberId.number());
         };
-        let known = self.link.shared.groups.find_or_add(self.rt, group)?;
-        let mut known = known.lock(self.rt);
-        if known.has_members() && matches!(committer, Committer::Anyone) {
-            return Ok(ErrorCode::UnknownMemberId.number());
-        }
-        let commit = self.commit_as(group, &mut known, committer, offsets)?;
-        self.commit_alone(&mut known, &commit)
+        let known = match self.group_for(group, committer)? {
+            Ok(known) => known,
+            Err(code) => return Ok(code),
+        };
+        let code = self.commit_code_in(group, &known, committer, offsets);
+        self.link.shared.groups.leave(self.rt, &group);
+        code
     }
 
     /// The response to OffsetCommit.

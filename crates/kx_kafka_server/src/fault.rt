@@ -58,6 +58,9 @@ pub enum GatewayFault {
         /// The file.
         file: GatewayFile,
     },
+    /// The file `clients` says that all numbers are reserved that clients may have.
+    #[error("clients: no number is left for a client, all below 2147483648 are reserved")]
+    Numbers,
     /// A topic that was asked for is in the file with another number of partitions.
     #[error("topics: topic {topic} of --topics has {count} partitions there")]
     Differs {

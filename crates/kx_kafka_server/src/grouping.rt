@@ -2,7 +2,8 @@
 //!
 //! A group's generation is the core's: when a rebalance is complete, the core is told who left and
 //! who is new, and a guest of the server's joins last, so that the generation that it is answered
-//! is the group's.
+//! is the group's. A group that nobody is left in has no guest either, and is forgotten.
+use crate::absent::{ASK_AGAIN, Absent};
 use crate::answering::{Answer, Asked, Session};
 use crate::closed::Closed;
 use crate::groups::{KnownGroup, MOST_MEMBERS};
@@ -18,6 +19,7 @@ use kx_membership::{
     Assignment, Assignments, GroupFault, JoinAsk, Joined, Protocol, Protocols, member_id, number_in,
 };
 use kx_message::{Bytes, Caller, ClientId, ErrorCode, GroupId, Join, Leave, Message};
+use kx_notices::Shortage;
 use kx_published::book::Naming;
 use kx_publishing::Readable;
 use std::sync::{Arc, Mutex, Wait};
@@ -25,6 +27,9 @@ use std::time::Clock;
 
 // How many protocols of a member are looked at. Stock clients have two or three.
 const MOST_PROTOCOLS: usize = 16;
+
+// How many other groups are looked after at most for a client that asks for one more.
+const MOST_TENDED: usize = 64;
 
 impl<'a, L: Readable, J: Naming, R: Wait + Clock + Drop> Session<'a, L, J, R> {
     // The time of the server's clock, in milliseconds.
@@ -112,6 +117,16 @@ impl<'a, L: Readable, J: Naming, R: Wait + Clock + Drop> Session<'a, L, J, R> {
         }
     }
 
+    // Tells the core who is a member after a rebalance. If nobody is, there is no guest either.
+    fn tell_members(&self, id: GroupId, known: &mut KnownGroup) -> Result<(), Closed> {
+        self.tell_gone(id, known)?;
+        if known.has_members() {
+            self.tell_new(id, known)?;
+            self.invite_guest(id, known)?;
+        }
+        Ok(())
+    }
+
     /// Does what is due: members that are late are gone, and a rebalance that is complete is told to
     /// the core and settled.
     pub(crate) fn move_on(&self, id: GroupId, known: &mut KnownGroup) -> Result<(), Closed> {
@@ -120,9 +135,7 @@ impl<'a, L: Readable, J: Naming, R: Wait + Clock + Drop> Session<'a, L, J, R> {
         if !known.group.due(now) {
             return Ok(());
         }
-        self.tell_gone(id, known)?;
-        self.tell_new(id, known)?;
-        self.invite_guest(id, known)?;
+        self.tell_members(id, known)?;
         known
             .group
             .settle(self.alloc, known.generation, self.now()?)?;
@@ -162,6 +175,7 @@ impl<'a, L: Readable, J: Naming, R: Wait + Clock + Drop> Session<'a, L, J, R> {
             return Err(Closed);
         };
         if let Err(fault) = known.group.join_new(number, ask, self.now()?) {
+            self.link.shared.numbers.give_back(self.rt, number);
             return Ok(Err(fault));
         }
         known.name(number, member_id(self.alloc, client_id, number)?)?;
@@ -276,6 +290,98 @@ impl<'a, L: Readable, J: Naming, R: Wait + Clock + Drop> Session<'a, L, J, R> {
         }
     }
 
+    // The response to the JoinGroup of a client in a group.
+    fn join_in(
+        &self,
+        asked: &Asked<'_>,
+        id: GroupId,
+        known: &Mutex<KnownGroup>,
+        member: &[u8],
+        ask: JoinAsk,
+    ) -> Result<Answer, Closed> {
+        match self.begin_join(asked, id, known, member, ask)? {
+            Ok(number) => self.wait_joined(asked, id, known, number),
+            Err(fault) => self.refuse_join(asked, fault.number(), member),
+        }
+    }
+
+    // Does what is due in a group that nobody used. If it has no members, its guest leaves.
+    fn tend(&self, id: GroupId, known: &Mutex<KnownGroup>) -> Result<(), Closed> {
+        let mut known = known.lock(self.rt);
+        self.move_on(id, &mut known)?;
+        if !known.has_members() {
+            self.tell_gone(id, &mut known)?;
+        }
+        Ok(())
+    }
+
+    // Does what is due in one group, which may be forgotten then. Says whether there is such a group.
+    fn tend_one(&self) -> Result<bool, Closed> {
+        let groups = &self.link.shared.groups;
+        let Some((id, known)) = groups.enter_due(self.rt, self.now()?) else {
+            return Ok(false);
+        };
+        let tended = self.tend(id, &known);
+        groups.leave(self.rt, &id);
+        tended?;
+        Ok(true)
+    }
+
+    // The group of this name, which is known from now on. While there are as many groups as may be,
+    // others are looked after, of which some may be forgotten. None if there are as many still.
+    fn enter_or_tend(&self, id: GroupId) -> Result<Option<Arc<Mutex<KnownGroup>>>, Closed> {
+        for _ in 0..MOST_TENDED {
+            match self.link.shared.groups.enter(self.rt, id) {
+                Ok(known) => return Ok(Some(known)),
+                Err(Absent::Memory) => return Err(Closed),
+                Err(Absent::Full) => {}
+            }
+            if !self.tend_one()? {
+                return Ok(None);
+            }
+        }
+        Ok(None)
+    }
+
+    /// The group of this name, which is known from now on, for a thread that uses it until it calls
+    /// `leave`. None if as many groups are kept as may be: the client is to ask again.
+    pub(crate) fn enter_group(
+        &self,
+        id: GroupId,
+    ) -> Result<Option<Arc<Mutex<KnownGroup>>>, Closed> {
+        let known = self.enter_or_tend(id)?;
+        if known.is_none() && self.link.shared.groups.is_full_anew(self.rt) {
+            self.hub.notices().ran_out(self.rt, Shortage::Groups);
+        }
+        Ok(known)
+    }
+
+    // The response to the JoinGroup of a client that is no member yet.
+    fn join_as_new(&self, asked: &Asked<'_>, id: GroupId, ask: JoinAsk) -> Result<Answer, Closed> {
+        let Some(known) = self.enter_group(id)? else {
+            return self.refuse_join(asked, ASK_AGAIN, &[]);
+        };
+        let answer = self.join_in(asked, id, &known, &[], ask);
+        self.link.shared.groups.leave(self.rt, &id);
+        answer
+    }
+
+    // The response to the JoinGroup of a client that says that it is a member.
+    fn join_as_member(
+        &self,
+        asked: &Asked<'_>,
+        id: GroupId,
+        member: &[u8],
+        ask: JoinAsk,
+    ) -> Result<Answer, Closed> {
+        let Some(known) = self.link.shared.groups.enter_known(self.rt, &id) else {
+            return self.refuse_join(asked, GroupFault::UnknownMember.number(), member);
+        };
+        let answer = self.join_in(asked, id, &known, member, ask);
+        self.link.shared.groups.leave(self.rt, &id);
+        answer
+    }
+
     /// The response to JoinGroup, which waits until all members have joined, or those that have not
     /// are gone.
     pub(crate) fn join_group(
@@ -288,10 +394,10 @@ impl<'a, L: Readable, J: Naming, R: Wait + Clock + Drop> Session<'a, L, J, R> {
             return self.refuse_join(asked, GroupCode::InvalidGroupId.number(), member);
         };
         let ask = self.join_ask(request)?;
-        let known = self.link.shared.groups.find_or_add(self.rt, id)?;
-        match self.begin_join(asked, id, &known, member, ask)? {
-            Ok(number) => self.wait_joined(asked, id, &known, number),
-            Err(fault) => self.refuse_join(asked, fault.number(), member),
+        if member.is_empty() {
+            self.join_as_new(asked, id, ask)
+        } else {
+            self.join_as_member(asked, id, member, ask)
         }
     }
 
@@ -368,6 +474,22 @@ impl<'a, L: Readable, J: Naming, R: Wait + Clock + Drop> Session<'a, L, J, R> {
         Err(Closed)
     }
 
+    // The response to the SyncGroup of a member of a group.
+    fn sync_in(
+        &self,
+        asked: &Asked<'_>,
+        id: GroupId,
+        known: &Mutex<KnownGroup>,
+        number: ClientId,
+        generation: i32,
+        assignments: Assignments,
+    ) -> Result<Answer, Closed> {
+        match self.begin_sync(id, known, number, generation, assignments)? {
+            Ok(()) => self.wait_synced(asked, id, known, number, generation),
+            Err(fault) => self.synced(asked, fault.number(), &[]),
+        }
+    }
+
     /// The response to SyncGroup, which waits until the leader has assigned.
     pub(crate) fn sync_group(
         &self,
@@ -382,16 +504,32 @@ impl<'a, L: Readable, J: Naming, R: Wait + Clock + Drop> Session<'a, L, J, R> {
         };
         let generation = request.generation_id;
         let assignments = self.assignments(request)?;
-        let Some(known) = self.link.shared.groups.find(self.rt, &id) else {
+        let Some(known) = self.link.shared.groups.enter_known(self.rt, &id) else {
             return self.synced(asked, GroupFault::UnknownMember.number(), &[]);
         };
-        match self.begin_sync(id, &known, number, generation, assignments)? {
-            Ok(()) => self.wait_synced(asked, id, &known, number, generation),
-            Err(fault) => self.synced(asked, fault.number(), &[]),
+        let answer = self.sync_in(asked, id, &known, number, generation, assignments);
+        self.link.shared.groups.leave(self.rt, &id);
+        answer
+    }
+
+    // The code for a member of a group that says that it is there.
+    fn beat_in(
+        &self,
+        id: GroupId,
+        known: &Mutex<KnownGroup>,
+        number: ClientId,
+        generation: i32,
+    ) -> Result<i16, Closed> {
+        let mut known = known.lock(self.rt);
+        self.move_on(id, &mut known)?;
+        let now = self.now()?;
+        match known.group.heartbeat(number, generation, now) {
+            Ok(()) => Ok(0),
+            Err(fault) => Ok(fault.number()),
         }
     }
 
-    // The code for a member that says that it is there.
+    // The code for a client that says that it is there.
     fn beat(&self, request: &HeartbeatRequest<'_>) -> Result<i16, Closed> {
         let Some(id) = group_of(request.group_id) else {
             return Ok(GroupCode::InvalidGroupId.number());
@@ -399,16 +537,12 @@ impl<'a, L: Readable, J: Naming, R: Wait + Clock + Drop> Session<'a, L, J, R> {
         let Some(number) = number_in(request.member_id) else {
             return Ok(GroupFault::UnknownMember.number());
         };
-        let Some(known) = self.link.shared.groups.find(self.rt, &id) else {
+        let Some(known) = self.link.shared.groups.enter_known(self.rt, &id) else {
             return Ok(GroupFault::UnknownMember.number());
         };
-        let mut known = known.lock(self.rt);
-        self.move_on(id, &mut known)?;
-        let now = self.now()?;
-        match known.group.heartbeat(number, request.generation_id, now) {
-            Ok(()) => Ok(0),
-            Err(fault) => Ok(fault.number()),
-        }
+        let code = self.beat_in(id, &known, number, request.generation_id);
+        self.link.shared.groups.leave(self.rt, &id);
+        code
     }
 
     /// The response to Heartbeat.
@@ -421,17 +555,13 @@ impl<'a, L: Readable, J: Naming, R: Wait + Clock + Drop> Session<'a, L, J, R> {
         Ok(Answer::Frame(heartbeat_frame(self.alloc, &asked.header, code)?))
     }
 
-    // The code for a member that leaves.
-    fn leave(&self, request: &LeaveGroupRequest<'_>) -> Result<i16, Closed> {
-        let Some(id) = group_of(request.group_id) else {
-            return Ok(GroupCode::InvalidGroupId.number());
-        };
-        let Some(number) = number_in(request.member_id) else {
-            return Ok(GroupFault::UnknownMember.number());
-        };
-        let Some(known) = self.link.shared.groups.find(self.rt, &id) else {
-            return Ok(GroupFault::UnknownMember.number());
-        };
+    // The code for a member that leaves a group.
+    fn leave_in(
+        &self,
+        id: GroupId,
+        known: &Mutex<KnownGroup>,
+        number: ClientId,
+    ) -> Result<i16, Closed> {
         let mut known = known.lock(self.rt);
         let now = self.now()?;
         let left = known.group.leave(number, now);
@@ -440,6 +570,22 @@ impl<'a, L: Readable, J: Naming, R: Wait + Clock + Drop> Session<'a, L, J, R> {
             Ok(()) => Ok(0),
             Err(fault) => Ok(fault.number()),
         }
+    }
+
+    // The code for a client that leaves.
+    fn leave(&self, request: &LeaveGroupRequest<'_>) -> Result<i16, Closed> {
+        let Some(id) = group_of(request.group_id) else {
+            return Ok(GroupCode::InvalidGroupId.number());
+        };
+        let Some(number) = number_in(request.member_id) else {
+            return Ok(GroupFault::UnknownMember.number());
+        };
+        let Some(known) = self.link.shared.groups.enter_known(self.rt, &id) else {
+            return Ok(GroupFault::UnknownMember.number());
+        };
+        let code = self.leave_in(id, &known, number);
+        self.link.shared.groups.leave(self.rt, &id);
+        code
     }
 
     /// The response to LeaveGroup.

@@ -1,9 +1,16 @@
 //! What the server knows of consumer groups, which threads share.
+use crate::absent::Absent;
+use crate::places::Places;
+use crate::users::Users;
 use indexmap::IndexMap;
 use kx_membership::Group;
 use kx_message::{ClientId, GroupId, Held};
 use std::alloc::{AllocError, Global};
+use std::mem;
 use std::sync::{Arc, Mutex, Wait};
+
+// How many groups are kept at most.
+const MOST_GROUPS: usize = 10_000;
 
 // The id of a member, as it was answered to its client.
 #[derive(Drop)]
@@ -22,18 +29,34 @@ pub(crate) struct KnownGroup {
     pub(crate) guest: Option<ClientId>,
     /// The generation of the core's group, once the guest has joined.
     pub(crate) generation: i32,
-    /// The place of the group among those that are known.
+    /// The place of the group, which no other has meanwhile.
     pub(crate) place: usize,
     /// The id and epoch with which the server commits offsets outside of clients' transactions.
     pub(crate) held: Option<Held>,
     names: Vec<MemberName>,
 }
 
+// A group, and how many threads use it.
+#[derive(Drop)]
+struct Entry {
+    group: Arc<Mutex<KnownGroup>>,
+    users: Users,
+}
+
+// The groups, by their names.
+#[derive(Drop)]
+struct All {
+    by_id: IndexMap<GroupId, Entry>,
+    places: Places,
+    // whether whoever runs the server is told that there are as many as may be
+    is_told: bool,
+}
+
 /// The groups, by their names.
 #[derive(Drop)]
 pub(crate) struct Groups {
     alloc: Global,
-    groups: Mutex<IndexMap<GroupId, Arc<Mutex<KnownGroup>>>>,
+    all: Mutex<All>,
 }
 
 impl KnownGroup {
@@ -70,6 +93,20 @@ impl KnownGroup {
         self.group.number_at(0).is_some()
     }
 
+    // Whether the server need not know the group: it has no member, and the core counts none.
+    fn is_idle(&self) -> bool {
+        !self.has_members() && self.guest.is_none() && self.group.gone().is_empty()
+    }
+
+    // Whether the core is to be told something of the group at this time, or nothing is kept of it but
+    // a guest.
+    fn is_due(&self, now: u64) -> bool {
+        match self.group.next_time() {
+            Some(time) => time <= now,
+            None => !self.has_members(),
+        }
+    }
+
     /// Forgets the ids of those who are members no more.
     pub(crate) fn forget_gone(&mut self) {
         let group = &self.group;
@@ -98,36 +135,145 @@ fn shared(alloc: Global, group: KnownGroup) -> Result<Arc<Mutex<KnownGroup>>, Al
     }
 }
 
-impl Groups {
-    /// No group is known.
-    pub(crate) fn new(alloc: Global) -> Groups {
-        Groups {
-            alloc,
-            groups: Mutex::new(IndexMap::new(alloc)),
+impl All {
+    // A group that is there, for a thread that uses it.
+    fn enter_known(&mut self, id: &GroupId) -> Option<Result<Arc<Mutex<KnownGroup>>, AllocError>> {
+        let entry = self.by_id.get_mut(id)?;
+        let group = Arc::try_clone(&entry.group);
+        if group.is_ok() {
+            entry.users.enter();
+        }
+        Some(group)
+    }
+
+    // Adds a group, at this place, for a thread that uses it.
+    fn add_at(
+        &mut self,
+        alloc: Global,
+        id: GroupId,
+        place: usize,
+    ) -> Result<Arc<Mutex<KnownGroup>>, Absent> {
+        let group = shared(alloc, KnownGroup::new(alloc, place))?;
+        let known = Arc::try_clone(&group)?;
+        let mut users = Users::none();
+        users.enter();
+        match self.by_id.insert(id, Entry { group, users }) {
+            Ok(_) => Ok(known),
+            Err(_) => Err(Absent::Memory),
         }
     }
 
-    /// The group of this name, if it is known.
-    pub(crate) fn find<R: Wait>(&self, rt: &R, id: &GroupId) -> Option<Arc<Mutex<KnownGroup>>> {
-        Arc::try_clone(self.groups.lock(rt).get(id)?).ok()
+    // Adds a group, for a thread that uses it.
+    fn add(&mut self, alloc: Global, id: GroupId) -> Result<Arc<Mutex<KnownGroup>>, Absent> {
+        if self.by_id.len() >= MOST_GROUPS {
+            return Err(Absent::Full);
+        }
+        let place = self.places.take();
+        let added = self.add_at(alloc, id, place);
+        if added.is_err() {
+            self.places.give_back(place);
+        }
+        added
     }
 
-    /// The group of this name, which is known from now on.
-    pub(crate) fn find_or_add<R: Wait>(
+    // A thread uses a group no more. Returns the group's place if the group is to be forgotten.
+    fn leave<R: Wait>(&mut self, rt: &R, id: &GroupId) -> Option<usize> {
+        let entry = self.by_id.get_mut(id)?;
+        if !entry.users.leave() {
+            return None;
+        }
+        let known = entry.group.lock(rt);
+        if known.is_idle() {
+            Some(known.place)
+        } else {
+            None
+        }
+    }
+
+    // Forgets a group that had this place.
+    fn forget(&mut self, id: &GroupId, place: usize) {
+        self.by_id.swap_remove(id);
+        self.places.give_back(place);
+        self.is_told = false;
+    }
+
+    // A group that nobody uses, and that is due at this time.
+    fn due<R: Wait>(&self, rt: &R, now: u64) -> Option<GroupId> {
+        for (id, entry) in self.by_id.iter() {
+            if entry.users.is_none() && entry.group.lock(rt).is_due(now) {
+                return Some(*id);
+            }
+        }
+        None
+    }
+}
+
+impl Groups {
+    /// No group is known. None has one of these places.
+    pub(crate) fn new(alloc: Global, nobodys: Vec<usize>) -> Groups {
+        Groups {
+            alloc,
+            all: Mutex::new(All {
+                by_id: IndexMap::new(alloc),
+                places: Places::without(alloc, nobodys),
+                is_told: false,
+            }),
+        }
+    }
+
+    /// The group of this name, if it is known, for a thread that uses it until it calls
+    /// [`leave`](Groups::leave).
+    pub(crate) fn enter_known<R: Wait>(
+        &self,
+        rt: &R,
+        id: &GroupId,
+    ) -> Option<Arc<Mutex<KnownGroup>>> {
+        self.all.lock(rt).enter_known(id)?.ok()
+    }
+
+    /// The group of this name, which is known from now on, for a thread that uses it until it calls
+    /// [`leave`](Groups::leave).
+    ///
+    /// # Errors
+    ///
+    /// If it isn't known and memory runs out, or as many are kept as may be.
+    pub(crate) fn enter<R: Wait>(
         &self,
         rt: &R,
         id: GroupId,
-    ) -> Result<Arc<Mutex<KnownGroup>>, AllocError> {
-        let mut groups = self.groups.lock(rt);
-        if let Some(group) = groups.get(&id) {
-            return Arc::try_clone(group);
+    ) -> Result<Arc<Mutex<KnownGroup>>, Absent> {
+        let mut all = self.all.lock(rt);
+        match all.enter_known(&id) {
+            Some(known) => Ok(known?),
+            None => all.add(self.alloc, id),
         }
-        let place = groups.len();
-        let group = shared(self.alloc, KnownGroup::new(self.alloc, place))?;
-        let known = Arc::try_clone(&group)?;
-        match groups.insert(id, group) {
-            Ok(_) => Ok(known),
-            Err(_) => Err(AllocError),
+    }
+
+    /// A thread uses a group no more. One that nobody uses, that has no members and of which the core
+    /// counts none, is forgotten.
+    pub(crate) fn leave<R: Wait>(&self, rt: &R, id: &GroupId) {
+        let mut all = self.all.lock(rt);
+        if let Some(place) = all.leave(rt, id) {
+            all.forget(id, place);
         }
+    }
+
+    /// A group that nobody uses and of which the core is to be told something at this time, or of
+    /// which nothing is kept but a guest; for a thread that uses it until it calls
+    /// [`leave`](Groups::leave).
+    pub(crate) fn enter_due<R: Wait>(
+        &self,
+        rt: &R,
+        now: u64,
+    ) -> Option<(GroupId, Arc<Mutex<KnownGroup>>)> {
+        let mut all = self.all.lock(rt);
+        let id = all.due(rt, now)?;
+        let known = all.enter_known(&id)?.ok()?;
+        Some((id, known))
+    }
+
+    /// As many are kept as may be. Says whether that is new, so that whoever runs the server is told.
+    pub(crate) fn is_full_anew<R: Wait>(&self, rt: &R) -> bool {
+        !mem::replace(&mut self.all.lock(rt).is_told, true)
     }
 }

@@ -3,6 +3,7 @@
 //! stand its threads, its files and its waiting.
 #![tactic(auto)]
 
+mod absent;
 mod advertised;
 mod answering;
 mod asked;
@@ -10,6 +11,7 @@ mod closed;
 mod committing;
 mod fault;
 mod fetching;
+mod foreign;
 mod grouping;
 mod groups;
 mod inbox;
@@ -17,12 +19,16 @@ mod kept;
 mod left;
 mod link;
 mod numbers;
+mod owners;
+mod places;
 mod producers;
 mod protocol;
 mod replies;
+mod span;
 mod table;
 mod transacting;
 mod untaken;
+mod users;
 
 pub use advertised::{Advertised, advertised_in};
 pub use asked::{AskFault, topics_asked};

@@ -2,11 +2,13 @@
 use crate::advertised::{Address, Advertised};
 use crate::answering::Session;
 use crate::fault::{GatewayFault, GatewayFile};
+use crate::foreign::Foreign;
 use crate::groups::Groups;
 use crate::kept::Lines;
 use crate::left::aborts_of;
 use crate::link::StockLink;
-use crate::numbers::Numbers;
+use crate::numbers::{Numbers, span_in};
+use crate::owners::{note_members, note_owners};
 use crate::producers::Producers;
 use crate::table::Table;
 use kx_gateway::Topics;
@@ -26,6 +28,7 @@ pub(crate) struct Shared {
     pub(crate) table: Table,
     pub(crate) numbers: Numbers,
     pub(crate) producers: Producers,
+    pub(crate) foreign: Foreign,
     pub(crate) groups: Groups,
     // when the server began
     pub(crate) begun: Option<Instant>,
@@ -61,24 +64,30 @@ pub struct Kafka {
 
 impl Kafka {
     /// The protocol over the tables of a folder, with what the coordinator's log says of
-    /// transactional ids.
+    /// transactional ids. A line on standard error names those that stock clients can't have.
     ///
     /// # Errors
     ///
     /// As [`GatewayFault`] has them.
-    pub fn open<R: Files<File = File> + AllocGlobal + Clock>(
+    pub fn open<R: Files<File = File> + AllocGlobal + Clock + Eprint>(
         rt: &R,
         options: &GatewayOptions<'_>,
         entries: &[Entry],
     ) -> Result<Kafka, GatewayFault> {
         let alloc = rt.alloc();
         let topics = Lines::open(rt, options.dir, GatewayFile::Topics)?;
-        let clients = Lines::open(rt, options.dir, GatewayFile::Clients)?;
+        let mut clients = Lines::open(rt, options.dir, GatewayFile::Clients)?;
+        let mut span = span_in(alloc, &mut clients)?;
+        note_owners(&mut span, entries);
+        note_members(rt, options.dir, &mut span)?;
+        let foreign = Foreign::of(alloc, &span, entries)?;
+        foreign.tell(rt);
         let shared = Shared {
             table: Table::open(alloc, topics, options.topics, options.auto_topics)?,
-            numbers: Numbers::open(alloc, clients, entries)?,
+            numbers: Numbers::new(alloc, span, clients),
             producers: Producers::open(alloc, entries)?,
-            groups: Groups::new(alloc),
+            groups: Groups::new(alloc, foreign.places(alloc)?),
+            foreign,
             begun: Instant::now(rt).ok(),
             idle: options.idle.map(|idle| Duration::from_millis(u64::from(idle.get()))),
             address: Address::of(alloc, options.advertise)?,

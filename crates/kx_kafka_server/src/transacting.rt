@@ -1,11 +1,13 @@
 //! Producers with a transactional id: what they ask of the coordinator, and their batches.
+use crate::absent::{ASK_AGAIN, Absent};
 use crate::answering::{Answer, Asked, Session};
 use crate::closed::Closed;
 use crate::committing::is_own;
 use crate::replies::{end_reply, init_reply, produce_reply};
+use crate::span::keeps_nothing;
 use kx_gateway::{
     GatewayCode, TxnBatch, add_offsets_frame, add_partitions_frame, end_txn_frame, held_of,
-    init_frame, produced, refused_init_frame, refused_produce, txn_of,
+    init_frame, produced, refused_produce, txn_of,
 };
 use kx_grant::{
     BatchVerdict, ClientBatch, EndStep, InitVerdict, Producer, init_fenced_code, outcome_of,
@@ -15,9 +17,10 @@ use kx_kafka::{
     Request, read_request,
 };
 use kx_message::{
-    Caller, EndReply, EndTxn, ErrorCode, Held, InitProducerId, InitReply, Message, Outcome,
-    PartitionId, ProduceReply, Timeout, TxnId,
+    Caller, ClientId, EndReply, EndTxn, ErrorCode, Held, InitProducerId, InitReply, Message,
+    Outcome, PartitionId, ProduceReply, Timeout, TxnId,
 };
+use kx_notices::Shortage;
 use kx_published::book::Naming;
 use kx_publishing::Readable;
 use std::sync::{Arc, Mutex, Wait};
@@ -94,11 +97,8 @@ impl<'a, L: Readable, J: Naming, R: Wait + Clock + Drop> Session<'a, L, J, R> {
         })
     }
 
-    // Asks the coordinator as a client of a new number: a request fences those of lower numbers.
-    pub(crate) fn ask_as_newest(&self, init: &TxnInit) -> Result<InitReply, Closed> {
-        let Some(client) = self.link.shared.numbers.take(self.rt) else {
-            return Err(Closed);
-        };
+    // Asks the coordinator as this client.
+    fn ask_as_client(&self, client: ClientId, init: &TxnInit) -> Result<InitReply, Closed> {
         self.hub.speaks(client, &self.link.peer)?;
         let reply = self.ask_for_id(InitProducerId {
             caller: Caller {
@@ -112,40 +112,86 @@ impl<'a, L: Readable, J: Naming, R: Wait + Clock + Drop> Session<'a, L, J, R> {
         reply
     }
 
-    // A producer asks for an id, of which the core is asked.
+    // Asks the coordinator as a client of a new number: a request fences those of lower numbers. The
+    // number isn't used if the request is refused.
+    pub(crate) fn ask_as_newest(&self, init: &TxnInit) -> Result<InitReply, Closed> {
+        let Some(client) = self.link.shared.numbers.take(self.rt) else {
+            return Err(Closed);
+        };
+        let reply = self.ask_as_client(client, init)?;
+        if keeps_nothing(reply.code) {
+            self.link.shared.numbers.give_back(self.rt, client);
+        }
+        Ok(reply)
+    }
+
+    // A producer asks for an id, of which the core is asked. The code if it is granted none.
     fn grant_to(
         &self,
         producer: &mut Producer,
-        asked: &Asked<'_>,
+        version: i16,
         init: &TxnInit,
-    ) -> Result<Answer, Closed> {
+    ) -> Result<Result<InitReply, ErrorCode>, Closed> {
         let reply = self.ask_as_newest(init)?;
-        match producer.granted(version_of(asked), init.held, self.number(), &reply) {
-            Ok(()) => Ok(Answer::Frame(init_frame(self.alloc, &asked.header, &reply)?)),
+        match producer.granted(version, init.held, self.number(), &reply) {
+            Ok(()) => Ok(Ok(reply)),
+            Err(code) => Ok(Err(code)),
+        }
+    }
+
+    // What a producer that asks for an id is granted, or the code if it is granted none.
+    fn init_of(
+        &self,
+        producer: &Mutex<Producer>,
+        version: i16,
+        init: &TxnInit,
+    ) -> Result<Result<InitReply, ErrorCode>, Closed> {
+        let mut producer = producer.lock(self.rt);
+        match producer.init(init.held, self.number()) {
+            None => Err(Closed),
+            Some(InitVerdict::Ask) => self.grant_to(&mut producer, version, init),
+            Some(InitVerdict::Fenced) => Ok(Err(init_fenced_code(version))),
+        }
+    }
+
+    // The response to InitProducerId where as many transactional ids are kept as may be: the client
+    // is to ask again.
+    fn refuse_one_more(&self, asked: &Asked<'_>) -> Result<Answer, Closed> {
+        if self.link.shared.producers.is_full_anew(self.rt) {
+            let what = Shortage::TransactionalIds;
+            self.hub.notices().ran_out(self.rt, what);
+        }
+        self.refuse_init(asked, ASK_AGAIN)
+    }
+
+    // The response to InitProducerId with a transactional id that clients may have.
+    fn init_allowed(&self, asked: &Asked<'_>, init: &TxnInit) -> Result<Answer, Closed> {
+        let producers = &self.link.shared.producers;
+        let producer = match producers.enter(self.rt, init.txn) {
+            Ok(producer) => producer,
+            Err(Absent::Memory) => return Err(Closed),
+            Err(Absent::Full) => return self.refuse_one_more(asked),
+        };
+        let answered = self.init_of(&producer, version_of(asked), init);
+        producers.leave(self.rt, &init.txn, matches!(&answered, Ok(Ok(_))));
+        match answered? {
+            Ok(reply) => Ok(Answer::Frame(init_frame(self.alloc, &asked.header, &reply)?)),
             Err(code) => self.refuse_init(asked, code.number()),
         }
     }
 
-    /// The response to InitProducerId with a transactional id.
+    /// The response to InitProducerId with a transactional id. The server's own are refused, and those
+    /// whose owner leaves no number.
     pub(crate) fn init_transactional(
         &self,
         asked: &Asked<'_>,
         init: &TxnInit,
     ) -> Result<Answer, Closed> {
-        if is_own(&init.txn) {
+        if is_own(&init.txn) || self.link.shared.foreign.has(&init.txn) {
             let code = GatewayCode::TransactionalIdAuthorizationFailed;
             return self.refuse_init(asked, code.number());
         }
-        let producers = &self.link.shared.producers;
-        let producer = producers.find_or_add(self.rt, init.txn)?;
-        let mut producer = producer.lock(self.rt);
-        match producer.init(init.held, self.number()) {
-            None => Err(Closed),
-            Some(InitVerdict::Ask) => self.grant_to(&mut producer, asked, init),
-            Some(InitVerdict::Fenced) => {
-                self.refuse_init(asked, init_fenced_code(version_of(asked)).number())
-            }
-        }
+        self.init_allowed(asked, init)
     }
 
     // The producer of a transactional id, by its text. None if it was never granted.

@@ -51,7 +51,7 @@ pub(crate) fn coordinator_log<R: Files<File = File> + AllocGlobal>(
 }
 
 // The protocol of stock clients, with what the folder and the coordinator's log have of it.
-fn gateway<R: Files<File = File> + AllocGlobal + Clock>(
+fn gateway<R: Files<File = File> + AllocGlobal + Clock + Eprint>(
     rt: &R,
     options: &KafkaOptions<'_>,
     entries: &[Entry],
