@@ -4,7 +4,7 @@ use Rattle.kx_serve.specs.declared.fault.ServeFault.{ServeFault}
 use Rattle.kx_serve.specs.declared.fault.ServeFault.TheVariants.{Ids}
 use Rattle.kx_serve.specs.declared.files.LogFile.{LogFile}
 
--- at most so many
+-- how many a start passes over at most
 abbrev pub skipped_limit : ℕ
 skipped_limit = 65536
 
