@@ -1,7 +1,8 @@
-//! Transactions of the server's own that a server before it left open.
+//! What the core is asked for before a connection is served: ends of transactions of the server's own
+//! that a server before it left open, and producer ids that no producer is to get.
 use crate::committing::is_own;
 use indexmap::IndexMap;
-use kx_message::{Caller, EndTxn, Held, Outcome};
+use kx_message::{Caller, ClientId, EndTxn, Held, InitProducerId, Message, Outcome, Timeout};
 use kx_txnlog::{Entry, Row, State};
 use std::alloc::{AllocError, Global};
 
@@ -47,4 +48,20 @@ pub(crate) fn aborts_of(alloc: Global, entries: &[Entry]) -> Result<Vec<EndTxn>,
         }
     }
     Ok(aborts)
+}
+
+/// The request for a producer id that no producer gets: no connection speaks for its client, so the
+/// reply is dropped.
+pub(crate) fn id_for_nobody() -> Message {
+    let Ok(timeout) = Timeout::try_from(1) else {
+        unreachable!();
+    };
+    Message::InitProducerId(InitProducerId {
+        caller: Caller {
+            client: ClientId::from(0),
+            correlation: 0,
+        },
+        txn: None,
+        timeout,
+    })
 }

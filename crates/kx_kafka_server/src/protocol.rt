@@ -5,7 +5,7 @@ use crate::fault::{GatewayFault, GatewayFile};
 use crate::foreign::Foreign;
 use crate::groups::Groups;
 use crate::kept::Lines;
-use crate::left::aborts_of;
+use crate::left::{aborts_of, id_for_nobody};
 use crate::link::StockLink;
 use crate::numbers::{Numbers, span_in};
 use crate::owners::{note_members, note_owners};
@@ -52,12 +52,16 @@ pub struct GatewayOptions<'a> {
     /// The folder of the tables of topics and client numbers, which is there; None keeps them in
     /// memory.
     pub dir: Option<&'a str>,
+    /// How many producer ids are given out to nobody before a connection is served, since the logs of
+    /// partitions name them already.
+    pub skipped_ids: u32,
 }
 
 /// The protocol of stock clients.
 #[derive(Drop)]
 pub struct Kafka {
     shared: Arc<Shared>,
+    skipped_ids: u32,
     // what ends the server's own transactions that are under way from before
     left: Vec<EndTxn>,
 }
@@ -94,7 +98,11 @@ impl Kafka {
         };
         let left = aborts_of(alloc, entries)?;
         match Arc::new(alloc, shared) {
-            Ok(shared) => Ok(Kafka { shared, left }),
+            Ok(shared) => Ok(Kafka {
+                shared,
+                skipped_ids: options.skipped_ids,
+                left,
+            }),
             Err(_) => Err(GatewayFault::Memory),
         }
     }
@@ -123,6 +131,9 @@ impl Protocol for Kafka {
 
     fn left(&self, alloc: Global) -> Result<Vec<Message>, AllocError> {
         let mut messages = Vec::new(alloc);
+        for _ in 0..self.skipped_ids {
+            messages.push(id_for_nobody())?;
+        }
         for end in &self.left {
             messages.push(Message::EndTxn(*end))?;
         }

@@ -22,6 +22,8 @@ fault_number (fault.Gateway why) = 15
 fault_number (fault.Elsewhere file) = 16
 fault_number (fault.Changed file why) = 17
 fault_number (fault.Sums file) = 18
+fault_number (fault.End file why) = 19
+fault_number (fault.Ids file count) = 20
 
 -- a folder, a file in one, or neither
 abbrev pub about_of : ServeFault → About
@@ -41,3 +43,5 @@ about_of (fault.Gateway why) = about.InLogs
 about_of (fault.Elsewhere file) = about.InTraces
 about_of (fault.Changed file why) = about.InLogs
 about_of (fault.Sums file) = about.InLogs
+about_of (fault.End file why) = about.InLogs
+about_of (fault.Ids file count) = about.InLogs

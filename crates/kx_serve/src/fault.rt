@@ -3,6 +3,7 @@ ghost use Rattle.std.specs.Prelude.{◌≡◌};
 ghost use Rattle.kx_serve.specs.Faults.{about_of, fault_number};
 
 use crate::files::LogFile;
+use kx_ends::EndFault;
 use kx_kafka_server::GatewayFault;
 use kx_log::OpenFault;
 use kx_server::{NetFault, ServerFault};
@@ -64,6 +65,24 @@ pub enum ServeFault {
     Sums {
         /// The file.
         file: LogFile,
+    },
+    /// Opening the log in this file would cut off more than an append that was cut short. Nothing was
+    /// served, and the folder stays as it is.
+    #[error("{file}: {fault}: acknowledged batches would be lost; restore the file from a copy")]
+    End {
+        /// The file.
+        file: LogFile,
+        /// What would be cut off.
+        fault: EndFault,
+    },
+    /// The log in this file names producer ids that the coordinator would give out again, more of
+    /// them than a start passes over. Nothing was served, and the folder stays as it is.
+    #[error("{file}: its producer ids are {count} above those of co.log; restore co.log from a copy")]
+    Ids {
+        /// The file.
+        file: LogFile,
+        /// How many ids would have to be passed over.
+        count: u64,
     },
     /// Memory ran out, or a thread can't be started.
     #[error("out of memory")]
@@ -130,7 +149,8 @@ pub enum ServeFault {
 impl ServeFault {
     /// The number of the fault, by which another program knows it: `Net` 1, `Write` 2, `Open` 3,
     /// `Memory` 4, `Folder` 6, `InUse` 7, `NotWhole` 9, `TraceFolder` 10, `TracesInUse` 11, `Trace`
-    /// 12, `Untold` 13, `Gone` 14, `Gateway` 15, `Elsewhere` 16, `Changed` 17, `Sums` 18.
+    /// 12, `Untold` 13, `Gone` 14, `Gateway` 15, `Elsewhere` 16, `Changed` 17, `Sums` 18,
+    /// `End` 19, `Ids` 20.
     pub fn number(self) -> u8
         ensures { result ≡ fault_number self }
     {
@@ -151,6 +171,8 @@ impl ServeFault {
             ServeFault::Elsewhere { .. } => 16,
             ServeFault::Changed { .. } => 17,
             ServeFault::Sums { .. } => 18,
+            ServeFault::End { .. } => 19,
+            ServeFault::Ids { .. } => 20,
         }
     }
 
@@ -164,6 +186,7 @@ impl ServeFault {
             ServeFault::TraceFolder { .. } | ServeFault::TracesInUse => About::Traces,
             ServeFault::Open { .. } | ServeFault::NotWhole { .. } => About::InLogs,
             ServeFault::Changed { .. } | ServeFault::Sums { .. } => About::InLogs,
+            ServeFault::End { .. } | ServeFault::Ids { .. } => About::InLogs,
             ServeFault::Untold { .. } | ServeFault::Gateway(_) => About::InLogs,
             ServeFault::Trace { .. } | ServeFault::Gone { .. } => About::InTraces,
             ServeFault::Elsewhere { .. } => About::InTraces,

@@ -5,9 +5,11 @@ ghost use Rattle.kx_server.specs.Lines.{Listens};
 
 use crate::fault::ServeFault;
 use crate::files::LogFile;
+use crate::judging::judge_logs;
 use crate::locking::lock_folders;
 use crate::options::{KafkaOptions, ServeOptions};
 use crate::server::{Spoken, latest_start, serve_speaking};
+use kx_ends::next_id;
 use kx_kafka_server::{GatewayOptions, Kafka};
 use kx_log::{MemStore, OpenFault};
 use kx_message::PartitionId;
@@ -50,11 +52,13 @@ pub(crate) fn coordinator_log<R: Files<File = File> + AllocGlobal>(
     }
 }
 
-// The protocol of stock clients, with what the folder and the coordinator's log have of it.
+// The protocol of stock clients, with what the folder and the coordinator's log have of it, and this
+// many producer ids that are passed over.
 fn gateway<R: Files<File = File> + AllocGlobal + Clock + Eprint>(
     rt: &R,
     options: &KafkaOptions<'_>,
     entries: &[Entry],
+    skipped_ids: u32,
 ) -> Result<Kafka, ServeFault> {
     let asked = GatewayOptions {
         topics: options.topics,
@@ -62,6 +66,7 @@ fn gateway<R: Files<File = File> + AllocGlobal + Clock + Eprint>(
         idle: options.idle,
         advertise: options.advertise,
         dir: options.dir,
+        skipped_ids,
     };
     Ok(Kafka::open(rt, &asked, entries)?)
 }
@@ -105,8 +110,11 @@ fn serve_locked<
 >(rt: R, options: &KafkaOptions<'_>, out: &mut W) -> Result<(), ServeFault>
     ensures { OnOk result (Listens (W.contents out.old) (W.contents out.new)) }
 {
+    let served = options.served();
+    let named = judge_logs(&rt, options.dir, served.partitions)?;
     let log = coordinator_log(&rt, options.dir)?;
-    let protocol = gateway(&rt, options, log.entries())?;
+    let skipped = named.skipped(next_id(log.entries()))?;
+    let protocol = gateway(&rt, options, log.entries(), skipped)?;
     let since = latest_start(log.entries());
     drop(log);
     let spoken = Spoken {
@@ -114,7 +122,7 @@ fn serve_locked<
         until: options.until,
         since,
     };
-    serve_speaking(rt, &options.served(), &spoken, out)
+    serve_speaking(rt, &served, &spoken, out)
 }
 
 /// Serves the core on 127.0.0.1 to clients that speak Kafka's protocol: prints `listening` and the

@@ -8,6 +8,7 @@
 mod fault;
 mod files;
 mod folder;
+mod judging;
 mod kafka;
 mod limits;
 mod locking;

@@ -8,6 +8,7 @@ ghost use Rattle.kx_server.specs.Lines.{Listens, Prints};
 
 use crate::fault::ServeFault;
 use crate::folder::{Folder, InFiles, InMemory};
+use crate::judging::judge_logs;
 use crate::kafka::coordinator_log;
 use crate::limits::connections_beside_files;
 use crate::locking::lock_folders;
@@ -276,6 +277,7 @@ fn serve_own<
     ensures { OnOk result (Prints options.now.connections (W.contents out.old)
         (W.contents out.new)) }
 {
+    judge_logs(&rt, options.dir, options.partitions)?;
     let log = coordinator_log(&rt, options.dir)?;
     let since = latest_start(log.entries());
     drop(log);
