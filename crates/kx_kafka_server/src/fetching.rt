@@ -108,6 +108,24 @@ fn without_records(alloc: Global, reply: FetchReply) -> FetchReply {
     }
 }
 
+// A page as it is answered: with its records, or without them.
+fn sent(alloc: Global, reply: FetchReply, sends: bool) -> FetchReply {
+    if sends {
+        reply
+    } else {
+        without_records(alloc, reply)
+    }
+}
+
+// Says whether a partition is named for the first time, and notes that it was named.
+fn note_first(seen: &mut Vec<PartitionId>, partition: PartitionId) -> Result<bool, Closed> {
+    if seen.contains(&partition) {
+        return Ok(false);
+    }
+    seen.push(partition)?;
+    Ok(true)
+}
+
 impl<'a, L: Readable, J: Naming, R: Wait + Clock + Drop> Session<'a, L, J, R> {
     // The page that is asked for: of the published log, or by a step of the node.
     fn page(&self, fetch: Fetch) -> Result<FetchReply, Closed> {
@@ -133,6 +151,15 @@ impl<'a, L: Readable, J: Naming, R: Wait + Clock + Drop> Session<'a, L, J, R> {
         })
     }
 
+    // A page of a partition, or, if its log isn't read, where that ends.
+    fn page_or_end(&self, fetch: Fetch, is_read: bool) -> Result<FetchReply, Closed> {
+        if is_read {
+            self.page(fetch)
+        } else {
+            self.empty_page(fetch)
+        }
+    }
+
     // Reads a partition, of whose log no page is read if the request named it before, or its response
     // has no room for more.
     fn read_one(
@@ -140,36 +167,23 @@ impl<'a, L: Readable, J: Naming, R: Wait + Clock + Drop> Session<'a, L, J, R> {
         fetch: Fetch,
         asked: &FetchPartition<'_>,
         budget: &mut FetchBudget,
-        seen: &mut Vec<PartitionId>,
-    ) -> Result<Read, Closed> {
+        is_first: bool,
+    ) -> Read {
         let (index, committed) = (asked.partition, fetch.committed);
-        let is_read = seen.contains(&fetch.partition);
-        if !is_read {
-            seen.push(fetch.partition)?;
-        }
-        let read = if is_read || !budget.has_room(asked.partition_max_bytes) {
-            self.empty_page(fetch)
-        } else {
-            self.page(fetch)
-        };
-        let Ok(reply) = read else {
-            return Ok(Read::Refused {
+        let is_read = is_first && budget.has_room(asked.partition_max_bytes);
+        let Ok(reply) = self.page_or_end(fetch, is_read) else {
+            return Read::Refused {
                 index,
                 code: UNTAKEN.number(),
-            });
+            };
         };
         let sends = budget.take(asked.partition_max_bytes, reply.batches.as_slice().len());
-        let reply = if sends {
-            reply
-        } else {
-            without_records(self.alloc, reply)
-        };
-        Ok(Read::Page {
+        Read::Page {
             index,
             committed,
-            reply,
+            reply: sent(self.alloc, reply, sends),
             sends,
-        })
+        }
     }
 
     // Reads each partition that is asked for, each once.
@@ -198,7 +212,8 @@ impl<'a, L: Readable, J: Naming, R: Wait + Clock + Drop> Session<'a, L, J, R> {
                         code,
                     },
                     FetchAsk::Read(fetch) => {
-                        self.read_one(fetch, &asked, &mut budget, &mut seen)?
+                        let is_first = note_first(&mut seen, fetch.partition)?;
+                        self.read_one(fetch, &asked, &mut budget, is_first)
                     }
                 };
                 pages.add(read)?;
