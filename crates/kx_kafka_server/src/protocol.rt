@@ -93,7 +93,9 @@ impl Kafka {
             groups: Groups::new(alloc, foreign.places(alloc)?),
             foreign,
             begun: Instant::now(rt).ok(),
-            idle: options.idle.map(|idle| Duration::from_millis(u64::from(idle.get()))),
+            idle: options
+                .idle
+                .map(|idle| Duration::from_millis(u64::from(idle.get()))),
             address: Address::of(alloc, options.advertise)?,
         };
         let left = aborts_of(alloc, entries)?;

@@ -120,7 +120,11 @@ fn new_traces<'a>(alloc: Global) -> Arg<'a>
     ensures rule { rule_of result ≡ new_traces_rule }
     ensures local { result.global ≡ false }
 {
-    flag(alloc, "new-traces", "Removes the traces that are there; they begin anew, with the logs")
+    flag(
+        alloc,
+        "new-traces",
+        "Removes the traces that are there; they begin anew, with the logs",
+    )
 }
 
 // Whether a server's clock aborts transactions.
@@ -128,7 +132,11 @@ fn expire<'a>(alloc: Global) -> Arg<'a>
     ensures rule { rule_of result ≡ expire_rule }
     ensures local { result.global ≡ false }
 {
-    flag(alloc, "expire", "Aborts transactions whose time is up; else they stay open")
+    flag(
+        alloc,
+        "expire",
+        "Aborts transactions whose time is up; else they stay open",
+    )
 }
 
 // For how long a member of a group may be silent.
@@ -183,7 +191,11 @@ fn no_auto_topics<'a>(alloc: Global) -> Arg<'a>
     ensures rule { rule_of result ≡ no_auto_topics_rule }
     ensures local { result.global ≡ false }
 {
-    flag(alloc, "no-auto-topics", "Makes no topic when a client first asks for it")
+    flag(
+        alloc,
+        "no-auto-topics",
+        "Makes no topic when a client first asks for it",
+    )
 }
 
 // How many topics are made when clients first ask for them.
@@ -212,7 +224,11 @@ fn log<'a>(alloc: Global) -> Arg<'a>
     ensures rule { rule_of result ≡ log_rule }
     ensures local { result.global ≡ false }
 {
-    flag(alloc, "log", "Writes to standard error what happens: connections, refusals, topics")
+    flag(
+        alloc,
+        "log",
+        "Writes to standard error what happens: connections, refusals, topics",
+    )
 }
 
 // Whether a server of stock clients writes none.
@@ -220,7 +236,11 @@ fn no_log<'a>(alloc: Global) -> Arg<'a>
     ensures rule { rule_of result ≡ no_log_rule }
     ensures local { result.global ≡ false }
 {
-    flag(alloc, "no-log", "Writes none of it, also if standard error is a terminal")
+    flag(
+        alloc,
+        "no-log",
+        "Writes none of it, also if standard error is a terminal",
+    )
 }
 
 // How many threads serve a demonstration.
