@@ -97,7 +97,7 @@ fn given<'a>(
     connections: Connections,
 ) -> KafkaOptions<'a>
     ensures given { IsGiven asked.now result }
-    ensures advertise { result.advertise ≡ advertise }
+    ensures advertise { result.advertise ≡ advertise.entry }
 {
     KafkaOptions {
         topics,

@@ -1,4 +1,4 @@
-use Rattle.std.proofs.Common.{codes, rules}
+use Rattle.std.proofs.Common.{codes}
 use Rattle.std.proofs.lemmas.Result.{IfOk-weaker}
 use Rattle.clap.specs.Words.{new_app}
 use Rattle.kx_program.proofs.Commands.{Makes, with_argument}
@@ -6,8 +6,10 @@ use Rattle.kx_program.proofs.usage.kafka_usage.Goals as goal
 
 pub returns : goal.returns
 returns c =
-    let made_0 : Makes c.about.result (new_app (codes "kafka")) =
-    record { is = search rules; local = search rules } in
+    let made_0 : Makes c.about.result (new_app (codes "kafka")) = record {
+      is = rw c.about.ensures c.new.ensures.app;
+      local = rw c.about.ensures c.new.ensures.local;
+    } in
     let made_1 = with_argument _ _ _ _ _ c.in_ok-arg.ensures made_0
     c.topics.ensures.rule c.topics.ensures.local in
     let made_2 = with_argument _ _ _ _ _ c.in_ok-arg-2.ensures made_1
