@@ -99,8 +99,8 @@ impl StockLink {
         Ok(false)
     }
 
-    // Nothing came for as long as a read waits. Says whether the connection stays, since a request
-    // waits or is being answered, or was put in or answered less than an idle time ago.
+    // Says whether a connection is kept after a read that timed out: if a request waits or is being
+    // answered, or if one arrived or was answered less than the idle time ago.
     fn stays<R: Wait + Clock>(&self, rt: &R) -> bool {
         let Some(idle) = self.shared.idle else {
             return true;

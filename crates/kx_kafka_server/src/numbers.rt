@@ -1,7 +1,7 @@
 //! The numbers of clients that connections have towards the core. None is used twice, over restarts
 //! of a server in the same folder neither: they are reserved in blocks, each by a byte of a file.
-ghost use Rattle.std.specs.Prelude.{◌≡◌, ◌<◌, ◌+◌, MatchOption};
-ghost use Rattle.kx_kafka_server.specs.Numbers.{limit};
+ghost use Rattle.std.specs.Prelude.{◌≡◌, ◌<◌, ◌+◌, MatchBool, MatchOption, true};
+ghost use Rattle.kx_kafka_server.specs.Numbers.{is_within, limit, reserved};
 
 use crate::fault::{GatewayFault, GatewayFile};
 use crate::kept::Lines;
@@ -25,30 +25,41 @@ pub(crate) struct Numbers {
 }
 
 impl Free {
-    // Reserves what is missing for the next number. If the device fails, or memory runs out, nothing
-    // is reserved.
-    fn reserve(&mut self)
-        ensures { self.new.span.next ≡ self.old.span.next }
+    // Writes that this many blocks more are reserved. Says whether the device has it; not if memory
+    // runs out.
+    fn keep(&mut self, blocks: usize) -> bool
+        ensures { self.new.span ≡ self.old.span }
+    {
+        let Ok(line) = vec![in self.alloc; b'\n'; blocks] else {
+            return false;
+        };
+        self.lines.add(line.as_slice()).is_ok()
+    }
+
+    // Reserves what is missing for the next number. Says whether nothing is missing now: if the device
+    // fails, or memory runs out, nothing is reserved.
+    fn reserve(&mut self) -> bool
+        ensures { MatchBool result (self.new.span ≡ reserved self.old.span)
+            (self.new.span ≡ self.old.span) }
     {
         let missing = self.span.missing() as usize;
-        if missing == 0 {
-            return;
+        if missing > 0 && !self.keep(missing) {
+            return false;
         }
-        let Ok(line) = vec![in self.alloc; b'\n'; missing] else {
-            return;
-        };
-        if self.lines.add(line.as_slice()).is_ok() {
-            self.span.reserve();
-        }
+        self.span.reserve();
+        true
     }
 
     // The next number, which is reserved by now. None if none is left, or the device failed.
     fn take(&mut self) -> Option<ClientId>
         ensures { MatchOption result (self.new.span.next ≡ self.old.span.next)
             (λ client. (client ≡ self.old.span.next) × (client < limit)
-            × (self.new.span.next ≡ self.old.span.next + 1)) }
+            × (self.new.span.next ≡ self.old.span.next + 1)
+            × (is_within self.new.span.blocks client ≡ true)) }
     {
-        self.reserve();
+        if !self.reserve() {
+            return None;
+        }
         self.span.take()
     }
 }

@@ -52,7 +52,7 @@ pub struct GatewayOptions<'a> {
     /// The folder of the tables of topics and client numbers, which is there; None keeps them in
     /// memory.
     pub dir: Option<&'a str>,
-    /// How many producer ids are given out to nobody before a connection is served, since the logs of
+    /// How many producer ids are allocated to nobody before a connection is served, since the logs of
     /// partitions name them already.
     pub skipped_ids: u32,
 }

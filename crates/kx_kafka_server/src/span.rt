@@ -1,5 +1,5 @@
 //! Which client numbers a server takes, and which are left to it.
-ghost use Rattle.std.specs.Prelude.{◌≡◌, ◌<◌, ◌+◌, MatchOption};
+ghost use Rattle.std.specs.Prelude.{◌≡◌, ◌<◌, ◌+◌, MatchOption, true};
 ghost use Rattle.kx_kafka_server.specs.Numbers.{BeginAbove, NoneIsTakenTwice, begun};
 ghost use Rattle.kx_kafka_server.specs.Numbers.{given_back, is_within, keeps_nothing, leaves, limit};
 ghost use Rattle.kx_kafka_server.specs.Numbers.{missing, noted, reserved, taken};
@@ -93,7 +93,8 @@ impl Span {
     pub(crate) fn take(&mut self) -> Option<ClientId>
         ensures given { MatchOption result (self.new ≡ self.old)
             (λ client. (client ≡ self.old.next) × (client < limit)
-            × (self.new.next ≡ self.old.next + 1)) }
+            × (self.new.next ≡ self.old.next + 1)
+            × (is_within self.new.blocks client ≡ true)) }
         ensures after { self.new ≡ taken self.old }
     {
         if self.next >= LIMIT || !is_within(self.blocks, self.next) {

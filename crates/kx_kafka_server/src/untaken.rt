@@ -11,8 +11,8 @@ use kx_message::{
 /// The code of a node whose log is closed: nothing was changed, and clients ask again.
 pub(crate) const UNTAKEN: ErrorCode = ErrorCode::KafkaStorageError;
 
-/// The reply of a node whose log is closed to a request that is to append, or for a committed offset.
-/// None for any other message.
+/// The reply of a node whose log is closed to a request that is to append, or for a committed offset;
+/// `None` if the message is no such request.
 pub(crate) fn untaken_reply(message: &Message) -> Option<Message>
     ensures { result ≡ untaken_reply message.now }
 {

@@ -75,8 +75,8 @@ pub enum ServeFault {
         /// What would be cut off.
         fault: EndFault,
     },
-    /// The log in this file names producer ids that the coordinator would give out again, more of
-    /// them than a start passes over. Nothing was served, and the folder stays as it is.
+    /// The log in this file names producer ids that the coordinator would allocate again, and a start
+    /// would have to pass over more than 65,536 of them. Nothing was served, and the folder stays as it is.
     #[error("{file}: its producer ids are {count} above those of co.log; restore co.log from a copy")]
     Ids {
         /// The file.

@@ -42,8 +42,8 @@ impl NamedIds {
         }
     }
 
-    /// How many ids are passed over by a coordinator that gives out `next` next, so that it gives out
-    /// none that is named.
+    /// How many producer ids a coordinator has to pass over whose next one is `next`, so that it
+    /// allocates none that a log names.
     ///
     /// # Errors
     ///
