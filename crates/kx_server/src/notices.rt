@@ -31,11 +31,11 @@ struct Noticed {
 // Which notices are taken in.
 #[derive(Clone, Copy, PartialEq, Eq)]
 enum Taken {
-    // None: the server hasn't begun, or has ended.
+    // No notice is taken in, since the server hasn't begun or has ended.
     None,
-    // Those of what the server has no more of.
+    // Only notices of what the server has no more of are taken in.
     Shortages,
-    // All.
+    // All notices are taken in.
     All,
 }
 
