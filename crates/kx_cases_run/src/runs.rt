@@ -30,6 +30,7 @@ use std::alloc::{AllocError, Global};
 use std::fs::{File, Files};
 use std::io::{BufWriter, ErrorKind};
 use std::net::{Net, TcpListener, TcpStream};
+use std::random::RandomSource;
 use std::sync::Wait;
 use std::thread::Threads;
 use std::time::Clock;
@@ -128,6 +129,7 @@ impl<
         + Threads
         + Wait
         + Clock
+        + RandomSource
         + Copy
         + Send
         + Sync

@@ -8,6 +8,7 @@ use kx_server::{Connections, Partitions, Until};
 use std::alloc::{AllocError, Global};
 use std::fs::{File, Files};
 use std::net::{Net, TcpListener, TcpStream};
+use std::random::RandomSource;
 use std::sync::Wait;
 use std::thread;
 use std::thread::{JoinHandle, Threads};
@@ -164,6 +165,7 @@ impl Running {
             + Threads
             + Wait
             + Clock
+            + RandomSource
             + Copy
             + Send
             + Sync
@@ -190,6 +192,7 @@ impl Running {
             + Threads
             + Wait
             + Clock
+            + RandomSource
             + Copy
             + Send
             + Sync

@@ -33,6 +33,7 @@ use kx_serve::serve;
 use std::alloc::{AllocError, Global};
 use std::fs::{File, Files};
 use std::net::{Net, TcpListener, TcpStream};
+use std::random::RandomSource;
 use std::sync::Wait;
 use std::thread;
 use std::thread::Threads;
@@ -59,6 +60,7 @@ impl<
         + Threads
         + Wait
         + Clock
+        + RandomSource
         + Copy
         + Send
         + Sync

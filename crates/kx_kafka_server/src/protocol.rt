@@ -52,6 +52,8 @@ pub struct GatewayOptions<'a> {
     /// The folder of the tables of topics and client numbers, which is there; None keeps them in
     /// memory.
     pub dir: Option<&'a str>,
+    /// The folder's number, by the list of its files; 0 without a folder.
+    pub folder_number: u64,
     /// How many producer ids are allocated to nobody before a connection is served, since the logs of
     /// partitions name them already.
     pub skipped_ids: u32,
@@ -79,8 +81,13 @@ impl Kafka {
         entries: &[Entry],
     ) -> Result<Kafka, GatewayFault> {
         let alloc = rt.alloc();
-        let topics = Lines::open(rt, options.dir, GatewayFile::Topics)?;
-        let mut clients = Lines::open(rt, options.dir, GatewayFile::Clients)?;
+        let topics = Lines::open(rt, options.dir, options.folder_number, GatewayFile::Topics)?;
+        let mut clients = Lines::open(
+            rt,
+            options.dir,
+            options.folder_number,
+            GatewayFile::Clients,
+        )?;
         let mut span = span_in(alloc, &mut clients)?;
         note_owners(&mut span, entries);
         note_members(rt, options.dir, &mut span)?;

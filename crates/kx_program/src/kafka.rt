@@ -17,6 +17,7 @@ use std::alloc::Global;
 use std::fs::{File, Files};
 use std::io::{BufWriter, Write};
 use std::net::{Net, TcpListener, TcpStream};
+use std::random::RandomSource;
 use std::sync::Wait;
 use std::thread::Threads;
 use std::time::Clock;
@@ -124,6 +125,7 @@ fn serve_stock<
         + Threads
         + Wait
         + Clock
+        + RandomSource
         + Copy
         + Send
         + Sync
@@ -163,6 +165,7 @@ fn serve_told<
         + Threads
         + Wait
         + Clock
+        + RandomSource
         + Copy
         + Send
         + Sync
@@ -207,6 +210,7 @@ pub(crate) fn kafka<
         + Threads
         + Wait
         + Clock
+        + RandomSource
         + Copy
         + Send
         + Sync

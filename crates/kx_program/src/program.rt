@@ -23,6 +23,7 @@ use std::alloc::Global;
 use std::fs::{File, Files};
 use std::io::{BufRead, BufWriter, ErrorKind, Write};
 use std::net::{Net, TcpListener, TcpStream};
+use std::random::RandomSource;
 use std::sync::Wait;
 use std::thread::Threads;
 use std::time::Clock;
@@ -226,6 +227,7 @@ fn serve<
         + Threads
         + Wait
         + Clock
+        + RandomSource
         + Copy
         + Send
         + Sync
@@ -253,6 +255,7 @@ fn perform<
         + Threads
         + Wait
         + Clock
+        + RandomSource
         + Copy
         + Send
         + Sync
@@ -315,6 +318,7 @@ fn do_words<
         + Threads
         + Wait
         + Clock
+        + RandomSource
         + Copy
         + Send
         + Sync
@@ -354,6 +358,7 @@ pub fn run<
         + Threads
         + Wait
         + Clock
+        + RandomSource
         + Copy
         + Send
         + Sync

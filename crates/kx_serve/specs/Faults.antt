@@ -24,6 +24,8 @@ fault_number (fault.Changed file why) = 17
 fault_number (fault.Sums file) = 18
 fault_number (fault.End file why) = 19
 fault_number (fault.Ids file count) = 20
+fault_number (fault.Listed file why) = 21
+fault_number (fault.List why) = 22
 
 -- a folder, a file in one, or neither
 abbrev pub about_of : ServeFault → About
@@ -45,3 +47,5 @@ about_of (fault.Changed file why) = about.InLogs
 about_of (fault.Sums file) = about.InLogs
 about_of (fault.End file why) = about.InLogs
 about_of (fault.Ids file count) = about.InLogs
+about_of (fault.Listed file why) = about.InLogs
+about_of (fault.List why) = about.InLogs

@@ -3,7 +3,9 @@ ghost use Rattle.std.specs.Prelude.{◌≡◌};
 ghost use Rattle.kx_serve.specs.Faults.{about_of, fault_number};
 
 use crate::files::LogFile;
+use crate::listing::FolderFile;
 use kx_ends::EndFault;
+use kx_folder::{FileFault, ListFault};
 use kx_kafka_server::GatewayFault;
 use kx_log::OpenFault;
 use kx_server::{NetFault, ServerFault};
@@ -84,6 +86,22 @@ pub enum ServeFault {
         /// How many ids would have to be passed over.
         count: u64,
     },
+    /// This file isn't the one that is listed for the folder. Nothing was served, and the folder stays
+    /// as it is.
+    #[error("{file}: {fault}, by the list in folder; restore the file, or remove its line from folder to go on without it")]
+    Listed {
+        /// The file.
+        file: FolderFile,
+        /// How it differs.
+        fault: FileFault,
+    },
+    /// The list of the folder's files, the file `folder`, is damaged. Nothing was served, and the folder
+    /// stays as it is.
+    #[error("folder: {fault}; restore the file, or remove it to have the list made anew")]
+    List {
+        /// Where.
+        fault: ListFault,
+    },
     /// Memory ran out, or a thread can't be started.
     #[error("out of memory")]
     Memory,
@@ -150,7 +168,7 @@ impl ServeFault {
     /// The number of the fault, by which another program knows it: `Net` 1, `Write` 2, `Open` 3,
     /// `Memory` 4, `Folder` 6, `InUse` 7, `NotWhole` 9, `TraceFolder` 10, `TracesInUse` 11, `Trace`
     /// 12, `Untold` 13, `Gone` 14, `Gateway` 15, `Elsewhere` 16, `Changed` 17, `Sums` 18,
-    /// `End` 19, `Ids` 20.
+    /// `End` 19, `Ids` 20, `Listed` 21, `List` 22.
     pub fn number(self) -> u8
         ensures { result ≡ fault_number self }
     {
@@ -173,6 +191,8 @@ impl ServeFault {
             ServeFault::Sums { .. } => 18,
             ServeFault::End { .. } => 19,
             ServeFault::Ids { .. } => 20,
+            ServeFault::Listed { .. } => 21,
+            ServeFault::List { .. } => 22,
         }
     }
 
@@ -187,6 +207,7 @@ impl ServeFault {
             ServeFault::Open { .. } | ServeFault::NotWhole { .. } => About::InLogs,
             ServeFault::Changed { .. } | ServeFault::Sums { .. } => About::InLogs,
             ServeFault::End { .. } | ServeFault::Ids { .. } => About::InLogs,
+            ServeFault::Listed { .. } | ServeFault::List { .. } => About::InLogs,
             ServeFault::Untold { .. } | ServeFault::Gateway(_) => About::InLogs,
             ServeFault::Trace { .. } | ServeFault::Gone { .. } => About::InTraces,
             ServeFault::Elsewhere { .. } => About::InTraces,

@@ -1,7 +1,9 @@
 //! Where a server's logs are: in memory, or in the files of a folder.
 use crate::fault::ServeFault;
 use crate::files::LogFile;
+use crate::listing::{FolderFile, list_files};
 use kx_files::{FileStore, SummedStore, SumsFault};
+use kx_folder::{ListedStore, Lister};
 use kx_log::{MemStore, OpenFault, Store, StoreFault};
 use std::alloc::{AllocError, Global};
 use std::fs;
@@ -23,6 +25,9 @@ pub(crate) trait Folder: Drop {
 
     /// The bytes of a log; none if there is no store of it.
     fn bytes(&self, alloc: Global, file: LogFile) -> Result<Vec<u8>, ServeFault>;
+
+    /// Lists the files that have bytes and aren't listed, once all logs are opened.
+    fn list_files(&self) -> Result<(), ServeFault>;
 
     /// Tells whoever runs the server what is odd about a log.
     fn warn(&self, file: LogFile, words: &str);
@@ -51,6 +56,10 @@ impl Folder for InMemory {
         Ok(Vec::new(alloc))
     }
 
+    fn list_files(&self) -> Result<(), ServeFault> {
+        Ok(())
+    }
+
     fn warn(&self, _file: LogFile, _words: &str) {}
 }
 
@@ -59,6 +68,8 @@ impl Folder for InMemory {
 pub(crate) struct InFiles<'a, R: Drop> {
     pub(crate) rt: R,
     pub(crate) dir: &'a str,
+    /// the folder's number, by the list of its files
+    pub(crate) number: u64,
     pub(crate) tells_progress: bool,
 }
 
@@ -94,6 +105,12 @@ impl<'a, R: Files<File = File> + AllocGlobal + Eprint + Drop> InFiles<'a, R> {
         }
     }
 
+    // Who adds a log to the list; None if the list can't be opened, and then the log isn't listed.
+    fn lister(&self, alloc: Global, file: LogFile) -> Option<Lister> {
+        let name = FolderFile::Log(file).name(alloc).ok()?;
+        Lister::in_folder(&self.rt, self.dir, self.number, name).ok()
+    }
+
     // Warns of bytes of a log that have no checksum: what was changed of them can't be known.
     fn warn_of_unsummed(&self, file: LogFile, store: &SummedStore<File>) {
         let len = store.len();
@@ -118,17 +135,18 @@ fn fault_of_sums(file: LogFile, fault: SumsFault) -> ServeFault {
 }
 
 impl<'a, R: Files<File = File> + AllocGlobal + Eprint + Drop> Folder for InFiles<'a, R> {
-    type Kept = SummedStore<File>;
+    type Kept = ListedStore;
 
-    fn store(&self, alloc: Global, file: LogFile) -> Result<SummedStore<File>, ServeFault> {
+    fn store(&self, alloc: Global, file: LogFile) -> Result<ListedStore, ServeFault> {
         let path = file.path_in(alloc, self.dir)?;
         if self.tells_progress {
             self.tell(path.as_str());
         }
-        match file {
-            LogFile::Coordinator => self.summed(alloc, file),
-            LogFile::Partition(_) | LogFile::Offsets => self.plain(alloc, file),
-        }
+        let store = match file {
+            LogFile::Coordinator => self.summed(alloc, file)?,
+            LogFile::Partition(_) | LogFile::Offsets => self.plain(alloc, file)?,
+        };
+        Ok(ListedStore::new(store, self.lister(alloc, file)))
     }
 
     fn has(&self, alloc: Global, file: LogFile) -> Result<bool, AllocError> {
@@ -154,6 +172,10 @@ impl<'a, R: Files<File = File> + AllocGlobal + Eprint + Drop> Folder for InFiles
                 _ => Err(fault_in(file, OpenFault::Device)),
             },
         }
+    }
+
+    fn list_files(&self) -> Result<(), ServeFault> {
+        list_files(&self.rt, self.dir)
     }
 
     fn warn(&self, file: LogFile, words: &str) {

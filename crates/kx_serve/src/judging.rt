@@ -90,8 +90,8 @@ fn judge_all<F: Folder>(
     Ok(named.or(ends.above_ids, LogFile::Offsets))
 }
 
-/// Judges the logs of the partitions that are served, if they are in a folder, before one of them is
-/// opened. The folder stays as it is.
+/// Judges the logs of the partitions that are served, if they are in a folder, which has this number,
+/// before one of them is opened. The folder stays as it is.
 ///
 /// # Errors
 ///
@@ -100,6 +100,7 @@ fn judge_all<F: Folder>(
 pub(crate) fn judge_logs<R: Files<File = File> + AllocGlobal + Eprint + Copy + Drop>(
     rt: &R,
     dir: Option<&str>,
+    number: u64,
     partitions: Partitions,
 ) -> Result<NamedIds, ServeFault> {
     match dir {
@@ -108,6 +109,7 @@ pub(crate) fn judge_logs<R: Files<File = File> + AllocGlobal + Eprint + Copy + D
             let folder = InFiles {
                 rt: *rt,
                 dir,
+                number,
                 tells_progress: false,
             };
             judge_all(rt.alloc(), &folder, partitions)

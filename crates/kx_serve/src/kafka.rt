@@ -6,6 +6,7 @@ ghost use Rattle.kx_server.specs.Lines.{Listens};
 use crate::fault::ServeFault;
 use crate::files::LogFile;
 use crate::judging::judge_logs;
+use crate::listing::folder_number;
 use crate::locking::lock_folders;
 use crate::options::{KafkaOptions, ServeOptions};
 use crate::server::{Spoken, latest_start, serve_speaking};
@@ -20,6 +21,7 @@ use std::fs;
 use std::fs::{File, Files};
 use std::io::{ErrorKind, Write};
 use std::net::{Net, TcpListener, TcpStream};
+use std::random::RandomSource;
 use std::sync::Wait;
 use std::thread::Threads;
 use std::time::Clock;
@@ -52,11 +54,12 @@ pub(crate) fn coordinator_log<R: Files<File = File> + AllocGlobal>(
     }
 }
 
-// The protocol of stock clients, with what the folder and the coordinator's log have of it, and this
-// many producer ids that are passed over.
+// The protocol of stock clients, with what the folder, which has this number, and the coordinator's
+// log have of it, and this many producer ids that are passed over.
 fn gateway<R: Files<File = File> + AllocGlobal + Clock + Eprint>(
     rt: &R,
     options: &KafkaOptions<'_>,
+    folder_number: u64,
     entries: &[Entry],
     skipped_ids: u32,
 ) -> Result<Kafka, ServeFault> {
@@ -66,6 +69,7 @@ fn gateway<R: Files<File = File> + AllocGlobal + Clock + Eprint>(
         idle: options.idle,
         advertise: options.advertise,
         dir: options.dir,
+        folder_number,
         skipped_ids,
     };
     Ok(Kafka::open(rt, &asked, entries)?)
@@ -101,6 +105,7 @@ fn serve_locked<
         + Threads
         + Wait
         + Clock
+        + RandomSource
         + Copy
         + Send
         + Sync
@@ -111,16 +116,18 @@ fn serve_locked<
     ensures { OnOk result (Listens (W.contents out.old) (W.contents out.new)) }
 {
     let served = options.served();
-    let named = judge_logs(&rt, options.dir, served.partitions)?;
+    let number = folder_number(&rt, options.dir)?;
+    let named = judge_logs(&rt, options.dir, number, served.partitions)?;
     let log = coordinator_log(&rt, options.dir)?;
     let skipped = named.skipped(next_id(log.entries()))?;
-    let protocol = gateway(&rt, options, log.entries(), skipped)?;
+    let protocol = gateway(&rt, options, number, log.entries(), skipped)?;
     let since = latest_start(log.entries());
     drop(log);
     let spoken = Spoken {
         protocol: &protocol,
         until: options.until,
         since,
+        folder_number: number,
     };
     serve_speaking(rt, &served, &spoken, out)
 }
@@ -139,6 +146,7 @@ pub fn serve_kafka<
         + Threads
         + Wait
         + Clock
+        + RandomSource
         + Copy
         + Send
         + Sync

@@ -11,6 +11,7 @@ use crate::folder::{Folder, InFiles, InMemory};
 use crate::judging::judge_logs;
 use crate::kafka::coordinator_log;
 use crate::limits::connections_beside_files;
+use crate::listing::folder_number;
 use crate::locking::lock_folders;
 use crate::opening::{Kept, Opening};
 use crate::options::ServeOptions;
@@ -27,6 +28,7 @@ use std::fs::{File, Files};
 use std::io::Write;
 use std::marker::Brand;
 use std::net::{Net, TcpListener, TcpStream};
+use std::random::RandomSource;
 use std::sync::Wait;
 use std::thread::Threads;
 use std::time::Clock;
@@ -70,13 +72,14 @@ fn opening<'a, F: Folder, R: Files<File = File> + AllocGlobal + Eprint + Clock +
     }
 }
 
-/// How clients speak with a server, when it ends, and the latest time that its coordinator's log has,
-/// in milliseconds since 1970.
+/// How clients speak with a server, when it ends, the latest time that its coordinator's log has, in
+/// milliseconds since 1970, and the number of its folder, 0 without one.
 #[derive(Drop)]
 pub(crate) struct Spoken<'a, P: Protocol> {
     pub(crate) protocol: &'a P,
     pub(crate) until: Until,
     pub(crate) since: u64,
+    pub(crate) folder_number: u64,
 }
 
 /// The latest time at which a transaction of these entries began, in milliseconds since 1970; 0 if
@@ -179,6 +182,7 @@ fn serve_named<
     ensures { OnOk result (Listens (W.contents out.old) (W.contents out.new)) }
 {
     let nodes = opening(rt, folder, options).open::<J>(books, offsets)?;
+    folder.list_files()?;
     let placing = Placing {
         rt,
         alloc: rt.alloc(),
@@ -251,6 +255,7 @@ pub(crate) fn serve_speaking<
             let folder = InFiles {
                 rt,
                 dir,
+                number: spoken.folder_number,
                 tells_progress: options.tells_progress,
             };
             serve_over(rt, &folder, options, spoken, out)
@@ -267,6 +272,7 @@ fn serve_own<
         + Threads
         + Wait
         + Clock
+        + RandomSource
         + Copy
         + Send
         + Sync
@@ -277,7 +283,8 @@ fn serve_own<
     ensures { OnOk result (Prints options.now.connections (W.contents out.old)
         (W.contents out.new)) }
 {
-    judge_logs(&rt, options.dir, options.partitions)?;
+    let number = folder_number(&rt, options.dir)?;
+    judge_logs(&rt, options.dir, number, options.partitions)?;
     let log = coordinator_log(&rt, options.dir)?;
     let since = latest_start(log.entries());
     drop(log);
@@ -285,6 +292,7 @@ fn serve_own<
         protocol: &OwnFrames::of(&options.server(since)),
         until: Until::Served,
         since,
+        folder_number: number,
     };
     serve_speaking(rt, options, &spoken, out)?;
     tell(out, "served", usize::from(options.connections.get()))?;
@@ -305,6 +313,7 @@ pub fn serve<
         + Threads
         + Wait
         + Clock
+        + RandomSource
         + Copy
         + Send
         + Sync

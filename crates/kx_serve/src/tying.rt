@@ -61,8 +61,8 @@ fn mark_in<R: Files<File = File> + AllocGlobal>(
     }
 }
 
-// Gives a folder a mark. The device has it when this returns.
-fn mark<R: Files<File = File> + AllocGlobal>(
+/// Gives a folder a file of this name with this text. The device has it when this returns.
+pub(crate) fn mark<R: Files<File = File> + AllocGlobal>(
     rt: &R,
     dir: &str,
     name: &str,
@@ -75,8 +75,8 @@ fn mark<R: Files<File = File> + AllocGlobal>(
     File::open(rt, dir)?.sync_all()
 }
 
-// What an error of the system is to a folder of logs.
-fn logs_fault(error: &io::Error) -> ServeFault {
+/// What an error of the system is to a folder of logs.
+pub(crate) fn logs_fault(error: &io::Error) -> ServeFault {
     match error.kind() {
         ErrorKind::OutOfMemory => ServeFault::Memory,
         why => ServeFault::Folder { why },
