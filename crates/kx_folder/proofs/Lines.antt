@@ -1,6 +1,6 @@
 -- The parts of lines, and lines that are read again.
-use Rattle.std.proofs.Common.{◌≡◌, ◌∙◌, ◌≤◌, ◌<◌, ◌+◌, ◌-◌, ◌*◌, ◌^◌, ℕ, List, [], ◌∷◌, ◌++◌, length}
-use Rattle.std.proofs.Common.{take, drop, codes, Result, Ok, Err, refl, sym, ap, arith, inl, inr, append_assoc, append-nil, min, zero, suc}
+use Rattle.std.proofs.Common.{◌≡◌, ◌∙◌, ◌≤◌, ◌+◌, ◌-◌, ◌*◌, ℕ, List, [], ◌∷◌, ◌++◌, length}
+use Rattle.std.proofs.Common.{take, drop, codes, Result, Ok, refl, sym, ap, arith, inl, inr, append_assoc, append-nil, min, zero, suc}
 use Rattle.std.proofs.Common.{Bool, true, false, not, nat_eq}
 use Rattle.std.specs.Cmp.Lexicographic.{pointwise}
 use Rattle.std.proofs.lemmas.Bool.{false≢true}

@@ -1,6 +1,6 @@
 -- The list `folder` of the files in a server's folder: a number that was drawn as the list was made,
 -- and for each file the CRC-32C (RFC 3720, appendix B.4) of its first bytes.
-use Rattle.std.specs.Prelude.{◌≡◌, ◌≢◌, ◌<◌, ◌≤◌, ◌-◌, ◌+◌, ◌^◌, ℕ, List, [], ◌∷◌, ◌++◌, codes, length}
+use Rattle.std.specs.Prelude.{◌≡◌, ◌≢◌, ◌<◌, ◌≤◌, ◌-◌, ◌+◌, ◌^◌, ℕ, List, ◌++◌, codes, length}
 use Rattle.std.specs.Prelude.{take, Option, Some, None, ◌⊎◌, Bool, bytes_eq}
 use Rattle.std.specs.Int.{w16, w32, w64}
 use Rattle.std.specs.List.{flat_map, list_any}

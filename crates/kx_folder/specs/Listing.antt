@@ -1,5 +1,5 @@
 -- A store in a file, whose first append puts the file on the list of its folder.
-use Rattle.std.specs.Prelude.{ℕ, List, Option, IfSome, take}
+use Rattle.std.specs.Prelude.{ℕ, List, Option, take}
 use Rattle.std.specs.Io.KnownBytes.{Appends}
 use Rattle.kx_files.specs.Summed.{SummedState}
 use Rattle.kx_folder.specs.Folder.{line_text, listed_as, most_first}

@@ -1,4 +1,4 @@
-use Rattle.std.proofs.Common.{◌≡◌, ◌∙◌, ap, sym, take, drop, Ok, refl, arith}
+use Rattle.std.proofs.Common.{◌≡◌, ◌∙◌, take, drop, Ok, arith}
 use Rattle.hex.specs.Hex.{decode_sized}
 use Rattle.kx_folder.proofs.Lines.{number_16, number_32}
 use Rattle.kx_folder.proofs.file.in_line.Goals as goal

@@ -1,4 +1,4 @@
-use Rattle.std.proofs.Common.{◌≡◌, ◌∙◌, ap, arith, codes, append_assoc}
+use Rattle.std.proofs.Common.{codes, append_assoc}
 use Rattle.std.specs.Int.{w64}
 use Rattle.kx_varint.specs.BigEndian.{unsigned_text}
 use Rattle.hex.specs.Hex.{encode_lower}

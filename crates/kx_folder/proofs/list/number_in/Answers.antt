@@ -1,4 +1,4 @@
-use Rattle.std.proofs.Common.{◌≡◌, ◌∙◌, ap, sym, take, drop, Ok, arith}
+use Rattle.std.proofs.Common.{◌≡◌, take, drop, Ok, arith}
 use Rattle.hex.specs.Hex.{decode_sized}
 use Rattle.kx_folder.proofs.Lines.{number_64}
 use Rattle.kx_folder.proofs.list.number_in.Goals as goal

@@ -1,5 +1,5 @@
-use Rattle.std.proofs.Common.{◌≡◌, ◌∙◌, ◌++◌, ◌∷◌, [], ap, sym, arith, append_assoc, append-nil}
-use Rattle.std.proofs.Common.{MatchOption, length, refl, subst, drop}
+use Rattle.std.proofs.Common.{◌∙◌, ◌++◌, ◌∷◌, [], ap, sym, arith, append_assoc, append-nil}
+use Rattle.std.proofs.Common.{MatchOption, length, refl, subst}
 use Rattle.std.proofs.lemmas.List.{length-drop}
 use Rattle.kx_folder.specs.Folder.{HasNoLine, lines_text}
 use Rattle.kx_folder.specs.Internal.Parts.{HasLine}

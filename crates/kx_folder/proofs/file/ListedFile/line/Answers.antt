@@ -1,4 +1,4 @@
-use Rattle.std.proofs.Common.{◌≡◌, ◌∙◌, ap, arith, codes}
+use Rattle.std.proofs.Common.{codes}
 use Rattle.std.specs.Int.{w16, w32}
 use Rattle.kx_varint.specs.BigEndian.{unsigned_text}
 use Rattle.hex.specs.Hex.{encode_lower}

@@ -1,4 +1,4 @@
-use Rattle.std.proofs.Common.{◌≡◌, ◌∙◌, ap, arith}
+use Rattle.std.proofs.Common.{◌∙◌, ap}
 use Rattle.kx_folder.specs.Folder.{listed_as}
 use Rattle.kx_folder.proofs.Lines.{first_is}
 use Rattle.kx_folder.proofs.file.ListedFile.of.Goals as goal

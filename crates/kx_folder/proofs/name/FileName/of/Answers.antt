@@ -1,4 +1,3 @@
-use Rattle.std.proofs.Common.{◌≡◌, ◌∙◌, ap, arith}
 use Rattle.kx_folder.proofs.Lines.{is_padded}
 use Rattle.kx_folder.proofs.name.FileName.of.Goals as goal
 
