@@ -5,6 +5,7 @@
 //! pages are steps of its node.
 #![tactic(auto)]
 
+mod course;
 mod fault;
 mod files;
 mod folder;

@@ -5,9 +5,11 @@ ghost use Rattle.kx_coord_node.specs.Stands.{Stands, opened_coordinator};
 ghost use Rattle.kx_machine.specs.Meaning.{AtCoordinator};
 ghost use Rattle.kx_message.specs.Ranges.{data_partitions, offsets_partition};
 ghost use Rattle.kx_serve.specs.Opening.{HasBook, HasOffsetsBook, IsItsBook, IsOpened};
+ghost use Rattle.kx_serve.specs.Owed.{HasAll};
 ghost use Rattle.kx_serve.specs.Opening.{IsServing, StandsForCoordinator};
 ghost use Rattle.logbook.specs.Pages.{Book};
 
+use crate::course::{Begins, Course, begins_of, coordinator_course, partition_course};
 use crate::fault::ServeFault;
 use crate::files::LogFile;
 use crate::folder::{Folder, fault_in};
@@ -50,17 +52,6 @@ fn locked<S: Store, R: Eprint + Drop>(
         locked: Untraced::new(NodeId::Partition(number), machine),
         opened,
     }
-}
-
-// Whether the coordinator's trace begins at this start.
-#[derive(Clone, Copy)]
-enum Begins {
-    // it tells of steps, or of none since the coordinator was made
-    No,
-    // it was begun before, and told nothing yet
-    Again,
-    // there was none
-    Anew,
 }
 
 /// What nodes are opened with.
@@ -145,8 +136,9 @@ impl<'a, F: Folder, R: Files<File = File> + AllocGlobal + Eprint + Drop + Copy> 
         kept: &[PartitionId],
         store: F::Kept,
     ) -> Result<CoordinatorMachine<F::Kept>, ServeFault>
-        ensures { IfOk result (λ m.
+        ensures stands { IfOk result (λ m.
             Stands (AtCoordinator (opened_coordinator m.log.notes self.now.time)) m) }
+        ensures whole { IfOk result (λ m. HasAll kept.now m.log.notes) }
     {
         match CoordinatorMachine::open(self.alloc, store, self.time) {
             Ok((machine, markers)) => {
@@ -258,25 +250,6 @@ impl<'a, F: Folder, R: Files<File = File> + AllocGlobal + Eprint + Drop + Copy> 
         traces.begin_on(trace, log.as_slice())
     }
 
-    // The trace of a coordinator whose log has this many entries. If it is new it begins on the log.
-    // A log of a single entry whose trace has no record was made, and its process ended before the
-    // first step.
-    fn later_trace(
-        &self,
-        traces: &Traces<'a, R>,
-        trace: OpenedTrace<R>,
-        entries: usize,
-    ) -> Result<TraceFile<R>, ServeFault> {
-        let file = LogFile::Coordinator;
-        if trace.is_new {
-            return self.begin_on(traces, file, trace.file);
-        }
-        if !trace.has_records && entries > 1 {
-            return Err(ServeFault::Untold { file });
-        }
-        self.go_on(traces, file, trace.file)
-    }
-
     // The coordinator with a trace.
     fn traced_coordinator(
         &self,
@@ -288,10 +261,13 @@ impl<'a, F: Folder, R: Files<File = File> + AllocGlobal + Eprint + Drop + Copy> 
         ensures { IfOk result StandsForCoordinator }
     {
         let (store, entries) = self.found(store)?;
-        if !trace.has_records && entries == 0 {
-            return self.first_coordinator(store, trace.file);
-        }
-        let trace = self.later_trace(traces, trace, entries)?;
+        let file = LogFile::Coordinator;
+        let trace = match coordinator_course(trace.is_new, trace.has_records, entries) {
+            Course::First => return self.first_coordinator(store, trace.file),
+            Course::OnLog => self.begin_on(traces, file, trace.file)?,
+            Course::GoesOn => self.go_on(traces, file, trace.file)?,
+            Course::Untold | Course::CoordinatorUntold => return Err(ServeFault::Untold { file }),
+        };
         self.later_coordinator(kept, store, Some(trace))
     }
 
@@ -309,11 +285,7 @@ impl<'a, F: Folder, R: Files<File = File> + AllocGlobal + Eprint + Drop + Copy> 
         };
         let was_there = traces.has(&TracedNode::Coordinator)?;
         let trace = traces.open(&TracedNode::Coordinator)?;
-        let begins = match (trace.is_new, was_there) {
-            (false, _) => Begins::No,
-            (true, true) => Begins::Again,
-            (true, false) => Begins::Anew,
-        };
+        let begins = begins_of(trace.is_new, was_there);
         Ok((self.traced_coordinator(kept, store, traces, trace)?, begins))
     }
 
@@ -360,18 +332,18 @@ impl<'a, F: Folder, R: Files<File = File> + AllocGlobal + Eprint + Drop + Copy> 
         begins: Begins,
     ) -> Result<TraceFile<R>, ServeFault> {
         let trace = traces.open(&TracedNode::Partition(partition))?;
-        match (trace.has_records, begins) {
-            // no trace tells of the steps that the coordinator took meanwhile
-            (true, Begins::Anew) => Err(ServeFault::Untold {
-                file: LogFile::Coordinator,
-            }),
-            (true, _) => self.go_on(traces, file, trace.file),
-            (false, Begins::No) if self.folder.len(self.alloc, file)? == 0 => Ok(trace.file),
-            (false, Begins::No) => Err(ServeFault::Untold { file }),
-            (false, _) => {
+        let is_empty = self.folder.len(self.alloc, file)? == 0;
+        match partition_course(trace.has_records, begins, is_empty) {
+            Course::First => Ok(trace.file),
+            Course::OnLog => {
                 let trace = self.begin_on(traces, file, trace.file)?;
                 self.go_on(traces, file, trace)
             }
+            Course::GoesOn => self.go_on(traces, file, trace.file),
+            Course::Untold => Err(ServeFault::Untold { file }),
+            Course::CoordinatorUntold => Err(ServeFault::Untold {
+                file: LogFile::Coordinator,
+            }),
         }
     }
 
