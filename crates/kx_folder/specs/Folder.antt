@@ -1,7 +1,7 @@
 -- The list `folder` of the files in a server's folder: a number that was drawn as the list was made,
 -- and for each file the CRC-32C (RFC 3720, appendix B.4) of its first bytes.
 use Rattle.std.specs.Prelude.{◌≡◌, ◌≢◌, ◌<◌, ◌≤◌, ◌-◌, ◌+◌, ◌^◌, ℕ, List, ◌++◌, codes, length}
-use Rattle.std.specs.Prelude.{take, Option, Some, None, ◌⊎◌, Bool, bytes_eq}
+use Rattle.std.specs.Prelude.{take, Option, Some, None, ◌⊎◌, Bool, true, false, bytes_eq, nat_lt, not, ◌==◌, ◌||◌}
 use Rattle.std.specs.Int.{w16, w32, w64}
 use Rattle.std.specs.List.{flat_map, list_any}
 use Rattle.kx_varint.specs.BigEndian.{unsigned_text}
@@ -77,11 +77,19 @@ HasNoHead text = (number : ℕ) (rest : List ℕ) → number < 2 ^ 64 → text �
 abbrev pub HasNoLine : List ℕ → Type 0
 HasNoLine text = (file : ListedFile) (rest : List ℕ) → HasRoom file → text ≢ line_text file ++ rest
 
--- the text is the head and these lines, and then less than a line, as a crash leaves it
+-- whether one of the bytes isn't zero
+abbrev pub has_text : List ℕ → Bool
+has_text bytes = list_any (λ byte. not (byte == 0)) bytes
+
+-- whether bytes at the end count for nothing, as a crash leaves them: less than a line, or zeros
+abbrev pub is_unwritten : List ℕ → Bool
+is_unwritten bytes = nat_lt (length bytes) 22 || not (has_text bytes)
+
+-- the text is the head and these lines, and then nothing that counts
 pub record IsListIn (text : List ℕ) (list : FolderList) : Type 0 where
   pub torn : List ℕ
   pub parts : text ≡ head_text list.number ++ (lines_text list.files.items ++ torn)
-  pub short : length torn < 22
+  pub unwritten : is_unwritten torn ≡ true
   pub len_is : list.len ≡ length text - length torn
 
 -- the first line, which is whole, is no head
@@ -96,7 +104,7 @@ pub record HasBadLine (text : List ℕ) (line : ℕ) : Type 0 where
   pub files : List ListedFile
   pub rest : List ℕ
   pub parts : text ≡ head_text number ++ (lines_text files ++ rest)
-  pub whole : 22 ≤ length rest
+  pub written : is_unwritten rest ≡ false
   pub no_line : HasNoLine rest
   pub line_is : line ≡ length files + 2
 

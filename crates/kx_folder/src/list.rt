@@ -2,7 +2,7 @@
 ghost use Rattle.std.specs.Prelude.{◌≡◌, ◌++◌, IfOk, List, MatchOption, MatchResult, drop, take};
 ghost use Rattle.std.specs.Result.{IsErr};
 ghost use Rattle.hex.specs.Hex.{decode_sized};
-ghost use Rattle.kx_folder.specs.Folder.{HasNoHead, HasNoLine, IsListIn, WhyNoList, has_name, head_text};
+ghost use Rattle.kx_folder.specs.Folder.{HasNoHead, HasNoLine, IsListIn, WhyNoList, has_name, has_text, head_text, is_unwritten};
 ghost use Rattle.kx_folder.specs.Folder.{lines_text};
 ghost use Rattle.kx_folder.specs.Internal.Parts.{HasNumber};
 ghost use Rattle.kx_folder.specs.declared.file.ListedFile.{ListedFile as Listed};
@@ -98,8 +98,22 @@ fn read_lines<'a>(
     }
 }
 
-/// The list that this text is. What a crash left of a last line, fewer bytes than a line has, counts
-/// for nothing.
+// Whether one of the bytes isn't zero.
+fn has_text(bytes: &[u8]) -> bool
+    ensures { result ≡ has_text bytes.now }
+{
+    bytes.iter().any(|byte| *byte != 0)
+}
+
+// Whether bytes at the end count for nothing, as a crash leaves them: less than a line, or zeros.
+fn is_unwritten(rest: &[u8]) -> bool
+    ensures { result ≡ is_unwritten rest.now }
+{
+    rest.len() < ListedFile::LINE || !has_text(rest)
+}
+
+/// The list that this text is. What a crash left at the end counts for nothing: fewer bytes than a line
+/// has, or zeros.
 ///
 /// # Errors
 ///
@@ -115,7 +129,7 @@ pub fn read_list(alloc: Global, text: &[u8]) -> Result<FolderList, ListFault>
     };
     let mut files = Vec::new(alloc);
     let rest = read_lines(alloc, &mut files, lines)?;
-    if rest.len() >= ListedFile::LINE {
+    if !is_unwritten(rest) {
         return Err(ListFault::Damaged(files.len() as u64 + 2));
     }
     Ok(FolderList {

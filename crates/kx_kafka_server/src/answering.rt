@@ -1,7 +1,7 @@
 //! Requests are taken and answered, one after the other.
 use crate::closed::Closed;
 use crate::link::StockLink;
-use crate::replies::{fetch_reply, init_reply, produce_reply};
+use crate::replies::{fetch_reply, produce_reply};
 use crate::table::{Kept, MakeFault};
 use crate::transacting::TxnInit;
 use crate::untaken::{UNTAKEN, untaken_reply};
@@ -397,7 +397,7 @@ impl<'a, L: Readable, J: Naming, R: Wait + Clock + Drop> Session<'a, L, J, R> {
         match ask_init(self.caller(), request) {
             InitAsk::Refused(code) => self.refuse_init(asked, code),
             InitAsk::Ask(init) => {
-                let reply = init_reply(&self.ask(Message::InitProducerId(init))?)?;
+                let reply = self.ask_init(init)?;
                 Ok(Answer::Frame(init_frame(self.alloc, &asked.header, &reply)?))
             }
             InitAsk::Transactional { txn, timeout, held } => {

@@ -50,18 +50,23 @@ pub(crate) fn aborts_of(alloc: Global, entries: &[Entry]) -> Result<Vec<EndTxn>,
     Ok(aborts)
 }
 
-/// The request for a producer id that no producer gets: no connection speaks for its client, so the
-/// reply is dropped.
-pub(crate) fn id_for_nobody() -> Message {
+/// The request for a producer id that no producer gets.
+pub(crate) fn id_to_pass(caller: Caller) -> Message {
     let Ok(timeout) = Timeout::try_from(1) else {
         unreachable!();
     };
     Message::InitProducerId(InitProducerId {
-        caller: Caller {
-            client: ClientId::from(0),
-            correlation: 0,
-        },
+        caller,
         txn: None,
         timeout,
+    })
+}
+
+/// The request for a producer id that no producer gets: no connection speaks for its client, so the
+/// reply is dropped.
+pub(crate) fn id_for_nobody() -> Message {
+    id_to_pass(Caller {
+        client: ClientId::from(0),
+        correlation: 0,
     })
 }

@@ -18,6 +18,7 @@ mod inbox;
 mod kept;
 mod left;
 mod link;
+mod named;
 mod numbers;
 mod owners;
 mod places;

@@ -7,6 +7,7 @@ use crate::groups::Groups;
 use crate::kept::Lines;
 use crate::left::{aborts_of, id_for_nobody};
 use crate::link::StockLink;
+use crate::named::Named;
 use crate::numbers::{Numbers, span_in};
 use crate::owners::{note_members, note_owners};
 use crate::producers::Producers;
@@ -29,6 +30,7 @@ pub(crate) struct Shared {
     pub(crate) numbers: Numbers,
     pub(crate) producers: Producers,
     pub(crate) foreign: Foreign,
+    pub(crate) named: Named,
     pub(crate) groups: Groups,
     // when the server began
     pub(crate) begun: Option<Instant>,
@@ -54,6 +56,9 @@ pub struct GatewayOptions<'a> {
     pub dir: Option<&'a str>,
     /// The folder's number, by the list of its files; 0 without a folder.
     pub folder_number: u64,
+    /// One above the greatest producer id that the logs of partitions name, 0 if they name none: no
+    /// client is given one below.
+    pub named_ids: u64,
     /// How many producer ids are allocated to nobody before a connection is served, since the logs of
     /// partitions name them already.
     pub skipped_ids: u32,
@@ -99,6 +104,7 @@ impl Kafka {
             producers: Producers::open(alloc, entries)?,
             groups: Groups::new(alloc, foreign.places(alloc)?),
             foreign,
+            named: Named::below(options.named_ids, options.skipped_ids),
             begun: Instant::now(rt).ok(),
             idle: options
                 .idle

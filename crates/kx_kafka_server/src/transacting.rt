@@ -3,6 +3,7 @@ use crate::absent::{ASK_AGAIN, Absent};
 use crate::answering::{Answer, Asked, Session};
 use crate::closed::Closed;
 use crate::committing::is_own;
+use crate::left::id_to_pass;
 use crate::replies::{end_reply, init_reply, produce_reply};
 use crate::span::keeps_nothing;
 use kx_gateway::{
@@ -26,6 +27,9 @@ use kx_publishing::Readable;
 use std::sync::{Arc, Mutex, Wait};
 use std::thread;
 use std::time::{Clock, Duration};
+
+// How many ids are passed over at most before a request is answered: as many as at a start, and one.
+const MOST_PASSED: u32 = 65_537;
 
 // While markers are under way, the core is asked again after this long, and at most so often: then
 // the client is told so.
@@ -81,10 +85,39 @@ impl<'a, L: Readable, J: Naming, R: Wait + Clock + Drop> Session<'a, L, J, R> {
         thread::sleep(self.rt, Duration::from_millis(PAUSE_MILLIS));
     }
 
+    // Whether the coordinator allocates no id any more that a log named as the server began. Ids that a
+    // start didn't get are asked for here, and given to nobody.
+    fn passes_named_ids(&self) -> Result<bool, Closed> {
+        let named = &self.link.shared.named;
+        for _ in 0..MOST_PASSED {
+            if named.are_passed(self.rt) {
+                return Ok(true);
+            }
+            match init_reply(&self.ask(id_to_pass(self.caller()))?)?.held {
+                None => return Ok(false),
+                Some(held) => named.note(self.rt, held),
+            }
+        }
+        Ok(named.are_passed(self.rt))
+    }
+
+    /// Asks the coordinator for an id. While it may allocate one that a log names, the reply is that of
+    /// a coordinator whose log is closed.
+    pub(crate) fn ask_init(&self, init: InitProducerId) -> Result<InitReply, Closed> {
+        if !self.passes_named_ids()? {
+            return Ok(InitReply {
+                caller: init.caller,
+                code: ErrorCode::KafkaStorageError,
+                held: None,
+            });
+        }
+        init_reply(&self.ask(Message::InitProducerId(init))?)
+    }
+
     // Asks the coordinator, and again while it answers that markers are under way.
     fn ask_for_id(&self, init: InitProducerId) -> Result<InitReply, Closed> {
         for _ in 0..MOST_ASKED {
-            let reply = init_reply(&self.ask(Message::InitProducerId(init))?)?;
+            let reply = self.ask_init(init)?;
             if reply.code != ErrorCode::ConcurrentTransactions {
                 return Ok(reply);
             }

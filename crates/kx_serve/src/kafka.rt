@@ -5,7 +5,7 @@ ghost use Rattle.kx_server.specs.Lines.{Listens};
 
 use crate::fault::ServeFault;
 use crate::files::LogFile;
-use crate::judging::judge_logs;
+use crate::judging::{NamedIds, judge_logs};
 use crate::listing::folder_number;
 use crate::locking::lock_folders;
 use crate::options::{KafkaOptions, ServeOptions};
@@ -55,14 +55,15 @@ pub(crate) fn coordinator_log<R: Files<File = File> + AllocGlobal>(
 }
 
 // The protocol of stock clients, with what the folder, which has this number, and the coordinator's
-// log have of it, and this many producer ids that are passed over.
+// log have of it. No client is given one of the producer ids that logs name.
 fn gateway<R: Files<File = File> + AllocGlobal + Clock + Eprint>(
     rt: &R,
     options: &KafkaOptions<'_>,
     folder_number: u64,
     entries: &[Entry],
-    skipped_ids: u32,
+    named: NamedIds,
 ) -> Result<Kafka, ServeFault> {
+    let skipped_ids = named.skipped(next_id(entries))?;
     let asked = GatewayOptions {
         topics: options.topics,
         auto_topics: options.auto_topics,
@@ -70,6 +71,7 @@ fn gateway<R: Files<File = File> + AllocGlobal + Clock + Eprint>(
         advertise: options.advertise,
         dir: options.dir,
         folder_number,
+        named_ids: named.above,
         skipped_ids,
     };
     Ok(Kafka::open(rt, &asked, entries)?)
@@ -119,8 +121,7 @@ fn serve_locked<
     let number = folder_number(&rt, options.dir)?;
     let named = judge_logs(&rt, options.dir, number, served.partitions)?;
     let log = coordinator_log(&rt, options.dir)?;
-    let skipped = named.skipped(next_id(log.entries()))?;
-    let protocol = gateway(&rt, options, number, log.entries(), skipped)?;
+    let protocol = gateway(&rt, options, number, log.entries(), named)?;
     let since = latest_start(log.entries());
     drop(log);
     let spoken = Spoken {
