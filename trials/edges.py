@@ -16,11 +16,13 @@ back or forward.
 - As many topics are made by being asked for as `--auto-topics` says, and none that begins with `__`.
 - A Fetch that names one partition 40,000 times is answered within seconds; ListOffsets of an unknown
   isolation level is answered 42.
-- With traces that can't be written any more, a request is answered by a code. (This needs `mount`.)
+- With traces that can't be written any more, a request is answered by a code, also a batch that waits for
+  a coordinator whose trace can't be written. (This needs `mount`.)
 
 Ends with status 1 if one of these isn't so. Requests are written from Kafka's protocol guide, and
 batches from docs/FORMATS.md.
 """
+import contextlib
 import os
 import random
 import re
@@ -400,6 +402,48 @@ def traces_fill_up():
             subprocess.run(["umount", small])
 
 
+def the_coordinators_trace_fills_up():
+    with tempfile.TemporaryDirectory() as room:
+        small = f"{room}/small"
+        os.mkdir(small)
+        if subprocess.run(["mount", "-t", "tmpfs", "-o", "size=64k", "none", small],
+                          capture_output=True).returncode:
+            print("skipped: nothing can be mounted here, so no disk is filled")
+            return
+        try:
+            os.mkdir(f"{room}/traces")
+            os.symlink(f"{small}/co.trace", f"{room}/traces/co.trace")
+            server = Server("--trace", f"{room}/traces", "--dir", f"{room}/logs")
+            client = Client(server.port)
+            client.ask(3, 1, struct.pack(">i", 1) + text("bills"))
+            answer = client.ask(22, 0, text("pay") + struct.pack(">i", 60000))
+            _, code, held, epoch = struct.unpack(">ihqh", answer[:16])
+            say("a producer has an id", code == 0, f"{code}")
+            topic = struct.pack(">i", 1) + text("bills") + struct.pack(">i", 1)
+            fields = struct.pack(">qh", held, epoch) + topic + struct.pack(">i", 0)
+            client.ask(24, 0, text("pay") + fields)
+            with contextlib.suppress(OSError), open(f"{small}/filler", "wb", 0) as it:
+                for _ in range(64):
+                    it.write(bytes(1024))
+            # (what is left of the last page is filled by producers that have no transactional id)
+            codes = []
+            while codes[-1:] != [56] and len(codes) < 500:
+                answer = Client(server.port).ask(22, 0, struct.pack(">hi", -1, 60000))
+                codes.append(struct.unpack(">ih", answer[:6])[1])
+            say("the coordinator takes no step", codes[-1] == 56, f"{codes[-3:]} after {len(codes)}")
+            records = batch(held, epoch, 0)
+            fields = text("pay") + struct.pack(">hi", -1, 30000) + topic
+            begun = time.time()
+            answer = client.ask(0, 3, fields + struct.pack(">ii", 0, len(records)) + records)
+            took = time.time() - begun
+            code = struct.unpack(">h", answer[4 + 7 + 4 + 4:][:2])[0] if answer else None
+            say("a batch that waits for it is answered", code == 56 and took < 20, f"{code} in {took:.1f} s")
+            say("and its connection ends", closed_after(client, 5) is not None)
+            server.end()
+        finally:
+            subprocess.run(["umount", small])
+
+
 def plain_batch(value):
     """A batch of one record, of no producer."""
     record = bytes([0, 0, 0, 1]) + varint(len(value)) + value + b"\0"
@@ -409,7 +453,7 @@ def plain_batch(value):
 
 LOOKS = {it.__name__: it for it in (
     files_run_out, many_gone, killed_within_commits, the_clock_moves, idle_ones_are_closed,
-    topics_are_bounded, one_partition_often, traces_fill_up)}
+    topics_are_bounded, one_partition_often, traces_fill_up, the_coordinators_trace_fills_up)}
 
 
 def main():

@@ -1,5 +1,6 @@
 //! Requests are taken and answered, one after the other.
 use crate::closed::Closed;
+use crate::left::end_of_nobody;
 use crate::link::StockLink;
 use crate::replies::{fetch_reply, produce_reply};
 use crate::table::{Kept, MakeFault};
@@ -40,6 +41,12 @@ pub(crate) enum Answer {
     /// By nothing: a batch that no replica has to have.
     Nothing,
 }
+
+// How long a partition may take until it is tried whether the coordinator takes steps.
+const SECONDS_UNTIL_TRIED: u64 = 1;
+
+// How much longer a partition may take for a batch of a transaction, or for its offsets.
+const PATIENCE_SECONDS: u64 = 30;
 
 // Whether a name is one that Kafka keeps for topics of its own: no client's question makes them.
 fn is_internal(name: &[u8]) -> bool {
@@ -129,34 +136,52 @@ impl<'a, L: Readable, J: Naming, R: Wait + Clock + Drop> Session<'a, L, J, R> {
         }
     }
 
-    /// Sends a message to its node, and waits for the reply, at most this long. If the node takes no
-    /// step, the reply is that of a node whose log is closed.
-    ///
-    /// # Errors
-    ///
-    /// If no reply is there by then, as if memory ran out for it.
-    pub(crate) fn ask_within(
-        &self,
-        message: Message,
-        patience: Duration,
-    ) -> Result<Message, Closed> {
-        let untaken = untaken_reply(&message);
-        if !self.hub.deliver(self.rt, message) {
-            return untaken.ok_or(Closed);
-        }
-        match self.link.peer.take_reply(self.rt, patience) {
-            Some(reply) => Ok(reply),
-            None => Err(Closed),
-        }
-    }
-
-    /// Sends a message to its node, whose step sends the reply.
+    /// Sends a message to its node, whose step sends the reply. If the node takes no step, the reply is
+    /// that of a node whose log is closed.
     ///
     /// # Errors
     ///
     /// If memory ran out for the step or for its reply.
     pub(crate) fn ask(&self, message: Message) -> Result<Message, Closed> {
-        self.ask_within(message, Duration::ZERO)
+        let untaken = untaken_reply(&message);
+        if !self.hub.deliver(self.rt, message) {
+            return untaken.ok_or(Closed);
+        }
+        self.reply_within(Duration::ZERO).ok_or(Closed)
+    }
+
+    // The reply of a node that arrives within this time.
+    fn reply_within(&self, patience: Duration) -> Option<Message> {
+        self.link.peer.take_reply(self.rt, patience)
+    }
+
+    // Whether the coordinator takes a step: not if its trace can't be written, or memory runs out.
+    fn coordinator_steps(&self) -> bool {
+        self.hub.deliver(self.rt, end_of_nobody())
+    }
+
+    /// Sends a message to a partition, which may ask the coordinator before it replies, and waits for
+    /// the reply. If the partition takes no step, or it waits for a coordinator that takes none, the
+    /// reply is that of a partition whose log is closed; the connection then ends with the response, as
+    /// another reply may still come.
+    ///
+    /// # Errors
+    ///
+    /// If no reply is there after 30 seconds, as if memory ran out for it.
+    pub(crate) fn ask_verified(&self, message: Message) -> Result<Message, Closed> {
+        let untaken = untaken_reply(&message);
+        if !self.hub.deliver(self.rt, message) {
+            return untaken.ok_or(Closed);
+        }
+        if let Some(reply) = self.reply_within(Duration::from_secs(SECONDS_UNTIL_TRIED)) {
+            return Ok(reply);
+        }
+        if !self.coordinator_steps() {
+            self.link.end(self.rt);
+            return untaken.ok_or(Closed);
+        }
+        self.reply_within(Duration::from_secs(PATIENCE_SECONDS))
+            .ok_or(Closed)
     }
 
     /// The partition of a topic, if it is there.
@@ -484,6 +509,9 @@ impl<'a, L: Readable, J: Naming, R: Wait + Clock + Drop> Session<'a, L, J, R> {
                     }
                 }
                 Answer::Nothing => {}
+            }
+            if self.link.has_ended(self.rt) {
+                return Err(Closed);
             }
         }
         Ok(())

@@ -25,16 +25,13 @@ use kx_message::{
 use kx_published::book::Naming;
 use kx_publishing::Readable;
 use std::sync::{Arc, Mutex, Wait};
-use std::time::{Clock, Duration};
+use std::time::Clock;
 
 // The server's own transactional ids begin so; a client can't have one.
 const OWN: &[u8] = b"~offsets/";
 
 // How long the server's own transactions may stay open, in milliseconds.
 const OWN_TIMEOUT: u32 = 60_000;
-
-// How long offsets wait at most for what the partition asks of the coordinator.
-const PATIENCE_SECONDS: u64 = 30;
 
 /// Whether a transactional id is one of the server's own.
 pub(crate) fn is_own(txn: &TxnId) -> bool {
@@ -150,7 +147,6 @@ impl<'a, L: Readable, J: Naming, R: Wait + Clock + Drop> Session<'a, L, J, R> {
         first: i32,
         commit: &Commit,
     ) -> Result<OffsetsReply, Closed> {
-        let patience = Duration::from_secs(PATIENCE_SECONDS);
         for _ in 0..self.most_asked() {
             let offsets = Vec::from_slice(self.alloc, &commit.offsets)?;
             if offsets.is_empty() || offsets.len() > Offsets::MOST {
@@ -166,7 +162,7 @@ impl<'a, L: Readable, J: Naming, R: Wait + Clock + Drop> Session<'a, L, J, R> {
                 first_sequence: first,
                 offsets: Offsets::from_vec(offsets),
             });
-            let reply = offsets_reply(&self.ask_within(message, patience)?)?;
+            let reply = offsets_reply(&self.ask_verified(message)?)?;
             if reply.code != ErrorCode::ConcurrentTransactions {
                 return Ok(reply);
             }

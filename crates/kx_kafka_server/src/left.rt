@@ -1,8 +1,11 @@
-//! What the core is asked for before a connection is served: ends of transactions of the server's own
-//! that a server before it left open, and producer ids that no producer is to get.
+//! What the core is asked for in nobody's name: ends of transactions of the server's own that a server
+//! before it left open, and producer ids that no producer is to get.
 use crate::committing::is_own;
 use indexmap::IndexMap;
-use kx_message::{Caller, ClientId, EndTxn, Held, InitProducerId, Message, Outcome, Timeout};
+use kx_message::{
+    Caller, ClientId, EndTxn, Epoch, Held, InitProducerId, Message, Outcome, ProducerId, Timeout,
+    TxnId,
+};
 use kx_txnlog::{Entry, Row, State};
 use std::alloc::{AllocError, Global};
 
@@ -50,6 +53,14 @@ pub(crate) fn aborts_of(alloc: Global, entries: &[Entry]) -> Result<Vec<EndTxn>,
     Ok(aborts)
 }
 
+// A client for which no connection speaks, so that replies to it are dropped.
+fn nobody() -> Caller {
+    Caller {
+        client: ClientId::from(0),
+        correlation: 0,
+    }
+}
+
 /// The request for a producer id that no producer gets.
 pub(crate) fn id_to_pass(caller: Caller) -> Message {
     let Ok(timeout) = Timeout::try_from(1) else {
@@ -62,11 +73,26 @@ pub(crate) fn id_to_pass(caller: Caller) -> Message {
     })
 }
 
-/// The request for a producer id that no producer gets: no connection speaks for its client, so the
-/// reply is dropped.
-pub(crate) fn id_for_nobody() -> Message {
-    id_to_pass(Caller {
-        client: ClientId::from(0),
-        correlation: 0,
+/// The end of a transaction that nobody has: the coordinator refuses it, and changes nothing.
+pub(crate) fn end_of_nobody() -> Message {
+    let Ok(txn) = TxnId::try_from(b"~nobody".as_slice()) else {
+        unreachable!();
+    };
+    let Ok(id) = ProducerId::try_from(i64::MAX) else {
+        unreachable!();
+    };
+    Message::EndTxn(EndTxn {
+        caller: nobody(),
+        txn,
+        held: Held {
+            id,
+            epoch: Epoch::LAST,
+        },
+        outcome: Outcome::Abort,
     })
+}
+
+/// The request for a producer id that no producer gets, and whose reply is dropped.
+pub(crate) fn id_for_nobody() -> Message {
+    id_to_pass(nobody())
 }

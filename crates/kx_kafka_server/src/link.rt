@@ -12,7 +12,7 @@ use kx_server::{Peer, Waker};
 use std::alloc::{AllocError, Global};
 use std::io;
 use std::io::ErrorKind;
-use std::sync::{Arc, Wait};
+use std::sync::{Arc, Mutex, Wait};
 use std::time::{Clock, Duration};
 
 // How many bytes are read at once.
@@ -51,6 +51,8 @@ pub struct StockLink {
     pub(crate) inbox: Inbox,
     pub(crate) waker: Arc<Waker>,
     pub(crate) client: ClientId,
+    // whether the connection is to end with the response that is being made
+    ends: Mutex<bool>,
 }
 
 impl StockLink {
@@ -71,7 +73,18 @@ impl StockLink {
             inbox: Inbox::new(alloc),
             waker,
             client,
+            ends: Mutex::new(false),
         })
+    }
+
+    /// Has the connection end once the response to the request that is being answered is written.
+    pub(crate) fn end<R: Wait>(&self, rt: &R) {
+        *self.ends.lock(rt) = true;
+    }
+
+    /// Whether the connection is to end.
+    pub(crate) fn has_ended<R: Wait>(&self, rt: &R) -> bool {
+        *self.ends.lock(rt)
     }
 
     /// The broker, as the client is told it.

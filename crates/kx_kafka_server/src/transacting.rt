@@ -37,9 +37,6 @@ const PAUSE_MILLIS: u64 = 5;
 
 const MOST_ASKED: usize = 400;
 
-// How long a batch waits at most for what the partition asks of the coordinator.
-const PATIENCE_SECONDS: u64 = 30;
-
 // The code for a producer of whom the server knows no grant.
 const UNKNOWN: ErrorCode = ErrorCode::InvalidProducerIdMapping;
 
@@ -367,10 +364,9 @@ impl<'a, L: Readable, J: Naming, R: Wait + Clock + Drop> Session<'a, L, J, R> {
         held: Held,
         first: i32,
     ) -> Result<ProduceReply, Closed> {
-        let patience = Duration::from_secs(PATIENCE_SECONDS);
         for _ in 0..MOST_ASKED {
             let produce = batch.produce(self.alloc, self.caller(), held, first)?;
-            let reply = produce_reply(&self.ask_within(Message::Produce(produce), patience)?)?;
+            let reply = produce_reply(&self.ask_verified(Message::Produce(produce))?)?;
             if reply.code != ErrorCode::ConcurrentTransactions {
                 return Ok(reply);
             }
