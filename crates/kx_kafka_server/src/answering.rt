@@ -422,7 +422,7 @@ impl<'a, L: Readable, J: Naming, R: Wait + Clock + Drop> Session<'a, L, J, R> {
         match ask_init(self.caller(), request) {
             InitAsk::Refused(code) => self.refuse_init(asked, code),
             InitAsk::Ask(init) => {
-                let reply = self.ask_init(init)?;
+                let reply = self.ask_init(&init)?;
                 Ok(Answer::Frame(init_frame(self.alloc, &asked.header, &reply)?))
             }
             InitAsk::Transactional { txn, timeout, held } => {

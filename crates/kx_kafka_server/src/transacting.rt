@@ -100,7 +100,7 @@ impl<'a, L: Readable, J: Naming, R: Wait + Clock + Drop> Session<'a, L, J, R> {
 
     /// Asks the coordinator for an id. While it may allocate one that a log names, the reply is that of
     /// a coordinator whose log is closed.
-    pub(crate) fn ask_init(&self, init: InitProducerId) -> Result<InitReply, Closed> {
+    pub(crate) fn ask_init(&self, init: &InitProducerId) -> Result<InitReply, Closed> {
         if !self.passes_named_ids()? {
             return Ok(InitReply {
                 caller: init.caller,
@@ -108,13 +108,13 @@ impl<'a, L: Readable, J: Naming, R: Wait + Clock + Drop> Session<'a, L, J, R> {
                 held: None,
             });
         }
-        init_reply(&self.ask(Message::InitProducerId(init))?)
+        init_reply(&self.ask(Message::InitProducerId(*init))?)
     }
 
     // Asks the coordinator, and again while it answers that markers are under way.
     fn ask_for_id(&self, init: InitProducerId) -> Result<InitReply, Closed> {
         for _ in 0..MOST_ASKED {
-            let reply = self.ask_init(init)?;
+            let reply = self.ask_init(&init)?;
             if reply.code != ErrorCode::ConcurrentTransactions {
                 return Ok(reply);
             }
