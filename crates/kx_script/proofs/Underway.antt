@@ -1,11 +1,11 @@
 -- A run over the lines so far, and how it goes on or comes to its end.
 use Rattle.std.proofs.Common.{◌≡◌, ◌⊎◌, ◌<◌, ◌+◌, ℕ, List, [], ◌∷◌, ◌++◌, Option, None, Some, Ok}
-use Rattle.std.proofs.Common.{Err, Result, Bool, true, false, length, refl, sym, ap, ◌∙◌, subst}
+use Rattle.std.proofs.Common.{Err, Bool, true, false, length, refl, sym, ap, ◌∙◌, subst}
 use Rattle.std.proofs.Common.{append_assoc, arith, inl, inr}
 use Rattle.std.specs.Prelude.{IfSome}
 use Rattle.std.specs.Io.KnownBytes.{Appends}
 use Rattle.std.proofs.lemmas.List.{append-nil, length-append}
-use Rattle.std.proofs.KnownBytes.{Appends-kept, Appends-nil, Appends-trans}
+use Rattle.std.proofs.KnownBytes.{Appends-nil, Appends-trans}
 use Rattle.kx_text.specs.Words.{before, lines_of}
 use Rattle.kx_text.specs.Lines.{ReadsLine, bad_text}
 use Rattle.kx_text.specs.declared.fault.ScriptFault.{ScriptFault}
