@@ -16,12 +16,12 @@ use Rattle.kx_program.specs.declared.asking.Refusal.{Refusal}
 use Rattle.kx_program.specs.declared.task.Pictures.{Pictures}
 use Rattle.kx_program.specs.declared.task.Task.{Task}
 use Rattle.kx_program.specs.declared.task.Task.TheVariants as task
-use Rattle.kx_script.specs.Script.{Ends}
+use Rattle.kx_script.specs.Script.{EndsFlushed}
 use Rattle.kx_server.specs.Lines.{Listens, Prints}
 use Rattle.kx_serve.specs.declared.fault.ServeFault.{ServeFault}
 use Rattle.kx_server_audit.specs.Telling as audit
 use Rattle.kx_server_audit.specs.declared.fault.AuditFault.{AuditFault}
-use Rattle.kx_text.specs.Dump.{Dumps}
+use Rattle.kx_text.specs.Dump.{DumpsFlushed}
 use Rattle.kx_text.specs.Statuses.{ending_of}
 use Rattle.kx_text.specs.declared.dump.DumpFault.{DumpFault}
 use Rattle.kx_text.specs.declared.fault.ScriptFault.{ScriptFault}
@@ -35,12 +35,12 @@ asks_pictures asked = is_some asked.page || is_some asked.diagram
 -- the script on standard input was run
 abbrev pub Simulates : Option (List ℕ) → Option (List ℕ) → Option (List ℕ) → Ending → Type 0
 Simulates input old new how = IfSome input (λ script. (ran : Result (Unit {0}) ScriptFault)
-    × Ends script old new ran × (how ≡ ending_of ran))
+    × EndsFlushed script old new ran × (how ≡ ending_of ran))
 
 -- the script's answers were written, as far as that could be done
 abbrev pub Answers : Option (List ℕ) → Option (List ℕ) → Option (List ℕ) → Type 0
 Answers input old new = IfSome input (λ script. (ran : Result (Unit {0}) ScriptFault)
-    × Ends script old new ran)
+    × EndsFlushed script old new ran)
 
 -- the script was run, and drawn if that was asked for; or the program failed, since a picture
 -- couldn't be written after the answers, or since the script couldn't be read
@@ -54,7 +54,7 @@ Draws asked input old new how =
 -- these bytes of a file were dumped
 abbrev pub DumpsBytes : List ℕ → Option (List ℕ) → Option (List ℕ) → Ending → Type 0
 DumpsBytes bytes old new how = (dumped : Result (Unit {0}) DumpFault)
-    × Dumps bytes old new dumped × (how ≡ ending_of dumped)
+    × DumpsFlushed bytes old new dumped × (how ≡ ending_of dumped)
 
 -- a file was dumped, or couldn't be read, and nothing was written
 abbrev pub DumpsFile : Option (List ℕ) → Option (List ℕ) → Ending → Type 0

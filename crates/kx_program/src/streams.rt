@@ -4,8 +4,8 @@ ghost use Rattle.std.specs.Io.Buffered.{writer_buffer, writer_contents};
 ghost use Rattle.std.specs.Io.KnownBytes.{Keeps};
 ghost use Rattle.clap.specs.Words.{kind_of};
 ghost use Rattle.kx_program.specs.Endings.{IsUsageEnding, ending_of_demo};
-ghost use Rattle.kx_script.specs.Script.{Ends};
-ghost use Rattle.kx_text.specs.Dump.{Dumps};
+ghost use Rattle.kx_script.specs.Script.{EndsFlushed};
+ghost use Rattle.kx_text.specs.Dump.{DumpsFlushed};
 ghost use Rattle.kx_text.specs.Statuses.{ending_of};
 ghost use Rattle.kx_text.specs.declared.dump.DumpFault.{DumpFault};
 ghost use Rattle.kx_text.specs.declared.fault.ScriptFault.{ScriptFault};
@@ -47,7 +47,7 @@ fn run_told<I: BufRead, O: Write + Drop, E: Write>(
     out: &mut BufWriter<O>,
     errors: &mut E,
 ) -> Result<(), ScriptFault>
-    ensures ends { IfSome (I.remaining input.old) (λ script. Ends script
+    ensures ends { IfSome (I.remaining input.old) (λ script. EndsFlushed script
         (writer_contents O.contents out.old) (writer_contents O.contents out.new) result) }
     ensures flushed { (result ≡ Err fault.Write) ⊎ (writer_buffer out.new ≡ []) }
 {
@@ -71,7 +71,8 @@ pub fn sim<I: BufRead, O: Write + Drop, E: Write>(
 ) -> Ending
     // What was written, and that the program ends so.
     ensures ends { IfSome (I.remaining input.old) (λ script. (ran : Result (Unit {0}) ScriptFault)
-        × Ends script (writer_contents O.contents out.old) (writer_contents O.contents out.new) ran
+        × EndsFlushed script
+        (writer_contents O.contents out.old) (writer_contents O.contents out.new) ran
         × (result ≡ ending_of ran)) }
     // If all was done, nothing is left to be written.
     ensures flushed { (result ≡ ending.Failed) ⊎ (writer_buffer out.new ≡ []) }
@@ -123,7 +124,8 @@ fn dump<O: Write + Drop, E: Write>(
     errors: &mut E,
 ) -> Ending
     ensures ends { (dumped : Result (Unit {0}) DumpFault)
-        × Dumps bytes.now (writer_contents O.contents out.old) (writer_contents O.contents out.new)
+        × DumpsFlushed bytes.now
+        (writer_contents O.contents out.old) (writer_contents O.contents out.new)
         dumped × (result ≡ ending_of dumped) }
     ensures flushed { (result ≡ ending.Failed) ⊎ (writer_buffer out.new ≡ []) }
 {
@@ -145,7 +147,7 @@ pub fn dump_read<O: Write + Drop, E: Write>(
     errors: &mut E,
 ) -> Ending
     ensures ends { MatchResult bytes
-        (λ read. (dumped : Result (Unit {0}) DumpFault) × Dumps read.items
+        (λ read. (dumped : Result (Unit {0}) DumpFault) × DumpsFlushed read.items
         (writer_contents O.contents out.old) (writer_contents O.contents out.new) dumped
         × (result ≡ ending_of dumped))
         (λ _. (result ≡ ending.Failed)

@@ -1,6 +1,6 @@
 -- The answers to a script over a whole world: line by line, and over a whole run.
-use Rattle.std.specs.Prelude.{◌≡◌, ℕ, ◌+◌, Bool, true, false, List, [], ◌∷◌, ◌++◌, ◌⊎◌, length}
-use Rattle.std.specs.Prelude.{ℤ, Option, None, Some, Result, Ok, Err, option_map}
+use Rattle.std.specs.Prelude.{◌≡◌, ◌≤◌, ℕ, ◌+◌, Bool, true, false, List, [], ◌∷◌, ◌++◌, ◌⊎◌, length}
+use Rattle.std.specs.Prelude.{ℤ, Option, None, Some, Result, Ok, Err, IfSome, option_map}
 use Rattle.std.specs.Io.KnownBytes.{Appends, Keeps}
 use Rattle.kx_varint.specs.Text.{◌>>=◌}
 use Rattle.kx_machine.specs.Meaning.{note_of}
@@ -22,6 +22,7 @@ use Rattle.kx_text.specs.Lines.{LeavesWriter, bad_text, fetched_text}
 use Rattle.kx_text.specs.Words.{lines_of}
 use Rattle.kx_text.specs.Mode.{is_committed}
 use Rattle.kx_text.specs.Pages.{lost_text}
+use Rattle.kx_text.specs.Writing.{IsBroken, ThenFlushed}
 use Rattle.kx_text.specs.declared.mode.Mode.{Mode}
 use Rattle.kx_text.specs.declared.fault.ScriptFault.{ScriptFault}
 use Rattle.kx_text.specs.declared.fault.ScriptFault.TheVariants.{Read, Write, BadLine, Memory}
@@ -150,6 +151,16 @@ pub record FindsBad (lines : List (List ℕ)) (number : ℕ) (old new : Option (
   pub bad : answer state line ≡ None
   pub written : Appends old new (text ++ bad_text number)
 
+-- the lines print this text: what an empty writer holds after them, at their end or at a bad line
+abbrev pub Prints : List (List ℕ) → List ℕ → Type 0
+Prints lines text =
+    Finishes lines (Some []) (Some text)
+    ⊎ ((number : ℕ) × FindsBad lines number (Some []) (Some text))
+
+-- a front of what the lines print is written, and not all of it
+abbrev pub IsPrintedInPart : List (List ℕ) → Option (List ℕ) → Option (List ℕ) → Type 0
+IsPrintedInPart lines old new = (text : List ℕ) × Prints lines text × IsBroken text old new
+
 -- what was written when a script came to its end
 abbrev pub Ends : List ℕ → Option (List ℕ) → Option (List ℕ) → Result (Unit {0}) ScriptFault
     → Type 0
@@ -157,8 +168,12 @@ Ends input old new (Ok done) = Finishes (lines_of input) old new
 Ends input old new (Err (BadLine number)) = FindsBad (lines_of input) number old new
 Ends input old new (Err Memory) = Stops (lines_of input) old new
 Ends input old new (Err Read) = Stops (lines_of input) old new
--- of a write that failed, std doesn't say what it wrote
-Ends input old new (Err Write) = Unit {0}
+Ends input old new (Err Write) = IsPrintedInPart (lines_of input) old new
+
+-- a script, and a flush after it
+abbrev pub EndsFlushed : List ℕ → Option (List ℕ) → Option (List ℕ)
+    → Result (Unit {0}) ScriptFault → Type 0
+EndsFlushed input old new = ThenFlushed (Ends input old new) Write
 
 ------ what the interpreter's parts say
 
@@ -169,3 +184,16 @@ Answered Stands wanted kept old new (Ok true) = (text : List ℕ) × (next : Sta
     × MayGive wanted kept text next × Stands next × Appends old new text
 Answered Stands wanted kept old new (Ok false) = (wanted ≡ None) × Keeps old new
 Answered Stands wanted kept old new (Err fault) = LeavesWriter old new fault
+
+-- a line's answer is this text, and the state after it is one that stands; or the text is that the
+-- line of this number is bad
+abbrev pub MakesAnswer : (State → Type 0) → Option (List ℕ × State) → Option State → ℕ → List ℕ
+    → Result Bool ScriptFault → Type 0
+MakesAnswer Stands wanted kept number text (Ok true) =
+    (next : State) × MayGive wanted kept text next × Stands next
+MakesAnswer Stands wanted kept number text (Ok false) = (wanted ≡ None) × (text ≡ bad_text number)
+MakesAnswer Stands wanted kept number text (Err fault) = Unit {0}
+
+-- a known input has so many lines at least
+abbrev pub HasLines : ℕ → Option (List ℕ) → Type 0
+HasLines count input = IfSome input (λ bytes. count ≤ length (lines_of bytes))

@@ -1,9 +1,12 @@
 //! Answers the lines of a script, one after the other.
-ghost use Rattle.std.specs.Prelude.{IfSome, None, Some};
+ghost use Rattle.std.specs.Prelude.{◌≡◌, ◌⊎◌, ◌^◌, Err, IfErr, IfSome, None, Some};
 ghost use Rattle.kx_script.specs.Running.{StandsFor, StandsIn};
-ghost use Rattle.kx_script.specs.Script.{Answered, Ends, State, answer, answer_line, begun};
-ghost use Rattle.kx_script.specs.Script.{kept_in, ordered};
+ghost use Rattle.kx_script.specs.Script.{Answered, Ends, HasLines, MakesAnswer, State, answer};
+ghost use Rattle.kx_script.specs.Script.{answer_line, begun, kept_in, ordered};
 ghost use Rattle.kx_script.specs.Session.{Session};
+ghost use Rattle.kx_text.specs.Reads.{IsOver};
+ghost use Rattle.kx_text.specs.Writing.{Writes};
+ghost use Rattle.kx_text.specs.declared.fault.ScriptFault.TheVariants as fault;
 
 use crate::command::{order_in, world_in};
 use crate::event::event_in;
@@ -11,7 +14,7 @@ use crate::printing::write_dash;
 use crate::session::{happen, lose, perform};
 use crate::world::Running;
 use kx_core::PartitionCount;
-use kx_text::{ScriptFault, next_line, without_newline, written};
+use kx_text::{CountedReads, ScriptFault, next_line, without_newline, write_whole, written};
 use std::alloc::Global;
 use std::io::{BufRead, Write};
 
@@ -126,25 +129,65 @@ fn answer<W: Write>(
     answer_words(alloc, running, line, writer)
 }
 
+// Makes the answer to a line in memory, or says there that the line of this number is bad; whether
+// it is good.
+fn make_answer(
+    alloc: Global,
+    running: &mut Option<Running>,
+    line: &[u8],
+    number: u64,
+    text: &mut Vec<u8>,
+) -> Result<bool, ScriptFault>
+    ensures made { (state : State) → StandsIn running.old state
+        → MakesAnswer (StandsIn running.new) (answer state line.now) (kept_in state line.now)
+        number text.new.items result }
+    ensures fault { IfErr result (λ why. why ≡ fault.Memory) }
+{
+    text.clear();
+    let Ok(is_good) = answer(alloc, running, line, text) else {
+        return Err(ScriptFault::Memory);
+    };
+    if !is_good && writeln!(text, "bad line {number}").is_err() {
+        return Err(ScriptFault::Memory);
+    }
+    Ok(is_good)
+}
+
+// Writes a text that was made in memory.
+fn write_text<W: Write>(writer: &mut W, text: &[u8]) -> Result<(), ScriptFault>
+    ensures written { Writes text.now (W.contents writer.old) (W.contents writer.new) result }
+    ensures fault { IfErr result (λ why. why ≡ fault.Write) }
+{
+    match write_whole(writer, text) {
+        Ok(()) => Ok(()),
+        Err(_) => Err(ScriptFault::Write),
+    }
+}
+
 // Runs a script over a world that it makes, however many reads it takes.
 pub(crate) fn run_lines<R: BufRead, W: Write>(
     alloc: Global,
     running: &mut Option<Running>,
-    reader: &mut R,
+    reader: &mut CountedReads<R>,
     writer: &mut W,
 ) -> Result<(), ScriptFault>
     requires { StandsIn running.old None }
-    ensures { IfSome (R.remaining reader.old)
+    ensures ends { IfSome (R.remaining reader.old.reader)
         (λ input. Ends input (W.contents writer.old) (W.contents writer.new) result) }
+    // Why no more was read.
+    ensures over { result ≡ Err fault.Read
+        → IsOver reader.new ⊎ HasLines (2 ^ 63) (R.remaining reader.old.reader) }
 {
     let mut line = Vec::new(alloc);
+    let mut text = Vec::new(alloc);
     for number in 1..=LINES {
         if !next_line(reader, &mut line)? {
             return Ok(());
         }
-        let text = without_newline(line.as_slice());
-        if !answer(alloc, running, text, writer)? {
-            written(writeln!(writer, "bad line {number}"))?;
+        let words = without_newline(line.as_slice());
+        let is_good = make_answer(alloc, running, words, number, &mut text)?;
+        write_text(writer, text.as_slice())?;
+        if !is_good {
             return Err(ScriptFault::BadLine(number));
         }
     }

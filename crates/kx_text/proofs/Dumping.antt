@@ -1,19 +1,24 @@
 -- What a dump has written while it goes over a file, and that a file is dumped in one way only.
-use Rattle.std.proofs.Common.{◌≡◌, ◌<◌, ◌+◌, ◌-◌, ℕ, List, [], ◌∷◌, ◌++◌, length, drop}
-use Rattle.std.proofs.Common.{Option, Result, Ok, Err, arith, refl, sym, ap, ◌∙◌, subst}
+use Rattle.std.proofs.Common.{◌≡◌, ◌<◌, ◌≤◌, ◌+◌, ◌-◌, ℕ, zero, suc, List, [], ◌∷◌, ◌++◌, length}
+use Rattle.std.proofs.Common.{drop, Option, Some, Result, Ok, Err, arith, refl, sym, ap, ◌∙◌, subst}
 use Rattle.std.proofs.Common.{append_assoc, inl, inr}
 use Rattle.std.specs.Prelude.{IsOkUnless, ◌⊎◌}
-use Rattle.std.specs.Io.KnownBytes.{Appends}
+use Rattle.std.specs.Io.KnownBytes.{Appends, Keeps}
 use Rattle.std.proofs.lemmas.List.{length-append, drop_at, length-drop, append-nil}
 use Rattle.std.proofs.lemmas.List.Concat.{flat_map-append}
-use Rattle.std.proofs.KnownBytes.{Appends-nil, Appends-trans}
+use Rattle.std.proofs.KnownBytes.{Appends-kept, Appends-nil, Appends-trans}
 use Rattle.kx_batch.specs.Batch.{Spelled, batch_at}
 use Rattle.kx_batch.specs.declared.fault.BatchFault.{BatchFault}
 use Rattle.kx_batch.specs.declared.fault.BatchFault.TheVariants as fault
-use Rattle.kx_text.specs.Dump.{AreBatches, Dumps, IsDumped, IsDumpedUpTo, batch_text_of}
-use Rattle.kx_text.specs.Dump.{dump_text, fault_line}
+use Rattle.kx_batch.proofs.Whole.{batch_takes, places}
+use Rattle.kx_text.specs.Dump.{AreBatches, Dumps, HasDump, IsDumped, IsDumpedInPart, IsDumpedUpTo}
+use Rattle.kx_text.specs.Dump.{batch_text_of, dump_text, fault_line}
+use Rattle.kx_text.specs.Writing.{IsBroken}
 use Rattle.kx_text.specs.declared.dump.DumpFault.{DumpFault}
 use Rattle.kx_text.specs.declared.dump.DumpFault.TheVariants as dump_fault
+use Rattle.kx_text.proofs.Writes.{broken_after, broken_before, broken_kept}
+use Rattle.kx_varint.proofs.Agree.{IsBytes-back, IsBytes-front}
+use Rattle.kx_varint.specs.Text.{IsBytes}
 
 ------ batches
 
@@ -102,6 +107,116 @@ stops bytes rest place f old mid new h at some e k =
       none = ap batch_at left ∙ e;
       written = Appends-trans old mid new (dump_text h.batches) (fault_line place f) h.written k;
     }
+
+------ a front of a dump
+
+-- the same into an empty writer
+in_memory : (bytes rest : List ℕ) (old now : Option (List ℕ))
+    → (h : Underway bytes rest old now)
+    → Underway bytes rest (Some []) (Some (dump_text h.batches))
+in_memory bytes rest old now h = record {
+  batches = h.batches;
+  front = h.front;
+  parts = h.parts;
+  are = h.are;
+  written = refl;
+}
+
+-- some bytes, of which the front is dumped, have a dump
+has_dump : (n : ℕ) (bytes rest text : List ℕ) → IsBytes rest → length rest ≤ n
+    → Underway bytes rest (Some []) (Some text)
+    → (more : List ℕ) × HasDump bytes (text ++ more)
+has_dump n bytes [] text fits long h = (
+  [],
+  inl (ends bytes [] (Some []) (Some (text ++ []))
+      (subst (λ (t : List ℕ). Underway bytes [] (Some []) (Some t)) (sym (append-nil text)) h)
+      refl),
+)
+has_dump zero bytes (x ∷ xs) text fits long h = absurd (omega arith)
+has_dump (suc n) bytes (x ∷ xs) text fits long h =
+    at (λ rest t. has_dump n bytes rest t) (batch_at (x ∷ xs)) refl where
+      at : ((rest t : List ℕ) → IsBytes rest → length rest ≤ n
+          → Underway bytes rest (Some []) (Some t) → (more : List ℕ) × HasDump bytes (t ++ more))
+          → (r : Result (Spelled × List ℕ) BatchFault) → batch_at (x ∷ xs) ≡ r
+          → (more : List ℕ) × HasDump bytes (text ++ more)
+      at next (Ok read) e =
+          let b = read.0 in
+          let behind = read.1 in
+          let one = batch_text_of b.batch in
+          let takes = batch_takes (x ∷ xs) read fits e in
+          let size = (places b.batch b.text takes.0
+          (IsBytes-front (x ∷ xs) b.text behind takes.1 fits)).long in
+          let sizes : suc (length xs) ≡ length b.text + length behind =
+          ap length takes.1 ∙ length-append b.text behind in
+          let rest = next behind (text ++ one)
+          (IsBytes-back (x ∷ xs) b.text behind takes.1 fits) (omega arith)
+          (goes_on bytes (x ∷ xs) behind b (Some []) (Some text) (Some (text ++ one)) h e takes.1 refl)
+          in
+          (one ++ rest.0, subst (HasDump bytes) (append_assoc text one rest.0) rest.1)
+      at next (Err f) e =
+          let place = length bytes - length (x ∷ xs) in (
+            fault_line place f,
+            inr (
+              place,
+              f,
+              stops bytes (x ∷ xs) place f (Some []) (Some text) (Some (text ++ fault_line place f)) h
+                  refl (omega arith) e refl,
+            ),
+          )
+
+-- a batch isn't written whole
+pub breaks_off : (bytes rest behind : List ℕ) (b : Spelled) (old mid new : Option (List ℕ))
+    → IsBytes bytes → Underway bytes rest old mid → batch_at rest ≡ Ok (b, behind)
+    → rest ≡ b.text ++ behind → IsBroken (batch_text_of b.batch) mid new
+    → IsDumpedInPart bytes old new
+breaks_off bytes rest behind b old mid new fits h e parts broken =
+    let text = dump_text h.batches in
+    let one = batch_text_of b.batch in
+    let next = goes_on bytes rest behind b (Some []) (Some text) (Some (text ++ one))
+    (in_memory bytes rest old mid h) e parts refl in
+    let all = has_dump (length behind) bytes behind (text ++ one)
+    (IsBytes-back bytes next.front behind next.parts fits) (omega arith) next in (
+      (text ++ one) ++ all.0,
+      all.1,
+      broken_before old new (text ++ one) all.0 ((text ++ one) ++ all.0) refl
+          (broken_after old mid new text one (text ++ one) refl h.written broken),
+    )
+
+-- where no batch is isn't written whole
+pub stops_off : (bytes rest : List ℕ) (place : ℕ) (f : BatchFault) (old mid new : Option (List ℕ))
+    → Underway bytes rest old mid → place ≡ length bytes - length rest → 0 < length rest
+    → batch_at rest ≡ Err f → IsBroken (fault_line place f) mid new
+    → IsDumpedInPart bytes old new
+stops_off bytes rest place f old mid new h at some e broken =
+    let text = dump_text h.batches in
+    let all = text ++ fault_line place f in (
+      all,
+      inr (
+        place,
+        f,
+        stops bytes rest place f (Some []) (Some text) (Some all) (in_memory bytes rest old mid h) at
+            some e refl,
+      ),
+      broken_after old mid new text (fault_line place f) all refl h.written broken,
+    )
+
+------ a flush after a dump
+
+pub dumps_kept : (bytes : List ℕ) (old mid new : Option (List ℕ))
+    (r : Result (Unit {0}) DumpFault) → Keeps mid new → Dumps bytes old mid r
+    → Dumps bytes old new r
+dumps_kept bytes old mid new (Ok done) kept h =
+    (h.0, h.1, Appends-kept old mid new (dump_text h.0) h.2 kept)
+dumps_kept bytes old mid new (Err dump_fault.Write) kept h =
+    (h.0, h.1, broken_kept h.0 old mid new kept h.2)
+dumps_kept bytes old mid new (Err dump_fault.Memory) kept h = absurd h
+dumps_kept bytes old mid new (Err (dump_fault.Batch place f)) kept h = record {
+  batches = h.batches;
+  within = h.within;
+  are = h.are;
+  none = h.none;
+  written = Appends-kept old mid new (dump_text h.batches ++ fault_line place f) h.written kept;
+}
 
 ------ one way only
 

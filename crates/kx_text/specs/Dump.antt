@@ -1,6 +1,6 @@
 -- What is printed of a file that holds record batches one after the other, as a segment of a log
 -- does (Kafka's message format, "Record Batch", "Record", "Control Records").
-use Rattle.std.specs.Prelude.{◌≡◌, ◌<◌, ◌/◌, ◌%◌, ℕ, ℤ, ◌+ℤ◌, Bool, true, false, Result, Ok, Err}
+use Rattle.std.specs.Prelude.{◌≡◌, ◌⊎◌, ◌<◌, ◌/◌, ◌%◌, ℕ, ℤ, ◌+ℤ◌, Bool, true, false, Result, Ok, Err}
 use Rattle.std.specs.Prelude.{List, [], ◌∷◌, ◌++◌, length, drop, flat_map, slice_index}
 use Rattle.std.specs.Prelude.{Option, None, Some, codes, decimal}
 use Rattle.std.specs.Fmt.{signed_decimal}
@@ -13,6 +13,7 @@ use Rattle.kx_batch.specs.Marker.{end_marker_of}
 use Rattle.kx_batch.specs.declared.fault.BatchFault.{BatchFault}
 use Rattle.kx_batch.specs.declared.fault.BatchFault.TheVariants as fault
 use Rattle.kx_text.specs.Pages.{newline}
+use Rattle.kx_text.specs.Writing.{IsBroken, ThenFlushed}
 use Rattle.kx_text.specs.declared.dump.DumpFault.{DumpFault}
 use Rattle.kx_text.specs.declared.dump.DumpFault.TheVariants as dump_fault
 
@@ -104,12 +105,27 @@ pub record IsDumpedUpTo (bytes : List ℕ) (place : ℕ) (fault : BatchFault)
   pub none : batch_at (drop place bytes) ≡ Err fault
   pub written : Appends old new (dump_text batches ++ fault_line place fault)
 
+-- the dump of some bytes is this text: what an empty writer holds after it, at the end of the bytes
+-- or at the first place where no batch is
+abbrev pub HasDump : List ℕ → List ℕ → Type 0
+HasDump bytes text =
+    IsDumped bytes (Some []) (Some text)
+    ⊎ ((place : ℕ) × (fault : BatchFault) × IsDumpedUpTo bytes place fault (Some []) (Some text))
+
+-- a front of the bytes' dump is written, and not all of it
+abbrev pub IsDumpedInPart : List ℕ → Option (List ℕ) → Option (List ℕ) → Type 0
+IsDumpedInPart bytes old new = (text : List ℕ) × HasDump bytes text × IsBroken text old new
+
 -- what was written when a dump came to its end
 abbrev pub Dumps : List ℕ → Option (List ℕ) → Option (List ℕ) → Result (Unit {0}) DumpFault
     → Type 0
 Dumps bytes old new (Ok done) = IsDumped bytes old new
 Dumps bytes old new (Err (dump_fault.Batch place fault)) = IsDumpedUpTo bytes place fault old new
--- of a write that failed, std doesn't say what it wrote
-Dumps bytes old new (Err dump_fault.Write) = Unit {0}
+Dumps bytes old new (Err dump_fault.Write) = IsDumpedInPart bytes old new
 -- a dump asks for no memory
 Dumps bytes old new (Err dump_fault.Memory) = ⊥
+
+-- a dump, and a flush after it
+abbrev pub DumpsFlushed : List ℕ → Option (List ℕ) → Option (List ℕ)
+    → Result (Unit {0}) DumpFault → Type 0
+DumpsFlushed bytes old new = ThenFlushed (Dumps bytes old new) dump_fault.Write

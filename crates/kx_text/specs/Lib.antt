@@ -1,4 +1,5 @@
 pub mod Words
+pub mod Writing
 pub mod Mode
 pub mod Pages
 pub mod Reads

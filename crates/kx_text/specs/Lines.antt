@@ -19,7 +19,8 @@ fetched_text from mode (Err code) = refused_text code
 abbrev pub bad_text : ℕ → List ℕ
 bad_text number = codes "bad line " ++ decimal number ++ newline
 
--- a fault that leaves the writer as it was; of a failed write nothing is said
+-- what a fault leaves of the writer: want of memory leaves it as it was. A script's answers are made
+-- in memory, where no write fails, so nothing is said of one
 abbrev pub LeavesWriter : Option (List ℕ) → Option (List ℕ) → ScriptFault → Type 0
 LeavesWriter old new Memory = Keeps old new
 LeavesWriter old new Write = Unit {0}

@@ -1,5 +1,5 @@
 //! What is printed of a file of record batches, for those who look into a log.
-ghost use Rattle.std.specs.Prelude.{◌≡◌, ◌≤◌, ◌<◌, ◌*◌, ◌⊎◌, ℕ, List, [], length, drop};
+ghost use Rattle.std.specs.Prelude.{◌≡◌, ◌≤◌, ◌<◌, ◌*◌, ◌+ℤ◌, ◌⊎◌, ℕ, List, [], length, drop};
 ghost use Rattle.std.specs.Prelude.{◌++◌, Err, IsOkUnless, OnOk, codes, option_map, take};
 ghost use Rattle.std.specs.Fmt.{signed_decimal};
 ghost use Rattle.std.specs.Io.KnownBytes.{Appends};
@@ -8,9 +8,12 @@ ghost use Rattle.kx_text.specs.Dump.{AreBatches, Dumps, batch_line, batch_text_o
 ghost use Rattle.kx_text.specs.Dump.{fault_name, field_text, hex_of, kind_of, producer_text};
 ghost use Rattle.kx_text.specs.Dump.{record_line};
 ghost use Rattle.kx_text.specs.Faults.{dump_fault_number};
+ghost use Rattle.kx_text.specs.Writing.{Writes};
 ghost use Rattle.kx_text.specs.declared.dump.DumpFault.TheVariants as dump_fault;
 
 use crate::pages::offset_of;
+use crate::writing::write_whole;
+use arrayvec::ArrayVec;
 use kx_batch::{BatchFault, BatchView, RecordView};
 use kx_message::Outcome;
 use std::io;
@@ -20,7 +23,8 @@ use thiserror::Error;
 /// Why a dump ends before the end of its file.
 #[derive(Clone, Copy, Debug, PartialEq, Eq, Error)]
 pub enum DumpFault {
-    /// The writer failed. What of the text was written isn't known: a failed write doesn't say.
+    /// A write failed. A front of the text that the dump of these bytes has is written, and not all
+    /// of it.
     #[error("the dump cannot be written")]
     Write,
     /// The bytes from this place on, counted from the start of the file, are no batch, for this
@@ -55,6 +59,10 @@ impl From<io::Error> for DumpFault {
     }
 }
 
+// The numbers and words of a line, without a record's key and value: at most 96 bytes. In memory
+// they are printed whole before a byte of them is written.
+type Line = ArrayVec<u8, 128>;
+
 const DIGITS: &[u8; 16] = b"0123456789abcdef";
 
 // How many bytes become digits at a time.
@@ -74,49 +82,58 @@ fn put_digits(part: &[u8], buffer: &mut [u8; 128])
 
 // Writes two digits for each byte, a part at a time: a call for each byte would take longer.
 fn write_hex<W: Write>(writer: &mut W, bytes: &[u8]) -> io::Result<()>
-    ensures { OnOk result (Appends (W.contents writer.old) (W.contents writer.new)
-        (hex_of bytes.now)) }
+    ensures { Writes (hex_of bytes.now) (W.contents writer.old) (W.contents writer.new) result }
 {
     let mut buffer = [0; 2 * PART];
     for part in bytes.chunks(PART) {
         put_digits(part, &mut buffer);
-        writer.write_all(&buffer[..2 * part.len()])?;
+        write_whole(writer, &buffer[..2 * part.len()])?;
     }
     Ok(())
 }
 
 // Writes a key or a value.
 fn write_field<W: Write>(writer: &mut W, field: Option<&[u8]>) -> io::Result<()>
-    ensures { OnOk result (Appends (W.contents writer.old) (W.contents writer.new)
-        (field_text (option_map (λ s. s.now) field.entry))) }
+    ensures { Writes (field_text (option_map (λ s. s.now) field.entry))
+        (W.contents writer.old) (W.contents writer.new) result }
 {
     match field {
-        None => writer.write_all(b"null"),
-        Some([]) => writer.write_all(b"-"),
+        None => write_whole(writer, b"null"),
+        Some([]) => write_whole(writer, b"-"),
         Some(bytes) => write_hex(writer, bytes),
     }
 }
 
-// Writes what is in front of a record's key.
+// Prints what is in front of a record's key.
 // 128 bits, since no format bounds base offset plus delta.
-fn write_offset<W: Write>(writer: &mut W, offset: i128) -> io::Result<()>
-    ensures { OnOk result (Appends (W.contents writer.old) (W.contents writer.new)
+fn print_offset<W: Write>(line: &mut W, offset: i128) -> io::Result<()>
+    ensures { OnOk result (Appends (W.contents line.old) (W.contents line.new)
         (codes "record " ++ signed_decimal offset ++ codes " ")) }
 {
-    write!(writer, "record {offset} ")
+    write!(line, "record {offset} ")
+}
+
+// Writes what is in front of a record's key.
+fn write_offset<W: Write>(writer: &mut W, base: i64, shown: &RecordView<'_>) -> io::Result<()>
+    ensures { Writes
+        (codes "record " ++ signed_decimal (base +ℤ shown.now.offset_delta) ++ codes " ")
+        (W.contents writer.old) (W.contents writer.new) result }
+{
+    let mut line = Line::new();
+    print_offset(&mut line, offset_of(base, shown.offset_delta()))?;
+    write_whole(writer, line.as_slice())
 }
 
 // Writes a record as a line.
 fn write_record<W: Write>(writer: &mut W, base: i64, shown: &RecordView<'_>) -> io::Result<()>
-    ensures { OnOk result (Appends (W.contents writer.old) (W.contents writer.new)
-        (record_line base shown.now)) }
+    ensures { Writes (record_line base shown.now)
+        (W.contents writer.old) (W.contents writer.new) result }
 {
-    let offset = offset_of(base, shown.offset_delta());
-    write_offset(writer, offset)?;
+    write_offset(writer, base, shown)?;
     write_field(writer, shown.key())?;
-    writer.write_all(b" ")?;
+    write_whole(writer, b" ")?;
     write_field(writer, shown.value())?;
-    writer.write_all(b"\n")
+    write_whole(writer, b"\n")
 }
 
 // What a batch is for: first what its marker says, then its attributes.
@@ -132,34 +149,44 @@ fn kind_of(batch: &BatchView<'_>) -> &'static str
     }
 }
 
-// Writes who wrote a batch.
-fn write_producer<W: Write>(writer: &mut W, batch: &BatchView<'_>) -> io::Result<()>
-    ensures { OnOk result (Appends (W.contents writer.old) (W.contents writer.new)
+// Prints who wrote a batch.
+fn print_producer<W: Write>(line: &mut W, batch: &BatchView<'_>) -> io::Result<()>
+    ensures { OnOk result (Appends (W.contents line.old) (W.contents line.new)
         (producer_text batch.now.batch)) }
 {
     let id = batch.producer_id();
     let epoch = batch.producer_epoch();
     let sequence = batch.base_sequence();
-    write!(writer, "{id} {epoch} {sequence}")
+    write!(line, "{id} {epoch} {sequence}")
 }
 
-// Writes the line in front of a batch's records.
-fn write_head<W: Write>(writer: &mut W, batch: &BatchView<'_>) -> io::Result<()>
-    ensures { OnOk result (Appends (W.contents writer.old) (W.contents writer.new)
+// Prints the line in front of a batch's records.
+fn print_head<W: Write>(line: &mut W, batch: &BatchView<'_>) -> io::Result<()>
+    ensures { OnOk result (Appends (W.contents line.old) (W.contents line.new)
         (batch_line batch.now.batch)) }
 {
     let offset = batch.base_offset();
     let count = batch.records().len();
     let kind = kind_of(batch);
-    write!(writer, "batch {offset} {count} ")?;
-    write_producer(writer, batch)?;
-    writeln!(writer, " {kind}")
+    write!(line, "batch {offset} {count} ")?;
+    print_producer(line, batch)?;
+    writeln!(line, " {kind}")
+}
+
+// Writes the line in front of a batch's records.
+fn write_head<W: Write>(writer: &mut W, batch: &BatchView<'_>) -> io::Result<()>
+    ensures { Writes (batch_line batch.now.batch)
+        (W.contents writer.old) (W.contents writer.new) result }
+{
+    let mut line = Line::new();
+    print_head(&mut line, batch)?;
+    write_whole(writer, line.as_slice())
 }
 
 // Writes a batch's line and those of its records.
 fn write_batch<W: Write>(writer: &mut W, batch: &BatchView<'_>) -> io::Result<()>
-    ensures { OnOk result (Appends (W.contents writer.old) (W.contents writer.new)
-        (batch_text_of batch.now.batch)) }
+    ensures { Writes (batch_text_of batch.now.batch)
+        (W.contents writer.old) (W.contents writer.new) result }
 {
     write_head(writer, batch)?;
     for record in batch.records() {
@@ -182,13 +209,23 @@ fn fault_name(fault: BatchFault) -> &'static str
     }
 }
 
-// Writes where no batch is, and why.
-fn write_fault<W: Write>(writer: &mut W, place: usize, fault: BatchFault) -> io::Result<()>
-    ensures { OnOk result (Appends (W.contents writer.old) (W.contents writer.new)
+// Prints where no batch is, and why.
+fn print_fault<W: Write>(line: &mut W, place: usize, fault: BatchFault) -> io::Result<()>
+    ensures { OnOk result (Appends (W.contents line.old) (W.contents line.new)
         (fault_line place fault)) }
 {
     let name = fault_name(fault);
-    writeln!(writer, "fault {place} {name}")
+    writeln!(line, "fault {place} {name}")
+}
+
+// Writes where no batch is, and why.
+fn write_fault<W: Write>(writer: &mut W, place: usize, fault: BatchFault) -> io::Result<()>
+    ensures { Writes (fault_line place fault)
+        (W.contents writer.old) (W.contents writer.new) result }
+{
+    let mut line = Line::new();
+    print_fault(&mut line, place, fault)?;
+    write_whole(writer, line.as_slice())
 }
 
 /// Writes what is printed of a file of record batches: for each a line `batch OFFSET COUNT ID EPOCH
@@ -199,8 +236,7 @@ fn write_fault<W: Write>(writer: &mut W, place: usize, fault: BatchFault) -> io:
 ///
 /// # Errors
 ///
-/// Those of [`DumpFault`], which says what was written by then. [`DumpFault::Write`] comes only
-/// from the writer, and of what was written by then std says nothing.
+/// Those of [`DumpFault`], which says what was written by then.
 pub fn dump_batches<W: Write>(bytes: &[u8], writer: &mut W) -> Result<(), DumpFault>
     // What was written, and of which batches.
     ensures written { Dumps bytes.now (W.contents writer.old) (W.contents writer.new) result }

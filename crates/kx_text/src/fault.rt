@@ -7,19 +7,19 @@ use thiserror::Error;
 /// Why a script ends before its last line.
 #[derive(Clone, Copy, Debug, PartialEq, Eq, Error)]
 pub enum ScriptFault {
-    /// The reader failed, or would have to be read more than 2^32 times. The answers to the lines
-    /// before were written, and nothing else.
+    /// The reader failed, or would have to be read more than 2^32 times, or 2^63 lines were answered
+    /// and more are there. The answers to the lines before were written, and nothing else.
     #[error("the script cannot be read")]
     Read,
-    /// The writer failed. What of the answers was written isn't known: a failed write doesn't say.
+    /// A write failed. A front of what the script prints is written, and not all of it.
     #[error("the answers cannot be written")]
     Write,
     /// The line of this number, counted from 1, is bad. The answers to the lines before were
     /// written, and then `bad line N`.
     #[error("line {0} is bad")]
     BadLine(u64),
-    /// Memory ran out for the line that was read, for the world that it makes, or for the records
-    /// that it shows. The answers to the lines before were written, and nothing else.
+    /// Memory ran out for the line that was read, for the world that it makes, for the records that
+    /// it shows, or for its answer. The answers to the lines before were written, and nothing else.
     #[error("out of memory")]
     Memory,
 }

@@ -15,6 +15,7 @@ mod pages;
 mod program;
 mod reads;
 mod words;
+mod writing;
 
 pub use answers::{write_answer, write_refusal};
 pub use dump::{DumpFault, dump_batches};
@@ -25,3 +26,4 @@ pub use pages::show;
 pub use program::{Ending, run_dump};
 pub use reads::{CountedReads, may_read, read_fault};
 pub use words::{Words, number, number_below, without_newline, words_of};
+pub use writing::write_whole;

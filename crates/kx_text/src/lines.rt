@@ -1,10 +1,11 @@
 //! Reading a script line by line, and what a write is to it.
-ghost use Rattle.std.specs.Prelude.{◌≡◌, IfSome, IsOk, MatchResult};
+ghost use Rattle.std.specs.Prelude.{◌≡◌, ◌⊎◌, Err, IfSome, IsOk, MatchResult};
 ghost use Rattle.kx_text.specs.Lines.{ReadsLine};
+ghost use Rattle.kx_text.specs.Reads.{IsOver};
 ghost use Rattle.kx_text.specs.declared.fault.ScriptFault.TheVariants as fault;
 
 use crate::fault::ScriptFault;
-use crate::reads::read_fault;
+use crate::reads::{CountedReads, read_fault};
 use std::io;
 use std::io::BufRead;
 
@@ -22,18 +23,33 @@ pub fn written(done: io::Result<()>) -> Result<(), ScriptFault>
     }
 }
 
+// Why a line can't be read: what a failed read is, or else there is no memory for the line.
+fn line_fault<R>(reader: &CountedReads<R>, failed: &io::Error) -> ScriptFault
+    ensures { (result ≡ fault.Memory) ⊎ ((result ≡ fault.Read) × IsOver reader.now) }
+{
+    if reader.is_over() {
+        read_fault(failed)
+    } else {
+        ScriptFault::Memory
+    }
+}
+
 /// Reads the next line, with its newline; false if there is none.
 ///
 /// # Errors
 ///
-/// [`ScriptFault::Read`] if the reader failed, and [`ScriptFault::Memory`].
-pub fn next_line<R: BufRead>(reader: &mut R, line: &mut Vec<u8>) -> Result<bool, ScriptFault>
-    ensures { IfSome (R.remaining reader.old)
-        (λ bytes. ReadsLine bytes (R.remaining reader.new) line.new.items result) }
+/// [`ScriptFault::Read`] if a read failed, or 2^32 reads were made, and [`ScriptFault::Memory`].
+pub fn next_line<R: BufRead>(
+    reader: &mut CountedReads<R>,
+    line: &mut Vec<u8>,
+) -> Result<bool, ScriptFault>
+    ensures line { IfSome (R.remaining reader.old.reader)
+        (λ bytes. ReadsLine bytes (R.remaining reader.new.reader) line.new.items result) }
+    ensures over { result ≡ Err fault.Read → IsOver reader.new }
 {
     line.clear();
     match reader.read_until(b'\n', line) {
         Ok(count) => Ok(count != 0),
-        Err(error) => Err(read_fault(&error)),
+        Err(error) => Err(line_fault(reader, &error)),
     }
 }

@@ -1,7 +1,7 @@
 //! A dump as the program writes it, over any writer, and the status that the program ends with.
 ghost use Rattle.std.specs.Prelude.{◌≡◌, ◌⊎◌, [], Err};
 ghost use Rattle.std.specs.Io.Buffered.{writer_buffer, writer_contents};
-ghost use Rattle.kx_text.specs.Dump.{Dumps};
+ghost use Rattle.kx_text.specs.Dump.{DumpsFlushed};
 ghost use Rattle.kx_text.specs.Statuses.{ending_of, exit_status};
 ghost use Rattle.kx_text.specs.declared.dump.DumpFault.TheVariants as dump_fault;
 
@@ -47,10 +47,10 @@ impl Ending {
 ///
 /// # Errors
 ///
-/// Those of [`DumpFault`] but for `Memory`; `Write` also if the writer can't be flushed. Of any
-/// other nothing is left in the buffer.
+/// Those of [`DumpFault`] but for `Memory`; `Write` also if the writer can't be flushed, and then
+/// what the dump wrote is in the buffer or behind it. Of any other nothing is left in the buffer.
 pub fn run_dump<W: Write + Drop>(bytes: &[u8], writer: &mut BufWriter<W>) -> Result<(), DumpFault>
-    ensures written { Dumps bytes.now
+    ensures written { DumpsFlushed bytes.now
         (writer_contents W.contents writer.old) (writer_contents W.contents writer.new) result }
     ensures flushed { (result ≡ Err dump_fault.Write) ⊎ (writer_buffer writer.new ≡ []) }
 {

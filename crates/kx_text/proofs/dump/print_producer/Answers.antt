@@ -6,7 +6,7 @@ use Rattle.std.specs.Io.KnownBytes.{Appends}
 use Rattle.std.proofs.lemmas.Int.{to_z-of_z}
 use Rattle.kx_batch.specs.Batch.{Batch}
 use Rattle.kx_text.specs.Dump.{producer_text}
-use Rattle.kx_text.proofs.dump.write_producer.Goals as goal
+use Rattle.kx_text.proofs.dump.print_producer.Goals as goal
 
 text_is : (batch : Batch) (id epoch sequence : ℤ) → id ≡ batch.producer_id
     → epoch ≡ batch.producer_epoch → sequence ≡ batch.base_sequence
@@ -20,7 +20,7 @@ returns g c =
     let id = c.producer_id-id in
     let epoch = c.producer_epoch-epoch in
     let sequence = c.base_sequence-sequence in
-    let old = g.W.Write.contents c.args.writer.now in
+    let old = g.W.Write.contents c.args.line.now in
     let new = g.W.Write.contents c.write.new.self in
     subst (λ (t : List ℕ). OnOk c.write.result (Appends old new t))
     (text_is c.args.batch.now.batch _ _ _
