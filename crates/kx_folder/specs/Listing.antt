@@ -1,4 +1,4 @@
--- A store in a file, whose first append puts the file on the list of its folder.
+-- A store in a file, whose appends put the file on the list of its folder.
 use Rattle.std.specs.Prelude.{ℕ, List, Option, take}
 use Rattle.std.specs.Io.KnownBytes.{Appends}
 use Rattle.kx_files.specs.Summed.{SummedState}

@@ -1,4 +1,4 @@
-//! Who adds a file to the list.
+//! Who adds lines of a file to the list.
 ghost use Rattle.std.specs.Prelude.{◌≡◌, IfOk, OnOk};
 ghost use Rattle.kx_folder.specs.Listing.{Lists};
 
@@ -13,7 +13,7 @@ use std::marker::Model;
 /// The list's file, in the folder.
 pub const LIST: &str = "folder";
 
-/// The end of a folder's list, to which one file is added.
+/// The end of a folder's list, to which lines of one file are added.
 #[derive(Drop)]
 pub struct Lister<W: Write + Drop = File> {
     writer: W,
@@ -35,7 +35,7 @@ impl<W: Write + Drop> Model for Lister<W> {
 }
 
 impl Lister<File> {
-    /// Adds the file of this name to the list in the file `folder` of this folder, which has this
+    /// Adds lines of the file of this name to the list in the file `folder` of this folder, which has this
     /// number. Its memory is taken from the runtime's allocator.
     ///
     /// # Errors
@@ -56,7 +56,7 @@ impl Lister<File> {
 }
 
 impl<W: Write + Drop> Lister<W> {
-    /// Adds the file of this name to the list that the writer has, of the folder of this number.
+    /// Adds lines of the file of this name to the list that the writer has, of the folder of this number.
     pub fn new(alloc: Global, writer: W, number: u64, name: FileName) -> Lister<W>
         ensures { result ≡ record { number = number; name = name; contents = W.contents writer } }
     {
@@ -68,7 +68,7 @@ impl<W: Write + Drop> Lister<W> {
         }
     }
 
-    /// Adds the file, which begins with these bytes. The device needn't have the line when this
+    /// Adds a line of the file, which begins with these bytes. The device needn't have the line when this
     /// returns.
     ///
     /// # Errors

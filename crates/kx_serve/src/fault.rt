@@ -79,7 +79,7 @@ pub enum ServeFault {
     },
     /// The log in this file names producer ids that the coordinator would allocate again, and a start
     /// would have to pass over more than 65,536 of them. Nothing was served, and the folder stays as it is.
-    #[error("{file}: its producer ids are {count} above those of co.log; restore co.log from a copy")]
+    #[error("{file}: its producer ids are {count} above those of co.log; restore the one of the two that was changed from a copy")]
     Ids {
         /// The file.
         file: LogFile,
@@ -88,7 +88,7 @@ pub enum ServeFault {
     },
     /// This file isn't the one that is listed for the folder. Nothing was served, and the folder stays
     /// as it is.
-    #[error("{file}: {fault}, by the list in folder; restore the file, or remove its line from folder to go on without it")]
+    #[error("{file}: {fault}, by the list in folder; restore the file from a copy, or remove its lines from folder, and its .sum file, to go on without it")]
     Listed {
         /// The file.
         file: FolderFile,
