@@ -23,7 +23,7 @@ import tempfile
 import threading
 import time
 
-from edges import FAILED, Client, Server, say, text
+from edges import FAILED, Client, Server, request, say, text
 from frames import connect, next_frame
 
 COUNT = int(sys.argv[2]) if len(sys.argv) > 2 else 20000
@@ -135,17 +135,41 @@ REFUSED = {
 
 
 def memory(server):
+    """How much a server has written to, in KiB. Pages of its program don't count, which come and go."""
     with open(f"/proc/{server.process.pid}/status") as it:
         for line in it:
-            if line.startswith("VmRSS"):
+            if line.startswith("RssAnon"):
                 return int(line.split()[1])
+
+
+class Kept:
+    """In a client's place: keeps what is asked, and answers by what came before, or nothing."""
+
+    def __init__(self, answers=()):
+        self.requests, self.answers = [], iter(answers)
+
+    def ask(self, *fields, **tags):
+        self.requests.append(request(*fields, **tags))
+        return next(self.answers, b"")
+
+
+def asked_of(client, ask, names):
+    """What is answered for each of these names; a hundred are asked for at a time."""
+    found = []
+    for at in range(0, len(names), 100):
+        kept = Kept()
+        for name in names[at:at + 100]:
+            ask(kept, name)
+        client.send(b"".join(kept.requests))
+        kept = Kept([client.answer() for _ in kept.requests])
+        found += [ask(kept, name) for name in names[at:at + 100]]
+    return found
 
 
 def ask_all(client, what, first, count, codes):
     """Asks for this many names from the first on, and adds the codes that are answered."""
     code, ask = REFUSED[what]
-    for number in range(first, first + count):
-        codes.add(ask(client, f"{code}-{number}"))
+    codes.update(asked_of(client, ask, [f"{code}-{number}" for number in range(first, first + count)]))
 
 
 def ask_at_once(clients, what, first, count, codes):
@@ -203,7 +227,7 @@ def left():
 def full_of_ids():
     server = Server()
     client = Client(server.port)
-    codes = {init(client, f"t{number}")[0] for number in range(100000)}
+    codes = set(asked_of(client, lambda it, name: init(it, name)[0], [f"t{number}" for number in range(100000)]))
     say("100,000 ids are granted", codes == {0}, codes)
     say("one more is to ask again", {init(client, f"u{number}")[0] for number in range(5)} == {14})
     say("those that are there are served", init(client, "t5")[0] == 0)
@@ -217,7 +241,8 @@ def full_of_groups():
     client = Client(server.port)
     say("a group has offsets alone", commit(client, "alone") == 0)
     begun = time.time()
-    codes = {join(client, f"g{number}", session=1800000)[0] for number in range(9990)}
+    codes = set(asked_of(client, lambda it, name: join(it, name, session=1800000)[0],
+                         [f"g{number}" for number in range(9990)]))
     codes |= {join(client, f"h{number}", session=1000)[0] for number in range(9)}
     say("10,000 groups are taken", codes == {0}, codes, f"{time.time() - begun:.0f} s")
     say("one more takes the place of one without members", join(client, "more", 1800000)[0] == 0)
