@@ -4,7 +4,7 @@
     bounds.py PROGRAM [COUNT [full]]
 
 - COUNT requests of each kind that is refused (20,000) leave its memory and the file `clients` as they
-  are, over one connection and over two at once; with `full` so many are asked before as may be kept.
+  are, over one connection and over two at once, a hundred at a time.
 - A group that its members left is forgotten, and can be joined again.
 - With `full`: one transactional id more than 100,000, and one group more than 10,000, is answered 14,
   and standard error says so; once sessions have ended, a group is taken again.
@@ -186,12 +186,12 @@ def refused(room):
     server = Server("--dir", f"{room}/refused", "--topics", "bills:1")
     client, *others = [Client(server.port) for _ in range(3)]
     say("an id is granted", init(client, "granted")[0] == 0)
+    # (the first requests make room that stays, of the map and of each connection)
     for what in REFUSED:
-        ask_at_once([client, *others], what, 10 ** 7, 300, set())
+        ask_at_once([client, *others], what, 10 ** 7, max(300, COUNT // 16), set())
     for place, what in enumerate(REFUSED):
         code, codes = REFUSED[what][0], set()
         first = place * 2 * COUNT
-        # (the first requests make room that stays, of the map and of each connection)
         ask_at_once([client, *others], what, first, 200, codes)
         before, blocks = memory(server), os.path.getsize(f"{room}/refused/clients")
         ask_all(client, what, first, COUNT, codes)
@@ -327,7 +327,7 @@ def above(room):
 
 def main():
     # (the program without proof keeps what was freed for a while, unless it is asked not to)
-    os.environ.setdefault("ASAN_OPTIONS", "quarantine_size_mb=1:thread_local_quarantine_size_kb=64")
+    os.environ.setdefault("ASAN_OPTIONS", "quarantine_size_mb=0:thread_local_quarantine_size_kb=0")
     with tempfile.TemporaryDirectory() as room:
         foreign(room)
         above(room)
