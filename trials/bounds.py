@@ -183,7 +183,8 @@ def ask_at_once(clients, what, first, count, codes):
 
 
 def refused(room):
-    server = Server("--dir", f"{room}/refused", "--topics", "bills:1")
+    # (some connections ask for nothing while others do)
+    server = Server("--dir", f"{room}/refused", "--topics", "bills:1", "--idle", "0")
     client, *others = [Client(server.port) for _ in range(3)]
     say("an id is granted", init(client, "granted")[0] == 0)
     # (the first requests make room that stays, of the map and of each connection)
