@@ -4,7 +4,7 @@
     bounds.py PROGRAM [COUNT [full]]
 
 - COUNT requests of each kind that is refused (20,000) leave its memory and the file `clients` as they
-  are, over one connection and over two at once; with `full` so many are asked before as may be kept.
+  are, over one connection and over two at once, a hundred at a time.
 - A group that its members left is forgotten, and can be joined again.
 - With `full`: one transactional id more than 100,000, and one group more than 10,000, is answered 14,
   and standard error says so; once sessions have ended, a group is taken again.
@@ -23,7 +23,7 @@ import tempfile
 import threading
 import time
 
-from edges import FAILED, Client, Server, say, text
+from edges import FAILED, Client, Server, request, say, text
 from frames import connect, next_frame
 
 COUNT = int(sys.argv[2]) if len(sys.argv) > 2 else 20000
@@ -135,17 +135,41 @@ REFUSED = {
 
 
 def memory(server):
+    """How much a server has written to, in KiB. Pages of its program don't count, which come and go."""
     with open(f"/proc/{server.process.pid}/status") as it:
         for line in it:
-            if line.startswith("VmRSS"):
+            if line.startswith("RssAnon"):
                 return int(line.split()[1])
+
+
+class Kept:
+    """In a client's place: keeps what is asked, and answers by what came before, or nothing."""
+
+    def __init__(self, answers=()):
+        self.requests, self.answers = [], iter(answers)
+
+    def ask(self, *fields, **tags):
+        self.requests.append(request(*fields, **tags))
+        return next(self.answers, b"")
+
+
+def asked_of(client, ask, names):
+    """What is answered for each of these names; a hundred are asked for at a time."""
+    found = []
+    for at in range(0, len(names), 100):
+        kept = Kept()
+        for name in names[at:at + 100]:
+            ask(kept, name)
+        client.send(b"".join(kept.requests))
+        kept = Kept([client.answer() for _ in kept.requests])
+        found += [ask(kept, name) for name in names[at:at + 100]]
+    return found
 
 
 def ask_all(client, what, first, count, codes):
     """Asks for this many names from the first on, and adds the codes that are answered."""
     code, ask = REFUSED[what]
-    for number in range(first, first + count):
-        codes.add(ask(client, f"{code}-{number}"))
+    codes.update(asked_of(client, ask, [f"{code}-{number}" for number in range(first, first + count)]))
 
 
 def ask_at_once(clients, what, first, count, codes):
@@ -159,15 +183,16 @@ def ask_at_once(clients, what, first, count, codes):
 
 
 def refused(room):
-    server = Server("--dir", f"{room}/refused", "--topics", "bills:1")
+    # (some connections ask for nothing while others do)
+    server = Server("--dir", f"{room}/refused", "--topics", "bills:1", "--idle", "0")
     client, *others = [Client(server.port) for _ in range(3)]
     say("an id is granted", init(client, "granted")[0] == 0)
+    # (the first requests make room that stays, of the map and of each connection)
     for what in REFUSED:
-        ask_at_once([client, *others], what, 10 ** 7, 300, set())
+        ask_at_once([client, *others], what, 10 ** 7, max(300, COUNT // 16), set())
     for place, what in enumerate(REFUSED):
         code, codes = REFUSED[what][0], set()
         first = place * 2 * COUNT
-        # (the first requests make room that stays, of the map and of each connection)
         ask_at_once([client, *others], what, first, 200, codes)
         before, blocks = memory(server), os.path.getsize(f"{room}/refused/clients")
         ask_all(client, what, first, COUNT, codes)
@@ -203,7 +228,7 @@ def left():
 def full_of_ids():
     server = Server()
     client = Client(server.port)
-    codes = {init(client, f"t{number}")[0] for number in range(100000)}
+    codes = set(asked_of(client, lambda it, name: init(it, name)[0], [f"t{number}" for number in range(100000)]))
     say("100,000 ids are granted", codes == {0}, codes)
     say("one more is to ask again", {init(client, f"u{number}")[0] for number in range(5)} == {14})
     say("those that are there are served", init(client, "t5")[0] == 0)
@@ -217,7 +242,8 @@ def full_of_groups():
     client = Client(server.port)
     say("a group has offsets alone", commit(client, "alone") == 0)
     begun = time.time()
-    codes = {join(client, f"g{number}", session=1800000)[0] for number in range(9990)}
+    codes = set(asked_of(client, lambda it, name: join(it, name, session=1800000)[0],
+                         [f"g{number}" for number in range(9990)]))
     codes |= {join(client, f"h{number}", session=1000)[0] for number in range(9)}
     say("10,000 groups are taken", codes == {0}, codes, f"{time.time() - begun:.0f} s")
     say("one more takes the place of one without members", join(client, "more", 1800000)[0] == 0)
@@ -302,7 +328,7 @@ def above(room):
 
 def main():
     # (the program without proof keeps what was freed for a while, unless it is asked not to)
-    os.environ.setdefault("ASAN_OPTIONS", "quarantine_size_mb=1:thread_local_quarantine_size_kb=64")
+    os.environ.setdefault("ASAN_OPTIONS", "quarantine_size_mb=0:thread_local_quarantine_size_kb=0")
     with tempfile.TemporaryDirectory() as room:
         foreign(room)
         above(room)

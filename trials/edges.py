@@ -52,21 +52,35 @@ def text(it):
     return struct.pack(">h", len(it)) + it.encode()
 
 
+def request(api, version, fields=b"", tags=b""):
+    body = struct.pack(">hhi", api, version, 7) + text("edges") + tags + fields
+    return struct.pack(">i", len(body)) + body
+
+
 class Client:
     """A connection, over which requests are sent and answered one after the other."""
 
     def __init__(self, port):
-        self.socket = socket.create_connection(("127.0.0.1", port), timeout=10)
+        self.socket = socket.create_connection(("127.0.0.1", port), timeout=60)
 
     def ask(self, api, version, fields=b"", tags=b""):
         """The fields of the answer; nothing if the server closed the connection."""
-        body = struct.pack(">hhi", api, version, 7) + text("edges") + tags + fields
+        self.send(request(api, version, fields, tags))
+        return self.answer()
+
+    def send(self, requests):
         try:
-            self.socket.sendall(struct.pack(">i", len(body)) + body)
-            answer = self.take(struct.unpack(">i", self.take(4))[0])
+            self.socket.sendall(requests)
+        except OSError:
+            # there is no answer then either
+            pass
+
+    def answer(self):
+        """The fields of the next answer; nothing if the server closed the connection."""
+        try:
+            return self.take(struct.unpack(">i", self.take(4))[0])[4:]
         except (OSError, EOFError):
             return b""
-        return answer[4:]
 
     def take(self, count):
         taken = b""
@@ -291,9 +305,9 @@ def closed_after(client, patience):
     return time.time() - begun
 
 
-def fetch_fields(partitions, wait):
+def fetch_fields(partitions, wait, isolation=0):
     """A Fetch of version 4 for at least one byte, of these places of a topic `bills`."""
-    fields = struct.pack(">iiiib", -1, wait, 1, 1 << 20, 0)
+    fields = struct.pack(">iiiib", -1, wait, 1, 1 << 20, isolation)
     fields += struct.pack(">i", 1) + text("bills") + struct.pack(">i", len(partitions))
     return fields + b"".join(struct.pack(">iqi", it, 0, 1 << 20) for it in partitions)
 

@@ -10,7 +10,7 @@ send N requests in all, 100,000 if nothing else is said, each at most 20 before 
 
 - Each answer has the correlation id of its request, in order, and its whole frame arrives.
 - A connection that sent what can't be read is closed, or answered as far as it can be read.
-- Nothing waits longer than ten seconds for an answer, but for Fetch, JoinGroup and SyncGroup.
+- Nothing waits longer than a minute for an answer, but for Fetch, JoinGroup and SyncGroup.
 - Meanwhile another client is answered each time, and reads in the end what it was answered for.
 - The server holds on, says nothing of a crash, and its audit says yes.
 """
@@ -197,6 +197,9 @@ def talk(port, draw, tally, budget):
     before was answered."""
     it = socket.create_connection(("127.0.0.1", port), timeout=10)
     asked = [request(draw, number) for number in range(min(budget, draw.randint(1, 20)))]
+    may_wait = any(key in WAITS for _, _, key in asked)
+    if not may_wait:
+        it.settimeout(60)
     at_once = draw.random() < 0.3
     answered = sent = 0
     try:
@@ -220,8 +223,8 @@ def talk(port, draw, tally, budget):
                 break
             answered += 1
     except socket.timeout:
-        if not any(key in WAITS for _, _, key in asked):
-            tally.note(f"no answer in ten seconds: {[text.hex() for text, _, _ in asked]}"[:2000])
+        if not may_wait:
+            tally.note(f"no answer in a minute: {[text.hex() for text, _, _ in asked]}"[:2000])
         tally.add("waited")
     except ValueError as fault:
         tally.note(str(fault))
@@ -270,7 +273,7 @@ class Canary:
 
     def ask(self, key, version, fields):
         if not self.it:
-            self.it = socket.create_connection(("127.0.0.1", self.port), timeout=60)
+            self.it = socket.create_connection(("127.0.0.1", self.port), timeout=300)
         text = struct.pack(">hhi", key, version, 1) + b"\0\6canary" + fields
         begun = time.time()
         self.it.sendall(struct.pack(">I", len(text)) + text)
