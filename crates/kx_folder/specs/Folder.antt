@@ -49,7 +49,8 @@ WhyNotListed number None file why = why ≡ fault.Missing
 WhyNotListed number (Some bytes) file fault.Missing = ⊥
 WhyNotListed number (Some bytes) file (fault.Short len) =
     (len ≡ file.len) × (length bytes < file.len)
-WhyNotListed number (Some bytes) file fault.Other = (file.len ≤ length bytes)
+WhyNotListed number (Some bytes) file (fault.Other len) =
+    (len ≡ file.len) × (file.len ≤ length bytes)
     × (file.crc ≢ (listed_as number file.name (take file.len bytes)).crc)
 WhyNotListed number (Some bytes) file fault.Memory = Unit {0}
 

@@ -11,9 +11,10 @@ pub enum FileFault {
     /// The file has fewer than this many bytes, which it had when it was listed.
     #[error("it is shorter than the first {0} bytes that were written")]
     Short(u16),
-    /// Its first bytes aren't those that were listed, as of another file or of another folder.
-    #[error("its first bytes are not those that were written")]
-    Other,
+    /// Its first bytes, as many as these, aren't those that were listed, as of another file or of another
+    /// folder.
+    #[error("its first {0} bytes are not those that were written")]
+    Other(u16),
     /// Memory ran out.
     #[error("out of memory")]
     Memory,

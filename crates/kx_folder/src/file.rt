@@ -135,7 +135,7 @@ impl ListedFile {
             return Err(FileFault::Short(self.len));
         };
         if sum_of(alloc, number, self.name, first)? != self.crc {
-            return Err(FileFault::Other);
+            return Err(FileFault::Other(self.len));
         }
         Ok(())
     }
