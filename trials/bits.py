@@ -199,10 +199,11 @@ class Change:
         return is_refused(self.answer, name) and "by the list in folder" in self.answer[1]
 
     def names_place(self):
-        """Whether the words name the place in a log, or that it is in the log's first append."""
+        """Whether the words name the place in a log, or among which of its first bytes it is."""
         words = self.answer[1]
-        if self.begin() == 0:
-            return "its first bytes are not those that were written" in words
+        listed = re.search(r"its first (\d+) bytes are not those that were written", words)
+        if listed:
+            return self.at < int(listed[1])
         summed = re.search(r"the bytes from (\d+) up to (\d+) are not", words)
         if summed:
             return int(summed[1]) <= self.at < int(summed[2])
