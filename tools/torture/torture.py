@@ -7,6 +7,7 @@ import signal
 import sys
 import tempfile
 import threading
+import time
 
 import options as command_line
 import plan
@@ -42,6 +43,8 @@ class Torture:
         self.patience, self.groups, self.expected = PATIENCE, (), None
 
     def run(self, case):
+        if processes.closed:
+            raise OSError("the harness is ending")
         with self.lock:
             self.number += 1
             folder = os.path.join(self.top, "run-%03d" % self.number)
@@ -139,8 +142,15 @@ class Torture:
                 os.path.join(folder, "logs"), "--page", os.path.join(folder, "page.html")])
 
     def end(self):
-        if not self.options.keep or not os.listdir(self.top):
+        """Removes the folders of all runs, unless some are kept."""
+        if self.options.keep and os.listdir(self.top):
+            return
+        for _ in range(50):
             shutil.rmtree(self.top, ignore_errors=True)
+            if not os.path.exists(self.top):
+                return
+            # threads of abandoned runs may still write there, until they see that their processes have ended
+            time.sleep(0.1)
 
 
 def status(outcomes):
