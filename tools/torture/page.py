@@ -38,8 +38,8 @@ KINDS = {verdict.SAME: "same", verdict.DIFFERS: "differs", verdict.UNFINISHED: "
     verdict.MISSED: "none"}
 PROMISES = {"exactly": "each record exactly once", "at-least": "each record at least once",
     "at-most": "each record at most once"}
-OF_CELLS = ("Each sign is a run, in which this fault hit this request of the program's first start. A blank has no run, "
-    "since the fault doesn't fit the request.")
+OF_CELLS = ("Each sign is a run, in which this fault hit this request of the program's first start. A blank has no run: "
+    "the fault doesn't fit the request, or wasn't chosen.")
 OF_PAIRS = "Each sign is a run with two faults. Requests of the second are counted from the first fault on."
 WHEN = {"b": "before", "a": "after", "s": "same", "o": "other"}
 
