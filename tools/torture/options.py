@@ -33,7 +33,7 @@ def parser():
     add("--input", metavar="FILE",
         help="input records, a line each: KEY, a tab and VALUE, or VALUE alone; the last lines are the tail")
     add("--input-from", metavar="COMMAND", help="a command that prints such lines")
-    add("--group", help="the program's group, if its requests don't show it")
+    add("--group", metavar="NAME", help="the program's group, if its requests don't show it")
     add("--promise", choices=("exactly", "at-least", "at-most"), default="exactly",
         help="how often the program promises to write each record (exactly once)")
     add("--by-key", action="store_true", help="compares keys alone: values may differ")
@@ -42,7 +42,7 @@ def parser():
         help="a command that compares two files, the expected and the found output; status 0 if they agree")
     add("--all", action="store_true", help="each request of every API, not the first, second and last of some")
     add("--runs", type=int, metavar="N", help="so many runs, drawn by --seed")
-    add("--seed", type=int, default=1)
+    add("--seed", type=int, default=1, metavar="N", help="of the runs that are drawn (1)")
     add("--faults", metavar="NAMES", help="these faults alone, such as kill-after,cut-before")
     add("--only", action="append", default=[], metavar="API#N:FAULT", help="this run alone; with a comma a pair of faults")
     add("--twice", action="store_true", help="pairs of faults; the second is counted from the first on")
