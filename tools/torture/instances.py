@@ -16,8 +16,8 @@ class Start:
     def __init__(self, run, slot, number):
         self.run, self.slot, self.number = run, slot, number
         self.relay = Relay(run, self)
-        # its member ids by group, and its transactional ids
-        self.members, self.txns = {}, set()
+        # its members, (group, member id) each, and its transactional ids
+        self.members, self.txns = set(), set()
         # how many JoinGroups it made, commits it was told of, and answers it was given
         self.joins = self.commits = self.answers = 0
         # whether a heartbeat has told it of a rebalance, the harness killed it, or it ended by itself before the run did

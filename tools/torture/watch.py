@@ -177,9 +177,10 @@ class Watch:
         with self.changed:
             start.answers += 1
             if it.name == "JoinGroup" and code in (0, 79):
-                start.members[it.fields["group"]] = it.response["member"]
+                start.members.add((it.fields["group"], it.response["member"]))
             elif it.name == "LeaveGroup" and code == 0:
-                start.members.pop(it.fields["group"], None)
+                for member in [it.fields.get("member")] + [one["member"] for one in it.fields.get("members") or []]:
+                    start.members.discard((it.fields["group"], member))
             elif it.name == "Heartbeat" and code == 27:
                 start.rebalanced = True
             elif code == 0 and it.name in ("OffsetCommit", "TxnOffsetCommit"):
@@ -255,8 +256,8 @@ class Watch:
     def leave(self, start):
         """The members of a start leave their groups."""
         with self.changed:
-            members, start.members = dict(start.members), {}
-        for group, member in members.items():
+            members, start.members = sorted(start.members), set()
+        for group, member in members:
             self.client.leave(group, member)
 
     def abort(self, txn):
