@@ -3,15 +3,19 @@
 
     torture.py [--program FILE] [--jobs N] [--whole] [--runs N] [NAME..]
 
-A right program has the same output in each run; what a cell's fault has to do with the server stands in
-KNOWN, with the reason. A wrong one is found at its cell. By default each right program has the default runs with two records;
-`--runs N` draws N of them. `--whole` has two records and ten, 200 pairs of faults, three times over.
-What isn't installed is skipped in words.
+A right program has to have the same output in each run. Its runs that differ because of the server are in KNOWN,
+with the reason. A wrong program has to differ at its cell. By default each right program has the default runs with
+two records, or N of them with `--runs N`. `--whole` has two records and ten, and 200 pairs of faults, three times over.
+
+The names are those of the programs, and two more: `against` (runs that share a server which the harness doesn't
+start) and `interrupted` (an interrupt leaves no process and no folder). A program that isn't installed is skipped,
+with a line that says so.
 """
 import argparse
 import json
 import os
 import shutil
+import signal
 import subprocess
 import sys
 import tempfile
@@ -27,10 +31,10 @@ RIGHT = {
     "ends": TOPICS, "rewinds": TOPICS, "batches": TOPICS, "cooperative": TOPICS, "by_hand": TOPICS,
     "doubles_are_known": TOPICS + ["--check", "%s %s/same_without_doubles.py" % (sys.executable, EXAMPLES)],
 }
-# Two members in each slot, from the start.
-TWO = "{0} {1}/cooperative.py {{bootstrap}} {{slot}}a & exec {0} {1}/cooperative.py {{bootstrap}} {{slot}}b".format(
-    PYTHON, EXAMPLES)
-# The cells at which each is found, and some at which it is not.
+# Two members in each slot, from the start. The slot's command ends with the first that ends, so both are started again.
+TWO = ["bash", "-c", "{0} {1}/cooperative.py {{bootstrap}} {{slot}}a & {0} {1}/cooperative.py {{bootstrap}} {{slot}}b & "
+    "wait -n".format(PYTHON, EXAMPLES)]
+# The cells at which each is found, and cells at which it is the same.
 WRONG = {
     "offsets_after": (["EndTxn#1:kill-after"], []),
     "offsets_before": (["Produce#1:kill-before"], []),
@@ -43,12 +47,12 @@ WRONG_GO = {
     "offsets_before": (["Produce#1:kill-before"], []),
     "idempotent_only": (["Produce#1:kill-after"], []),
 }
-# Cells of right programs that aren't the same, by the server: (program, cell) and the reason.
+# Runs of right programs that aren't the same because of the server: (program, run) and the reason.
 KNOWN = {}
 
 KCAT = ["kcat", "-b", "{bootstrap}", "-G", "readers", "-u", "-q", "-X", "auto.offset.reset=earliest", "-X",
     "isolation.level=read_committed", "-X", "auto.commit.interval.ms=300", "-f", "%s\\n", "bills"]
-# Each slot has a folder of its own for what it remembers, and each start its own process file.
+# Each slot has a folder for its state, and each start has a configuration and a process file.
 RSYSLOG = """mkdir -p {dir}/{slot} && cat > {dir}/{slot}/{start}.conf <<'END'
 global(workDirectory="{dir}/{slot}")
 module(load="imfile")
@@ -68,7 +72,7 @@ log { source(bills); destination(paid); flags(flow-control); };
 END
 exec syslog-ng -F -f {dir}/{slot}/{start}.conf -R {dir}/{slot}/persist -c {dir}/{slot}/{start}.control \\
     -p {dir}/{slot}/{start}.pid --no-caps"""
-# (15 seconds are longer than librdkafka waits before it connects again)
+# 15 seconds are longer than librdkafka waits before it connects again.
 OTHERS = {
     "kcat -G": ("kcat", "kcat", ["--in", "bills", "--out-stdout", "--promise", "at-least"], KCAT),
     "rsyslog's omkafka": ("rsyslogd", "rsyslog-kafka", ["--out", "paid", "--promise", "at-least", "--done", "quiet 15"],
@@ -82,6 +86,9 @@ class Trial:
     def __init__(self, given):
         self.given, self.passed, self.failed, self.folder = given, 0, 0, tempfile.mkdtemp(prefix="kx-trial-")
 
+    def is_asked(self, name):
+        return not self.given.names or name in self.given.names
+
     def look(self, what, found, wanted):
         if found == wanted:
             self.passed += 1
@@ -91,7 +98,7 @@ class Trial:
             print("FAILED %s: found %r, wanted %r" % (what, found, wanted), flush=True)
 
     def torture(self, words, command):
-        """The status and the verdict of each run."""
+        """Status, runs by name, what was printed, and seconds."""
         out = os.path.join(self.folder, "found.json")
         if os.path.exists(out):
             os.unlink(out)
@@ -123,12 +130,54 @@ class Trial:
             bad["all"] = said[-1500:]
         self.look("%s, %s: no run differs, is blocked or unfinished" % (name, what), bad, {})
 
-    def wrong(self, name, words, command, cells, others):
+    def wrong(self, name, command, cells, others):
         only = [word for cell in cells + others for word in ("--only", cell)]
-        _, runs, said, seconds = self.torture(TOPICS + words + only, command)
+        _, runs, said, seconds = self.torture(TOPICS + only, command)
         found = {cell: it["verdict"] for cell, it in runs.items()}
         wanted = dict([(it, "differs") for it in cells] + [(it, "same") for it in others])
         self.look("%s is found at %s (%d s)" % (name, ", ".join(cells), seconds), found or said[-800:], wanted)
+
+
+    def against(self):
+        """Runs that share a server, with names of their own, find the same as runs that have a server each."""
+        only = ["--only", "EndTxn#1:kill-after", "--only", "Produce#1:kill-after"]
+        with subprocess.Popen(self.program() + ["kafka", "--port", "0"], stdout=subprocess.PIPE) as server:
+            try:
+                port = server.stdout.readline().split()[1].decode()
+                words = ["--in", "bills:1", "--out", "paid:1", "--against", "127.0.0.1:" + port]
+                _, runs, said, _ = self.torture(words + only, example("offsets_after"))
+            finally:
+                server.kill()
+        self.look("against a server that is there", {name: it["verdict"] for name, it in runs.items()} or said[-800:],
+            {"EndTxn#1:kill-after": "differs", "Produce#1:kill-after": "same"})
+
+    def interrupted(self):
+        """An interrupt while runs are under way ends all that was started."""
+        folder = os.path.join(self.folder, "interrupted")
+        os.mkdir(folder)
+        words = TOPICS + ["--dir", folder, "--html", os.path.join(self.folder, "page.html")]
+        words += ["--program", self.given.program] if self.given.program else []
+        harness = subprocess.Popen([sys.executable, os.path.join(TOP, "tools", "torture")] + words + ["--"] +
+            example("ends") + [folder], stdout=subprocess.DEVNULL, stderr=subprocess.DEVNULL)
+        time.sleep(15)
+        before = len(naming(folder))
+        harness.send_signal(signal.SIGINT)
+        status = harness.wait(30)
+        time.sleep(1)
+        self.look("an interrupt leaves nothing", (before > 2, status, naming(folder), os.listdir(folder)),
+            (True, 130, [], []))
+
+    def program(self):
+        """The words of the server program that the harness would take."""
+        sys.path.insert(0, os.path.join(TOP, "tools", "torture"))
+        import server
+        return server.choose(argparse.Namespace(against=None, program=self.given.program, top=TOP))[0]
+
+
+def naming(word):
+    """The processes that have this word in their command."""
+    ran = subprocess.run(["ps", "-eo", "args"], stdout=subprocess.PIPE, universal_newlines=True)
+    return [it for it in ran.stdout.split("\n") if word in it]
 
 
 def has_clients():
@@ -136,7 +185,7 @@ def has_clients():
 
 
 def go(trial):
-    """The programs in Go, built: by name."""
+    """The files of the programs in Go, which are compiled here, by name."""
     if shutil.which("go") is None or not os.path.isdir(GOPATH + "/src/github.com/Shopify/sarama"):
         print("skipped: go or sarama isn't installed (Debian's golang-go, golang-github-shopify-sarama-dev)")
         return {}
@@ -144,21 +193,67 @@ def go(trial):
     for name in WRONG_GO:
         built[name] = os.path.join(trial.folder, name)
         subprocess.run(["go", "build", "-o", built[name], os.path.join(EXAMPLES, name + ".go")], check=True,
-            env=dict(os.environ, GOPATH=GOPATH, GO111MODULE="off", GOCACHE=trial.folder + "/cache"), stderr=subprocess.DEVNULL)
+            env=dict(os.environ, GOPATH=GOPATH, GO111MODULE="off", GOCACHE=trial.folder + "/cache"),
+            stderr=subprocess.DEVNULL)
     return built
 
 
 def ways(given):
-    """How each right program is run: words, and what is said of them."""
+    """How each right program is run: options, and their name."""
     drawn = ["--runs", str(given.runs)] if given.runs else []
     if not given.whole:
         return [(drawn, "two records")]
     found = []
     for time_over in (1, 2, 3):
         seed = ["--seed", str(time_over)]
-        found += [(drawn + seed, "two records, %d" % time_over), (["--records", "10"] + drawn + seed, "ten records, %d" % time_over),
+        found += [(drawn + seed, "two records, %d" % time_over),
+            (["--records", "10"] + drawn + seed, "ten records, %d" % time_over),
             (["--twice", "--runs", str(given.runs or 200)] + seed, "pairs, %d" % time_over)]
     return found
+
+
+def in_python(trial):
+    """The examples in Python: the wrong ones first, which take seconds."""
+    for name, (cells, others) in WRONG.items():
+        if trial.is_asked(name):
+            trial.wrong(name, example(name), cells, others)
+    if trial.is_asked("uncommitted"):
+        status, _, said, _ = trial.torture(TOPICS, example("uncommitted"))
+        trial.look("uncommitted is found without a fault", (status, "reads uncommitted records" in said), (3, True))
+    if trial.is_asked("against"):
+        trial.against()
+    if trial.is_asked("interrupted"):
+        trial.interrupted()
+    for name, topics in RIGHT.items():
+        if trial.is_asked(name):
+            for more, what in ways(trial.given):
+                trial.right(name, topics + more, example(name), what)
+    if trial.is_asked("cooperative, two at once"):
+        for more, what in ways(trial.given):
+            trial.right("cooperative, two at once", TOPICS + more, TWO, what)
+
+
+def example(name):
+    return [PYTHON, "%s/%s.py" % (EXAMPLES, name), "{bootstrap}", "{slot}"]
+
+
+def in_go(trial):
+    built = go(trial) if any(trial.is_asked(it + ".go") for it in WRONG_GO) else {}
+    for name, (cells, others) in WRONG_GO.items():
+        if name in built and trial.is_asked(name + ".go"):
+            trial.wrong(name + ".go", [built[name], "{bootstrap}"], cells, others)
+
+
+def not_ours(trial):
+    """Programs that are installed, for what they promise."""
+    drawn = ["--runs", str(trial.given.runs)] if trial.given.runs else []
+    for name, (tool, package, more, command) in OTHERS.items():
+        if not trial.is_asked(name):
+            continue
+        if shutil.which(tool) is None:
+            print("skipped: %s isn't installed (Debian's %s)" % (tool, package))
+            continue
+        trial.right(name, more + drawn, command, more[more.index("--promise") + 1])
 
 
 def main():
@@ -171,37 +266,13 @@ def main():
     given = words.parse_args()
     trial = Trial(given)
 
-    def is_asked(name):
-        return not given.names or name in given.names
-
     try:
         if has_clients():
-            for name, (cells, others) in WRONG.items():
-                if is_asked(name):
-                    trial.wrong(name, [], [PYTHON, "%s/%s.py" % (EXAMPLES, name), "{bootstrap}", "{slot}"], cells, others)
-            if is_asked("uncommitted"):
-                status, _, said, _ = trial.torture(TOPICS, [PYTHON, EXAMPLES + "/uncommitted.py", "{bootstrap}", "{slot}"])
-                trial.look("uncommitted is found without a fault", (status, "reads uncommitted records" in said), (3, True))
-            for name, topics in RIGHT.items():
-                if is_asked(name):
-                    for more, what in ways(given):
-                        trial.right(name, topics + more, [PYTHON, "%s/%s.py" % (EXAMPLES, name), "{bootstrap}", "{slot}"], what)
-            if is_asked("cooperative, two at once"):
-                for more, what in ways(given):
-                    trial.right("cooperative, two at once", TOPICS + more, ["sh", "-c", TWO], what)
+            in_python(trial)
         else:
             print("skipped: confluent_kafka isn't installed (Debian's python3-confluent-kafka)")
-        built = go(trial) if any(is_asked(it + ".go") for it in WRONG_GO) else {}
-        for name, (cells, others) in WRONG_GO.items():
-            if name in built and is_asked(name + ".go"):
-                trial.wrong(name + ".go", [], [built[name], "{bootstrap}"], cells, others)
-        for name, (tool, package, more, command) in OTHERS.items():
-            if not is_asked(name):
-                continue
-            if shutil.which(tool) is None:
-                print("skipped: %s isn't installed (Debian's %s)" % (tool, package))
-                continue
-            trial.right(name, more + (["--runs", str(given.runs)] if given.runs else []), command, more[more.index("--promise") + 1])
+        in_go(trial)
+        not_ours(trial)
     finally:
         shutil.rmtree(trial.folder, ignore_errors=True)
     print("%d passed, %d failed" % (trial.passed, trial.failed))

@@ -1,4 +1,4 @@
-"""Right: up to ten records a transaction; it ends on any error, and whoever started it starts it again.
+"""Right: up to ten records in each transaction. It ends on any error, and whoever started it starts it again.
 
     ./kx torture --in bills --out paid -- /usr/bin/python3 examples/torture/batches.py {bootstrap} {slot}
 """
@@ -16,7 +16,7 @@ while True:
     bills = [it for it in consumer.consume(10, timeout=0.5) if not it.error()]
     if not bills:
         continue
-    # the position is behind the last record that `consume` returned, of each partition
+    # the position of a partition is the offset after its last record that `consume` returned
     producer.begin_transaction()
     for bill in bills:
         producer.produce("paid", b"paid " + bill.value())

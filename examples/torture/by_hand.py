@@ -1,5 +1,5 @@
-"""Right: partitions are assigned by hand, and the transactional id is the slot's: who starts in the slot
-fences who was there before.
+"""Right: partitions are assigned by hand, and the transactional id is made of the slot, so each start fences the
+earlier one in its slot.
 
     ./kx torture --in bills --out paid -- /usr/bin/python3 examples/torture/by_hand.py {bootstrap} {slot}
 """
@@ -17,7 +17,7 @@ consumer = Consumer({**kafka, "group.id": "payers", "enable.auto.commit": False,
                      "isolation.level": "read_committed"})
 producer = Producer({**kafka, "transactional.id": "payer-" + sys.argv[2]})
 producer.init_transactions()
-# only now: what an earlier start had begun is aborted
+# only now, since init_transactions has aborted what an earlier start left open
 consumer.assign([TopicPartition(it.topic, it.partition, it.offset if it.offset >= 0 else OFFSET_BEGINNING)
                  for it in consumer.committed(own, timeout=30)])
 while True:

@@ -1,7 +1,7 @@
 """Wrong: it commits its position when partitions are revoked, in the middle of a transaction. The
-transaction is refused then, since the group has changed, and its bills are behind the committed offset.
+transaction is refused then, since the group has changed, and its bills are never read again.
 
-Found by Produce#2:join. Mend: commit no offsets in the callback; those of the transaction are enough.
+Found by Produce#2:join. Fix: commit no offsets in the callback; those of the transaction are enough.
 
     ./kx torture --in bills --out paid -- /usr/bin/python3 examples/torture/commits_when_revoked.py {bootstrap} {slot}
 """
@@ -24,7 +24,7 @@ def revoked(consumer, partitions):
 
 
 def pay_for_a_while():
-    """All bills that come in four seconds, in one transaction."""
+    """Pays all bills that come in four seconds, in one transaction."""
     end, after, group = time.monotonic() + 4, {}, None
     while time.monotonic() < end:
         bill = consumer.poll(0.1)

@@ -1,4 +1,4 @@
-"""Right: any number of slots share the partitions by cooperative-sticky, each with an id of its own.
+"""Right: any number of slots share the partitions by cooperative-sticky, each with its own transactional id.
 
     ./kx torture --in bills --out paid -- /usr/bin/python3 examples/torture/cooperative.py {bootstrap} {slot}
 """

@@ -1,5 +1,5 @@
-"""Right, without transactions: each image has its record's place as its key, and who reads takes doubles
-away, as same_without_doubles.py does.
+"""Right, without transactions: the key of each output record is the place of its input record, so a reader can
+drop doubles, as same_without_doubles.py does.
 
     ./kx torture --in bills --out paid --check "python3 examples/torture/same_without_doubles.py" \
         -- /usr/bin/python3 examples/torture/doubles_are_known.py {bootstrap}

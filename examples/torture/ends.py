@@ -1,4 +1,4 @@
-"""Right: a record a transaction; it ends on any error, and whoever started it starts it again.
+"""Right: one record in each transaction. It ends on any error, and whoever started it starts it again.
 
     ./kx torture --in bills --out paid -- /usr/bin/python3 examples/torture/ends.py {bootstrap} {slot}
 """

@@ -1,7 +1,7 @@
 // Wrong: an idempotent producer repeats no batch by itself, but a program that is started again reads the
 // same bill again and pays it again: its mark was not committed yet.
 //
-// Found by Produce#1:kill-after. Mend: a transaction, which this version of sarama does not have, or a
+// Found by Produce#1:kill-after. Fix: a transaction, which this version of sarama does not have, or a
 // reader that knows doubles by a key.
 //
 //	./kx torture --in bills --out paid -- ./idempotent_only {bootstrap}

@@ -1,7 +1,7 @@
 """Wrong: an idempotent producer repeats no batch by itself, but a program that is started again reads the
 same bill again and pays it again.
 
-Found by Produce#1:kill-after. Mend: a transactional id, and the offset in the transaction.
+Found by Produce#1:kill-after. Fix: a transactional id, and the offset in the transaction.
 
     ./kx torture --in bills --out paid -- /usr/bin/python3 examples/torture/idempotent_only.py {bootstrap}
 """

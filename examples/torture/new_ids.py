@@ -1,7 +1,7 @@
-"""Wrong: partitions are assigned by hand, and each start has a transactional id of its own, so nothing
-fences an earlier start that was only asleep.
+"""Wrong: partitions are assigned by hand, and each start has a new transactional id, so nothing fences an
+earlier start that was only asleep.
 
-Found by TxnOffsetCommit#1:zombie, and not at EndTxn. Mend: an id of the slot, as by_hand.py has it.
+Found by TxnOffsetCommit#1:zombie, and not at EndTxn. Fix: an id of the slot, as by_hand.py has it.
 
     ./kx torture --in bills --out paid -- /usr/bin/python3 examples/torture/new_ids.py {bootstrap} {slot}
 """

@@ -1,8 +1,8 @@
-"""Wrong: it aborts and goes on with the next bill. The consumer's position is behind the bill whose
+"""Wrong: it aborts and goes on with the next bill. The consumer's position is already after the bill whose
 transaction was aborted, so nobody pays it.
 
 Found by TxnOffsetCommit#1:refuse-30, and not by expel: after a rebalance the position is the committed
-offset. Mend: seek to the committed offsets after an abort, as rewinds.py does.
+offset. Fix: seek to the committed offsets after an abort, as rewinds.py does.
 
     ./kx torture --in bills --out paid -- /usr/bin/python3 examples/torture/no_rewind.py {bootstrap} {slot}
 """

@@ -1,6 +1,6 @@
 """Wrong: it commits its offsets after its transaction, so a crash between the two pays a bill again.
 
-Found by EndTxn#1:kill-after. Mend: producer.send_offsets_to_transaction, before commit_transaction.
+Found by EndTxn#1:kill-after. Fix: producer.send_offsets_to_transaction, before commit_transaction.
 
     ./kx torture --in bills --out paid -- /usr/bin/python3 examples/torture/offsets_after.py {bootstrap} {slot}
 """

@@ -1,7 +1,7 @@
 // Wrong: it marks a bill as read before it is paid. Marks are committed by a timer, so a crash before
 // the output is there loses the bill.
 //
-// Found by Produce#1:kill-before. Mend: mark it behind SendMessage; then a crash doubles it, which only
+// Found by Produce#1:kill-before. Fix: mark it after SendMessage; then a crash doubles it, which only
 // a transaction prevents.
 //
 //	./kx torture --in bills --out paid -- ./offsets_before {bootstrap}

@@ -1,6 +1,6 @@
 """Wrong: it commits its offset before the output is there, so a crash between the two loses a bill.
 
-Found by Produce#1:kill-before. Mend: commit the offset with the output, in one transaction.
+Found by Produce#1:kill-before. Fix: commit the offset with the output, in one transaction.
 
     ./kx torture --in bills --out paid -- /usr/bin/python3 examples/torture/offsets_before.py {bootstrap} {slot}
 """

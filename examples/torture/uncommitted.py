@@ -1,6 +1,6 @@
 """Wrong: it reads records of transactions that were aborted or are still open, and pays such bills too.
 
-Found without a fault, by aborted transactions in its input. Mend: isolation.level read_committed.
+Found without a fault, by aborted transactions in its input. Fix: isolation.level read_committed.
 
     ./kx torture --in bills --out paid -- /usr/bin/python3 examples/torture/uncommitted.py {bootstrap} {slot}
 """

@@ -1,11 +1,17 @@
 """./kx torture [OPTIONS] -- COMMAND WORDS..: finds the bug of a program that consumes, processes and produces.
 
-To read, from below: `layouts` and `records` are Kafka's bytes, `client` asks what the harness itself needs;
-`relay` stands between one start of the program and the server, `faults` says what happens to a request there;
-`instances` starts the program, `server` and `processes` the rest; `watch` is what goes on while it works, and `run`
-one run from its input to its output;
-`plan` says which runs there are, `torture` makes them; `verdict` compares, `story`, `report` and `page` tell;
-`options` reads the command line. Tests: python3 -m unittest discover -s tools/torture.
+The modules, in an order in which they can be read:
+
+- Kafka's bytes: `layouts` has requests and responses, `records` has record batches. `client` makes the requests
+  that the harness needs itself.
+- One run: `relay` passes requests on between one start of the program and the server, and `faults` has what may
+  happen to a request there. `server` starts the server, `instances` the program, both by `processes`. `watch` is
+  the state of a run while the program works, `run` is a run from its input (`inputs`) to its output, and `names`
+  keeps runs apart that share a Kafka.
+- All runs: `options` reads the command line, `plan` chooses the runs, `torture` makes them, `verdict` compares.
+- The report: `story` and `late` say what happened, `advice` names mistakes, `table`, `page` and `report` write.
+
+The tests are in test_*.py, with `scripted` as their server and client: python3 -m unittest discover -s tools/torture.
 """
 import os
 import sys
@@ -27,5 +33,5 @@ except BaseException:
     status = 70
 sys.stdout.flush()
 sys.stderr.flush()
-# threads of runs that were given up may still wait for something that doesn't come any more
+# not sys.exit: threads of abandoned runs may still wait, and would keep the process
 os._exit(status)

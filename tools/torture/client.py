@@ -9,13 +9,13 @@ import layouts
 import names
 import records
 
-# Codes after which the same request is made again, at the coordinator that is asked for anew.
+# Error codes after which the same request is made again, at a leader or coordinator that is looked up anew.
 AGAIN = {3, 5, 6, 7, 14, 15, 16, 51}
 CONNECT_SECONDS = 5
 
 
 class Refused(Exception):
-    """A request that was answered with a code."""
+    """A request was answered with an error code."""
 
     def __init__(self, what, code):
         super().__init__("%s was answered with code %d" % (what, code))
@@ -23,7 +23,7 @@ class Refused(Exception):
 
 
 def read_frame(it):
-    """A message without its length, or None once the other end has closed."""
+    """A message without its length, or None if the other end has closed the connection."""
     head = read_whole(it, 4)
     return head and read_whole(it, struct.unpack(">i", head)[0])
 
@@ -43,7 +43,7 @@ def write_frame(it, text):
 
 
 class Connection:
-    """One connection: a request, then its answer."""
+    """One connection, over which a request is made after the answer to the one before."""
 
     def __init__(self, address, seconds=30):
         self.socket = socket.create_connection(address, CONNECT_SECONDS)
@@ -55,7 +55,7 @@ class Connection:
         self.ranges = {it["key"]: (it["min"], it["max"]) for it in answer["apis"]}
 
     def version(self, key):
-        """The highest version that both ends know."""
+        """The highest version of an API that both ends know."""
         api, (first, last) = layouts.BY_KEY[key], self.ranges.get(key, (0, -1))
         if min(last, api.last) < max(first, api.first):
             raise OSError("the server doesn't offer %s" % api.name)
@@ -76,15 +76,15 @@ class Connection:
 
 
 class Client:
-    """Asks the broker that a request is for: a partition's leader, a coordinator. `address` is a function,
-    since a server that was killed comes back at another port."""
+    """Makes requests at a partition's leader or at a coordinator. `address` is a function that returns the address
+    of a broker, since a server that was killed is started again at another port."""
 
     def __init__(self, address, prefix=""):
         self.address, self.prefix, self.open, self.lock = address, prefix, {}, threading.RLock()
         self.own, self.sequences = None, collections.Counter()
 
     def ask(self, where, name, **fields):
-        """Asks over a kept connection, and once more over a new one if it is broken."""
+        """Makes a request over a connection that is kept. A broken connection is dropped, and the next call opens one."""
         with self.lock:
             if where not in self.open:
                 self.open[where] = Connection(where)
@@ -108,7 +108,7 @@ class Client:
             self.open = {}
 
     def again(self, what, ask, seconds=30):
-        """The answer of `ask` once none of its codes says that it should be asked again."""
+        """Calls `ask` until no error code of its answer is one of AGAIN, at most so long; its answer."""
         end = time.monotonic() + seconds
         while True:
             try:
@@ -142,7 +142,7 @@ class Client:
 
     @staticmethod
     def near(address):
-        """The address as it is; one server of our own says where it is itself."""
+        """The address as it is. A run with a server of its own replaces this by that server's address."""
         return address
 
     def partitions(self, topic):
@@ -150,7 +150,7 @@ class Client:
         return len(found["topics"][0]["parts"])
 
     def create(self, topic, partitions):
-        """Makes a topic, where the server lets clients make some; else asking for it makes it."""
+        """Makes a topic by CreateTopics, or by asking for it if the broker refuses; its number of partitions."""
         try:
             self.ask(self.address(), "CreateTopics", timeout=10000, topics=[
                 {"name": topic, "partitions": partitions, "copies": 1}])
@@ -165,7 +165,7 @@ class Client:
         return answer["topics"][0]["parts"][0]["base"]
 
     def write(self, topic, partition, record):
-        """Appends a record once, however often it has to be asked: by a producer's id and sequences."""
+        """Appends a record once, even if the request is repeated: it has a producer id and a sequence number."""
         if self.own is None:
             answer = self.again("InitProducerId", lambda: self.ask(self.address(), "InitProducerId", txn=None,
                 timeout=60000, pid=-1, epoch=-1))
@@ -175,13 +175,13 @@ class Client:
         return self.produce(topic, partition, records.write([record], *self.own, sequence))
 
     def init(self, txn, timeout=60000, seconds=30):
-        """An id and epoch for a transactional id; what is open of it is aborted."""
+        """Producer id and epoch of a transactional id. Its open transaction is aborted."""
         answer = self.again("InitProducerId", lambda: self.ask(self.coordinator(txn, 1), "InitProducerId", txn=txn,
             timeout=timeout, pid=-1, epoch=-1), seconds)
         return answer["pid"], answer["epoch"]
 
     def leave(self, group, member):
-        """A member leaves, as the end of its session would have it."""
+        """A member leaves a group, as it would at the end of its session."""
         try:
             self.ask(self.coordinator(group, 0), "LeaveGroup", group=group, member=member,
                 members=[{"member": member}])
@@ -189,7 +189,7 @@ class Client:
             pass
 
     def aborted(self, txn, batches):
-        """A transaction with these (topic, partition, records), which is aborted."""
+        """Writes (topic, partition, records) in a transaction, and aborts it."""
         pid, epoch = self.init(txn)
         for topic, partition, lines in batches:
             self.again("AddPartitionsToTxn", lambda: self.ask(self.coordinator(txn, 1), "AddPartitionsToTxn",
@@ -199,7 +199,7 @@ class Client:
             commit=False))
 
     def ends(self, topic, partition):
-        """The last stable offset, and the end."""
+        """The last stable offset and the end offset of a partition."""
         found = []
         for isolation in (1, 0):
             answer = self.again("ListOffsets", lambda: self.ask(self.leader(topic, partition), "ListOffsets",
@@ -209,14 +209,14 @@ class Client:
         return tuple(found)
 
     def committed(self, group, topic, partition):
-        """The stable committed offset, or None while a transaction that is open has one."""
+        """The stable committed offset of a group, or None while an open transaction has one."""
         answer = self.ask(self.coordinator(group, 0), "OffsetFetch", group=group, stable=True,
             topics=[{"name": topic, "parts": [partition]}])
         part = answer["topics"][0]["parts"][0]
         return None if part["error"] or answer.get("error") else part["offset"]
 
     def read(self, topic, partition):
-        """All records that a reader of committed records gets, from offset 0 on."""
+        """All records of a partition that a reader of committed records gets."""
         found, offset, gone = [], 0, set()
         stable, _ = self.ends(topic, partition)
         while offset < stable:

@@ -1,4 +1,4 @@
-"""The user's program: its starts, in slots, and what the relay has learnt of each."""
+"""The user's program: its starts, the slots in which they are, and what the relay has learnt of each."""
 import os
 import signal
 import time
@@ -6,21 +6,26 @@ import time
 import processes
 from relay import Relay
 
+# How many starts a slot has, and the seconds between an end and the next start, at first and at most.
 MOST_STARTS, FIRST_PAUSE, LONGEST_PAUSE = 20, 0.5, 4
 
 
 class Start:
-    """One start of the program: its processes, its relay, its members and transactional ids."""
+    """One start of the program: its processes, its relay, its members of groups and its transactional ids."""
 
     def __init__(self, run, slot, number):
         self.run, self.slot, self.number = run, slot, number
         self.relay = Relay(run, self)
-        self.members, self.txns, self.pairs = {}, set(), {}
-        self.joins = self.commits = 0
-        self.rebalanced = self.killed = self.left = False
-        self.answers = 0
+        # its members, (group, member id) each, and its transactional ids
+        self.members, self.txns = set(), set()
+        # how many JoinGroups it made, commits it was told of, and answers it was given
+        self.joins = self.commits = self.answers = 0
+        # whether a heartbeat has told it of a rebalance, the harness killed it, or it ended by itself before the run did
+        self.rebalanced = self.killed = self.gave_up = False
+        # its exit status, once it has ended, and when it went on after it was stopped
         self.process = self.status = self.woken = None
         self.begun = time.monotonic()
+        # its standard output and standard error
         self.files = [os.path.join(run.folder, "slot-%d-start-%d.%s" % (slot, number, it)) for it in ("out", "err")]
 
     def __str__(self):
@@ -33,7 +38,7 @@ class Start:
             self.process = processes.begin(fill(self.run.options.command, words), stdout=out, stderr=err)
 
     def last_words(self, lines=3):
-        """The end of what it wrote to its standard error."""
+        """The last lines that it wrote to its standard error."""
         try:
             with open(self.files[1], "rb") as it:
                 it.seek(0, os.SEEK_END)
@@ -54,13 +59,13 @@ def fill(command, words):
 
 
 class Slots:
-    """Keeps one start running in each slot that was begun: one that ends is started again."""
+    """The slots that were begun. A start that ends is followed by another in its slot."""
 
     def __init__(self, run):
         self.run, self.current, self.all, self.ending = run, {}, [], False
 
     def begin(self, slot):
-        """A start in this slot; the one that was there goes on beside it, and isn't started again."""
+        """Begins a start in this slot. An earlier one that still runs goes on beside it, and has no other after it."""
         start = self.open(slot)
         self.launch(start)
         self.run.spawn(self.keep, start)
@@ -85,7 +90,7 @@ class Slots:
                 self.run.fail(str(fault))
 
     def keep(self, start):
-        """Waits for the end of a start, and starts again: after half a second, then twice as long."""
+        """Waits until a start ends, and starts the next after a pause, which doubles each time."""
         pause = FIRST_PAUSE
         while start.process is not None:
             start.status = processes.wait(start.process)
@@ -106,7 +111,7 @@ class Slots:
             self.launch(start)
 
     def end(self, grace):
-        """SIGTERM to all that still runs, and SIGKILL after the grace."""
+        """Ends all starts: SIGTERM, and SIGKILL after the grace."""
         with self.run.changed:
             self.ending = True
             self.run.changed.notify_all()

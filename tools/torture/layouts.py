@@ -1,8 +1,8 @@
 """Kafka's requests and responses that the relay reads: one table of APIs, versions and layouts.
 
-A layout is a list of fields, `NAME TYPE` each. `3+` behind a field says that it is there from version
+A layout is a list of fields, `NAME TYPE` each. `3+` after a field says that it is there from version
 3 on, `2-4` in those versions alone. Types: i8, i16, i32, i64, bool, str, bytes, `[]` of a type or of
-fields in braces; `?` may be null. Where an API is flexible (KIP-482), lengths are variable and each
+fields in braces; `?` may be null. If a version is flexible (KIP-482), lengths are variable and each
 struct ends with tagged fields. Messages are dicts; tagged fields are skipped, and none are written.
 """
 import collections
@@ -190,7 +190,7 @@ class Reader:
 
 
 class Writer:
-    """Puts values behind one another."""
+    """Appends values to some bytes."""
 
     def __init__(self, version, flexible):
         self.out, self.version, self.flexible = bytearray(), version, flexible
@@ -235,7 +235,7 @@ class Writer:
 
 
 def default(kind):
-    """What a field is where nothing is said of it."""
+    """The value of a field that isn't given."""
     if isinstance(kind, Array):
         return None if kind.nullable else []
     if kind in NUMBERS:
@@ -253,7 +253,7 @@ Head = collections.namedtuple("Head", "key version correlation client")
 
 
 def read_request(text):
-    """The head of a request (without its length) and its fields: None where the table hasn't it."""
+    """The head of a request (without its length) and its fields, which are None for a version not in the table."""
     it = Reader(text, 0, False)
     key, version, correlation = it.number(">h"), it.number(">h"), it.number(">i")
     if not is_known(key, version):

@@ -1,16 +1,18 @@
-"""Names of a run's own, where several runs share a Kafka: the program says `bills`, and the broker hears
-`torture-1a2b-7-bills`. Topics, groups and transactional ids have them; opaque bytes stay as they are."""
+"""Keeps runs apart that share a Kafka: the program asks for `bills`, and the broker is asked for `torture-1a2b-7-bills`.
+
+Topics, groups and transactional ids have such a prefix; opaque bytes, such as a group's assignments, have none.
+"""
 
 NAMED, TOPICS = ("group", "txn", "key"), ("topics", "forgotten")
 
 
 def to_broker(fields, prefix):
-    """A request as the broker hears it."""
+    """A request with the prefix before each name."""
     return changed(fields, lambda name: prefix + name) if prefix else fields
 
 
 def to_program(fields, prefix):
-    """A response as the program hears it: topics of other runs aren't there."""
+    """A response without the prefix, and without topics of other runs."""
     if not prefix or not fields:
         return fields
     found = dict(fields)

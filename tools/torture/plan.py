@@ -1,15 +1,16 @@
-"""Which runs are made: each fault at the first, second and last request of each API, and pairs."""
+"""Which runs are made: each fault at some requests of each API, and pairs of faults."""
 import random
 
 import faults
 from run import Case
 from watch import Point
 
-# How often these are asked depends on the time that passes: a last one has no meaning.
-TIMED = {"Fetch", "Heartbeat", "Metadata", "ListOffsets", "FindCoordinator"}
+# How many of these there are depends on the time that passes, so the last one is another in each run.
+TIMED = ("Fetch",) + faults.LOOKED_UP
 
 
 def numbers(api, count, every):
+    """Which of `count` requests are hit: each, or the first, second and last."""
     if api in TIMED:
         return [it for it in (1, 2) if it <= count]
     return list(range(1, count + 1)) if every else sorted({it for it in (1, 2, count) if it <= count})
@@ -23,6 +24,8 @@ def single(found, options):
     """A case for each fault at each request; `found` has how many requests of each API there were."""
     cases = []
     for api in sorted(found, key=order):
+        if api in faults.LOOKED_UP and not options.all:
+            continue
         for number in numbers(api, found[api], options.all):
             for fault in options.faults:
                 if api in fault.requests:
@@ -31,17 +34,18 @@ def single(found, options):
 
 
 def order(api):
-    """Requests in the order in which a transaction makes them."""
-    return (faults.JOINED + ("Fetch",) + faults.SENT).index(api) if api in faults.ANY else 99, api
+    """Sorts APIs: joining a group, fetching, the requests of a transaction, all others by name."""
+    known = faults.JOINED + ("Fetch",) + faults.SENT
+    return known.index(api) if api in known else len(known), api
 
 
 def pairs(cases, choice, count):
-    """Two of the cases, one after the other."""
+    """So many pairs of cases, drawn at random."""
     return [Case("", choice.choice(cases).points + choice.choice(cases).points, True) for _ in range(count)]
 
 
 def plan(found, options):
-    """The cases, with their names."""
+    """The cases that the options ask for, each with a name such as EndTxn#1:kill-after."""
     if options.only:
         cases = [Case("", tuple(Point(*it) for it in points), True) for points in options.only]
     else:

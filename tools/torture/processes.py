@@ -1,4 +1,4 @@
-"""Processes of the harness: each leads a group of its own, and all of them end with the harness."""
+"""Processes of the harness. Each leads a process group of its own, and all groups are killed when the harness ends."""
 import atexit
 import os
 import signal
@@ -12,14 +12,14 @@ def begin(words, **options):
     """Starts a program in a process group of its own."""
     with lock:
         if closed:
-            raise OSError("the harness ends")
+            raise OSError("the harness is ending")
         it = subprocess.Popen(words, stdin=subprocess.DEVNULL, start_new_session=True, **options)
         living[it.pid] = it
         return it
 
 
 def run(words):
-    """Runs a program to its end: its status, and all that it said."""
+    """Runs a program to its end; its status, and all that it printed."""
     it = begin(words, stdout=subprocess.PIPE, stderr=subprocess.STDOUT)
     said = it.stdout.read().decode(errors="replace")
     it.stdout.close()
@@ -27,7 +27,7 @@ def run(words):
 
 
 def send(it, what):
-    """A signal to all processes of a group, if there still are some."""
+    """Sends a signal to all processes of a group; whether there still are some."""
     try:
         os.killpg(it.pid, what)
         return True
@@ -36,7 +36,7 @@ def send(it, what):
 
 
 def wait(it):
-    """Waits for the end of a program, and ends what is left of its group."""
+    """Waits until a program ends, kills what is left of its group, and returns the program's status."""
     status = it.wait()
     send(it, signal.SIGKILL)
     with lock:
@@ -45,7 +45,7 @@ def wait(it):
 
 
 def end(it, how=signal.SIGKILL, grace=10):
-    """Ends a group by a signal, and by SIGKILL where that doesn't end it within the grace."""
+    """Ends a group by a signal, and by SIGKILL after the grace."""
     send(it, how)
     send(it, signal.SIGCONT)
     try:
@@ -57,10 +57,12 @@ def end(it, how=signal.SIGKILL, grace=10):
 
 
 def end_all():
-    """Ends every group that was begun here; none begins after."""
+    """Kills all groups. No more processes can be begun."""
     global closed
+    # before the lock is taken: threads that begin processes one after the other would keep it for long
+    closed = True
     with lock:
-        closed, left = True, list(living.values())
+        left = list(living.values())
     for it in left:
         send(it, signal.SIGKILL)
 

@@ -1,4 +1,4 @@
-"""Record batches (magic 2): written for the input, read for the output and for what a program sent."""
+"""Record batches of Kafka's message format 2: written for the input, and read of requests and of the output."""
 import collections
 import gzip
 import struct
@@ -11,7 +11,7 @@ HEAD = ">qiibIhiqqqhii"
 
 
 class Unreadable(Exception):
-    """Records that can't be read here."""
+    """Records of an old format, or compressed ones that the standard library can't decompress."""
 
 
 def _table():
@@ -27,7 +27,7 @@ CRC = _table()
 
 
 def crc32c(text):
-    """The checksum of batches (Castagnoli's)."""
+    """The checksum of batches, CRC-32C (RFC 3720, appendix B.4)."""
     crc = 0xFFFFFFFF
     for byte in text:
         crc = CRC[(crc ^ byte) & 255] ^ crc >> 8
@@ -49,7 +49,7 @@ def _text(text):
 
 
 def write(records, pid=-1, epoch=-1, sequence=-1, transactional=False, time=0):
-    """A batch of (key, value) records."""
+    """One batch of (key, value) records."""
     body = b""
     for place, (key, value) in enumerate(records):
         record = b"\0" + _varint(0) + _varint(place) + _text(key) + _text(value) + _varint(0)
@@ -83,7 +83,7 @@ class _Values:
 
 
 def read(text):
-    """The batches in some bytes; one that is cut off at the end is left out, as Kafka's readers do."""
+    """The batches in some bytes. A batch that is cut off at the end is left out, as a consumer does."""
     batches, at = [], 0
     while len(text) - at >= 61:
         first, length, _, magic = struct.unpack(">qiib", text[at:at + 17])
@@ -103,6 +103,15 @@ def read(text):
     return batches
 
 
+def producers(text):
+    """Producer id and epoch of each batch, by its head alone: compressed batches have them too."""
+    found, at = [], 0
+    while len(text) - at >= 61:
+        found.append(struct.unpack(">qh", text[at + 43:at + 53]))
+        at += 12 + struct.unpack(">i", text[at + 8:at + 12])[0]
+    return found
+
+
 def _records(body, first, count):
     values, records = _Values(body), []
     for _ in range(count):
@@ -117,8 +126,11 @@ def _records(body, first, count):
 
 
 def committed(batches, aborted, gone=None):
-    """The records that a reader of committed records gets: `aborted` has (producer id, first offset) of
-    each aborted transaction; `gone` are the producers whose transaction is aborted, from page to page."""
+    """The records that a reader of committed records gets.
+
+    `aborted` has (producer id, first offset) of each aborted transaction, as a Fetch names them. `gone` has the
+    producers that are inside an aborted transaction, and is kept from one Fetch to the next.
+    """
     gone = set() if gone is None else gone
     waiting = sorted(aborted, key=lambda it: it[1])
     records = []
@@ -126,7 +138,7 @@ def committed(batches, aborted, gone=None):
         while waiting and waiting[0][1] <= batch.last:
             gone.add(waiting.pop(0)[0])
         if batch.control:
-            # a marker: key is version i16 and type i16, 0 for an abort
+            # the key of a marker is a version (i16) and a type (i16), which is 0 for an abort
             if batch.records and batch.records[0].key[2:4] == b"\0\0":
                 gone.discard(batch.pid)
         elif not (batch.transactional and batch.pid in gone):

@@ -1,9 +1,9 @@
 """The relay between one start of a program and the server.
 
-It reads each request by its layout, asks the run whether a fault hits it, and passes it on. Answers go
-back in the order of the requests. It answers ApiVersions itself, with the server's ranges cut to those
-of the table, so it never meets a version that it can't read. In Metadata and FindCoordinator it puts its
-own address in the place of the broker's; all other responses pass as they are.
+It reads each request by its layout, asks the run whether a fault hits it, and passes it on. Answers go back in
+the order of the requests. It answers ApiVersions itself, with the server's ranges cut to those of `layouts`, so
+it is never sent a version that it can't read. In Metadata and FindCoordinator it replaces the broker's address
+by its own; all other responses are passed on as they are.
 """
 import collections
 import select
@@ -20,7 +20,7 @@ UNSUPPORTED = 35
 
 
 class Gone(Exception):
-    """The connection, or the program behind it, has ended."""
+    """The connection, or the program, has ended."""
 
 
 class Exchange:
@@ -33,6 +33,9 @@ class Exchange:
         self.name = api.name if api else "API %d" % head.key
         self.at = time.monotonic()
         self.answer = self.response = None
+        # when a fault hit it, when it was passed on, and when its answer came
+        self.struck_at = self.passed_at = self.arrived_at = None
+        # its answer waits; its answer was sent; it was passed on; its answer was made up here
         self.held = self.given = self.passed = self.made_up = False
         self.arrived = threading.Event()
 
@@ -41,12 +44,12 @@ class Exchange:
 
     @property
     def is_answered(self):
-        """A Produce with acks 0 never is."""
+        """Whether it has an answer: all but a Produce with acks 0."""
         return not (self.head.key == PRODUCE and self.fields is not None and self.fields["acks"] == 0)
 
     @property
     def code(self):
-        """The first code of its answer that isn't 0, or 0; None without an answer."""
+        """The first error code of its answer that isn't 0, or else 0; None without an answer."""
         if self.response is None:
             return None
         return next((it for it in layouts.codes(self.response) if it), 0)
@@ -56,11 +59,11 @@ class Exchange:
         self.link.pass_on(self)
 
     def wait(self, seconds):
-        """Whether the server's answer has come whole."""
+        """Waits for the server's answer, at most so long; whether it has come."""
         return self.arrived.wait(seconds)
 
     def give(self):
-        """Lets a held answer go back."""
+        """Sends a held answer to the program."""
         self.held = False
         self.link.flush()
 
@@ -73,7 +76,7 @@ class Exchange:
 
     def take(self, text):
         """The answer has come."""
-        self.answer = text
+        self.answer, self.arrived_at = text, time.monotonic()
         if layouts.is_known(self.head.key, self.head.version):
             try:
                 _, self.response = layouts.read_response(self.head.key, self.head.version, text)
@@ -89,7 +92,7 @@ class Exchange:
         self.arrived.set()
 
     def meet_here(self):
-        """Brokers are met at the relay's own addresses."""
+        """Replaces the addresses of brokers by the relay's own."""
         relay = self.link.relay
         if self.head.key == METADATA:
             for it in self.response["brokers"]:
@@ -98,7 +101,7 @@ class Exchange:
             self.response["host"], self.response["port"] = relay.near((self.response["host"], self.response["port"]))
 
     def to_broker(self):
-        """The bytes that are passed on: as they came, but for names of the run's own."""
+        """The bytes that are passed on: as they came, or with the run's own names."""
         prefix = self.link.relay.run.prefix
         if not prefix or self.fields is None:
             return self.frame
@@ -106,11 +109,13 @@ class Exchange:
 
 
 class Link:
-    """One connection of the program, and the one to the server that belongs to it."""
+    """One connection of the program, and the connection to the server over which its requests are passed on."""
 
     def __init__(self, relay, client, server):
         self.relay, self.client, self.address, self.server = relay, client, server, None
+        # requests whose answers the program waits for, and those of them whose answers the server owes
         self.queue, self.passed = collections.deque(), collections.deque()
+        # `sending` is held while answers are sent, so that they stay in order
         self.lock, self.sending, self.closed = threading.RLock(), threading.Lock(), False
 
     def serve(self):
@@ -142,7 +147,7 @@ class Link:
         self.relay.meet(it)
 
     def is_left(self):
-        """Whether the program has closed its end: also where requests are still unread."""
+        """Whether the program has closed its end, even if some of its requests are still unread."""
         poll = select.poll()
         poll.register(self.client, select.POLLRDHUP | select.POLLHUP)
         return bool(poll.poll(0))
@@ -151,7 +156,7 @@ class Link:
         with self.relay.passing:
             if self.closed or self.relay.dead:
                 raise Gone()
-            # a last word needs no ear: what comes after it is the session's end
+            # a LeaveGroup is passed on all the same: without it the session would end a little later
             if it.head.key != LEAVE and it.is_answered and self.is_left():
                 raise Gone()
             with self.lock:
@@ -160,7 +165,7 @@ class Link:
                     self.relay.spawn(self.answers, self.server)
                 if it.is_answered:
                     self.passed.append(it)
-                it.passed = True
+                it.passed, it.passed_at = True, time.monotonic()
             write_frame(self.server, it.to_broker())
 
     def answers(self, server):
@@ -189,12 +194,12 @@ class Link:
         server.close()
 
     def is_owed_a_member(self):
-        """Whether a JoinGroup is under way: its answer names a member that has to leave again."""
+        """Whether a JoinGroup is still unanswered: its answer names a member that has to leave."""
         with self.lock:
             return any(it.head.key == JOIN for it in self.passed)
 
     def flush(self):
-        """Gives the answers whose turn it is."""
+        """Sends the answers that are next in the order of their requests."""
         with self.sending:
             while True:
                 with self.lock:
@@ -202,7 +207,7 @@ class Link:
                         return
                     it = self.queue.popleft()
                 it.given = True
-                # first noted: the program's next request may be there before this thread goes on
+                # noted before it is sent, since the program's next request may come before this thread goes on
                 self.relay.gave(it)
                 try:
                     write_frame(self.client, it.answer)
@@ -210,12 +215,14 @@ class Link:
                     return
 
     def settle(self, but, seconds):
-        """Waits until the requests before this one were answered."""
+        """Waits until the requests before this one were answered, at most so long, and sends their answers."""
         end = time.monotonic() + seconds
         with self.lock:
             before = [it for it in self.queue if it is not but]
         for it in before:
             it.arrived.wait(max(0, end - time.monotonic()))
+        # the thread that took the last of them may not have sent it yet
+        self.flush()
 
     def close(self):
         with self.lock:
@@ -236,16 +243,20 @@ def shut(it):
 
 
 class Relay:
-    """The address of one start. `run` decides on each request, and is told of each answer."""
+    """Listens at the addresses of one start. Its run decides on each request, and hears of each answer."""
 
     def __init__(self, run, start):
         self.run, self.start = run, start
+        # requests by API, connections, and listening sockets by the broker that is behind them
         self.counts, self.links, self.ports = collections.Counter(), [], {}
-        self.passing, self.lock, self.dead, self.offered = threading.RLock(), threading.Lock(), False, None
+        # `passing` is held while a request is passed on, so that none is after `dead` is set
+        self.passing, self.dead = threading.RLock(), False
+        # `lock` is for the collections; `offered` has the server's APIs and versions
+        self.lock, self.offered = threading.Lock(), None
         self.main = self.listen(None)
 
     def listen(self, upstream):
-        """Listens for connections to one broker: `None` is the one that the run names."""
+        """Opens a port for connections to one broker. `None` is the run's server."""
         listener = socket.create_server(("127.0.0.1", 0))
         self.ports[upstream] = listener
         self.spawn(self.accept, listener, upstream)
@@ -282,7 +293,7 @@ class Relay:
         return it
 
     def near(self, broker):
-        """Where the program meets a broker: one server alone is met at the main address."""
+        """The relay's address for a broker. A server of the harness has the main address."""
         if self.run.is_alone():
             broker = None
         with self.lock:
@@ -319,12 +330,12 @@ class Relay:
         self.run.gave(it)
 
     def die(self):
-        """Passes nothing on from here: the program is to be killed."""
+        """Passes nothing on any more: the program is killed next."""
         with self.passing:
             self.dead = True
 
     def cut(self):
-        """Closes all connections, as they are when the server is killed."""
+        """Closes all connections."""
         with self.lock:
             links = list(self.links)
         for it in links:

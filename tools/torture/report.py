@@ -1,65 +1,78 @@
-"""What is told: on a terminal while it runs, and in files in the end."""
+"""What is reported: on the terminal while runs are made, and in files at the end."""
 import collections
 import json
+import math
 import shlex
 import sys
 import time
 from xml.sax.saxutils import escape, quoteattr
 
+import advice
 import faults
 import page
 import plan
 import story
+import table
 import verdict
 
-SIGNS = collections.OrderedDict([
-    (verdict.SAME, "same"), (verdict.DIFFERS, "differs"), (verdict.UNFINISHED, "not finished or blocked"),
-    (verdict.MISSED, "not reached"), (verdict.OURS, "the server's own fault")])
 MOST_STORIES = 3
+# Options with a value that choose runs, or name what is written of all of them: a repeated run doesn't have them.
+OF_MANY_RUNS = ("--only", "--faults", "--runs", "--seed", "--jobs", "--html", "--json", "--junit", "--top")
+# How much longer a run with a fault takes than an undisturbed one, in seconds: a guess for the first estimate.
+FAULT_SECONDS = 2
 
 
 class Report:
     """Progress, the table, and the files."""
 
-    def __init__(self, options, words):
-        self.options, self.words = options, words
+    def __init__(self, options, words, server):
+        self.options, self.words, self.server = options, words, server
         self.results, self.cases, self.signs, self.begun = [], [], collections.Counter(), time.monotonic()
         self.live = sys.stdout.isatty()
-        self.advice = []
+        self.advice, self.expected = [], []
+        # of all runs that have ended, together
+        self.seconds = 0
 
     def prepare(self):
+        print(self.server, flush=True)
         if self.live:
             self.line("undisturbed runs first", False)
 
-    def begin(self, results, cases, torture):
-        """The undisturbed runs have ended."""
-        self.results, self.cases, self.torture = [it for it, _ in results], cases, torture
-        self.advice = story.advice(self.results)
-        seconds = sum(it.seconds for it in self.results) / len(self.results)
+    def begin(self, results, cases, expected):
+        """The undisturbed runs have ended, and agree on the expected output."""
+        self.results, self.cases, self.expected = results, cases, expected
+        self.advice = advice.advice(results)
+        seconds = sum(it.seconds for it in results) / len(results)
         if self.live:
             self.line("", False)
-        print("undisturbed: %d runs of %.0f s agree on %d records of output" % (
-            len(self.results), seconds, len(torture.expected)))
-        requests = sorted(self.results[-1].points.items(), key=lambda it: plan.order(it[0]))
-        print("requests: " + " ".join("%s %d" % it for it in requests if it[0] in faults.ANY))
-        print("runs: %d, about %s with at most %d side by side" % (len(cases), minutes(
-            len(cases) * (seconds + 2) / self.options.jobs), self.options.jobs), flush=True)
+        print("undisturbed: %d runs of %.0f s agree on %d records of output" % (len(results), seconds, len(expected)))
+        requests = sorted(results[-1].points.items(), key=lambda it: plan.order(it[0]))
+        hit = faults.LOSABLE if self.options.all else faults.ANY
+        print("requests: " + " ".join("%s %d" % it for it in requests if it[0] in hit))
+        print("runs: %d, about %s with at most %d side by side" % (
+            len(cases), self.estimate(len(cases), seconds + FAULT_SECONDS), self.options.jobs), flush=True)
         self.begun = time.monotonic()
 
+    def estimate(self, count, seconds):
+        """How long so many runs take, if each takes so many seconds."""
+        return minutes(math.ceil(count / self.options.jobs) * seconds)
+
     def ran(self, it):
+        """A run has ended."""
         self.signs[it.verdict.sign] += 1
         ran = sum(self.signs.values())
         if it.verdict.sign in (verdict.DIFFERS, verdict.UNFINISHED, verdict.OURS):
             self.line("%s %s: %s" % (it.verdict.sign, it.result.case.name, it.verdict.words), True)
-        left = (time.monotonic() - self.begun) / ran * (len(self.cases) - ran)
-        words = "%d of %d · %s · about %s left" % (ran, len(self.cases), self.counts(), minutes(left))
+        self.seconds += it.result.seconds
+        words = "%d of %d · %s · about %s left" % (
+            ran, len(self.cases), self.counts(), self.estimate(len(self.cases) - ran, self.seconds / ran))
         if self.live:
             self.line(words, False)
         elif ran % 50 == 0 and ran < len(self.cases):
             print(words, flush=True)
 
     def line(self, words, stays):
-        """A line that stays, or one that the next takes the place of."""
+        """Writes a line that stays, or one that the next line replaces on a terminal."""
         if self.live:
             sys.stdout.write("\r\x1b[K" + words + ("\n" if stays else ""))
         else:
@@ -67,24 +80,21 @@ class Report:
         sys.stdout.flush()
 
     def counts(self):
-        return ", ".join("%d %s" % (self.signs[it], words) for it, words in SIGNS.items() if self.signs[it]) or "none yet"
+        return ", ".join("%d %s" % (self.signs[it], words) for it, words in table.SIGNS.items()
+            if self.signs[it]) or "none yet"
 
     def end(self, outcomes, status):
+        """All runs have ended."""
         if self.live:
             self.line("", False)
         if len(outcomes) > 1 and not any(len(it.result.case.points) > 1 for it in outcomes):
-            print("\n".join([""] + table(outcomes)))
+            print("\n".join([""] + table.text(outcomes)))
         differing = [it for it in outcomes if it.verdict.sign in (verdict.DIFFERS, verdict.OURS)]
-        for it in differing[:MOST_STORIES]:
-            print("\n%s: %s" % (it.result.case.name, it.verdict.words))
-            print("  " + " · ".join(story.short(it.result, it.verdict)))
-            if it.result.last_words:
-                print("  last words: " + it.result.last_words[-1][:200])
-            print("  again: " + self.again(it))
-            if self.options.keep:
-                print("  kept: " + it.folder)
+        # a killed program is the plainest story
+        for it in sorted(differing, key=lambda it: not it.result.case.points[-1].fault.startswith("kill"))[:MOST_STORIES]:
+            self.story(it)
         if len(differing) > MOST_STORIES:
-            print("\n%d more are on the page" % (len(differing) - MOST_STORIES))
+            print("\n%d more on the page" % (len(differing) - MOST_STORIES))
         if differing:
             for it in self.advice:
                 print("\nadvice: " + it)
@@ -94,42 +104,63 @@ class Report:
             print("in %s a start ended by itself, and the program was started again" % many(ended))
         self.write(outcomes, status)
 
+    def story(self, it):
+        print("\n%s: %s" % (it.result.case.name, it.verdict.words))
+        print("  " + " · ".join(story.short(it.result, it.verdict)))
+        if it.result.last_words:
+            print("  last words: " + it.result.last_words[-1][:200])
+        print("  again: " + self.again(it))
+        if self.options.keep:
+            print("  kept: " + it.folder)
+
+    def command(self):
+        """The command that was given."""
+        return " ".join(quoted(it) for it in ["./kx", "torture"] + self.words)
+
     def again(self, it):
-        """The words that repeat one run, and keep its folder and page."""
-        words, skip = ["./kx", "torture"], False
-        front = self.words[:self.words.index("--")]
-        for word in front:
-            if skip or word in ("--keep", "--all", "--twice"):
-                skip = False
-                continue
-            if word in ("--only", "--faults", "--runs", "--seed", "--jobs", "--html", "--json", "--junit", "--top"):
-                skip = True
-                continue
-            words.append(word)
-        words += ["--only", it.result.case.name, "--keep", "--"]
+        """The command that repeats one run, and keeps its folder and page."""
+        words = ["./kx", "torture"] + kept(self.words[:self.words.index("--")])
+        words += ["--only", it.result.case.name, "--keep", "--html", page.anchor(it) + ".html", "--"]
         return " ".join(quoted(it) for it in words + self.options.command)
 
     def write(self, outcomes, status):
-        """The page and the files for programs."""
+        """Writes the page, and the files for programs."""
         if self.options.html:
             put(self.options.html, page.page(self, outcomes))
             print("page: %s" % self.options.html)
         if self.options.json:
-            put(self.options.json, json.dumps(self.told(outcomes, status), indent=1) + "\n")
+            put(self.options.json, json.dumps(self.as_json(outcomes, status), indent=1) + "\n")
         if self.options.junit:
             put(self.options.junit, junit(self, outcomes))
 
-    def told(self, outcomes, status):
+    def as_json(self, outcomes, status):
         first = self.results[-1]
-        return {"status": status, "command": self.options.command, "promise": self.options.promise,
-            "requests": first.points, "advice": self.advice, "counts": {SIGNS[it]: self.signs[it] for it in SIGNS},
-            "runs": [{
-                "name": it.result.case.name, "verdict": SIGNS[it.verdict.sign], "words": it.verdict.words,
-                "seconds": round(it.result.seconds, 1), "lost": [verdict.text(lost[-1]) for lost in it.verdict.lost],
-                "doubled": [verdict.text(more[-1]) for more in it.verdict.doubled],
-                "ends": [{"start": who, "status": code, "last_words": " ".join(words)} for who, code, words in it.result.ends],
-                "story": [] if it.verdict.sign == verdict.SAME else story.short(it.result, it.verdict),
-                "again": self.again(it)} for it in outcomes]}
+        return {"status": status, "server": self.server, "command": self.options.command,
+            "promise": self.options.promise, "requests": first.points, "advice": self.advice,
+            "counts": {table.SIGNS[it]: self.signs[it] for it in table.SIGNS},
+            "runs": [self.run_as_json(it) for it in outcomes]}
+
+    def run_as_json(self, it):
+        result, found = it.result, it.verdict
+        return {"name": result.case.name, "verdict": table.SIGNS[found.sign], "words": found.words,
+            "seconds": round(result.seconds, 1), "lost": [verdict.text(lost[-1]) for lost in found.lost],
+            "doubled": [verdict.text(more[-1]) for more in found.doubled],
+            "ends": [{"start": who, "status": code, "last_words": " ".join(words)} for who, code, words in result.ends],
+            "story": [] if found.sign == verdict.SAME else story.short(result, found), "again": self.again(it)}
+
+
+def kept(words):
+    """The options that a repeated run has too."""
+    found, skip = [], False
+    for word in words:
+        name, equals, _ = word.partition("=")
+        if skip:
+            skip = False
+        elif name in OF_MANY_RUNS:
+            skip = not equals
+        elif word not in ("--keep", "--all", "--twice"):
+            found.append(word)
+    return found
 
 
 def many(count):
@@ -137,7 +168,9 @@ def many(count):
 
 
 def quoted(word):
-    return word if "{" in word and " " not in word and "'" not in word else shlex.quote(word)
+    """A word for a shell, which leaves a name in braces as it is."""
+    plain = word.replace("{", "").replace("}", "")
+    return word if plain and shlex.quote(plain) == plain and "," not in word else shlex.quote(word)
 
 
 def put(name, content):
@@ -149,64 +182,26 @@ def minutes(seconds):
     return "%d s" % seconds if seconds < 100 else "%d min" % round(seconds / 60)
 
 
-def columns(outcomes):
-    """The faults that were tried, in the order of the table."""
-    names = {it.result.case.points[0].fault for it in outcomes}
-    return [it for it in faults.ALL if it.name in names]
-
-
-def rows(outcomes):
-    """The requests that were hit: API and number."""
-    return sorted({it.result.case.points[0][:2] for it in outcomes}, key=lambda it: (plan.order(it[0]), it[1]))
-
-
-def cells(outcomes):
-    return {(it.result.case.points[0][:2], it.result.case.points[0].fault): it for it in outcomes}
-
-
-def table(outcomes):
-    """Requests by faults, a sign a cell. The second line tells before and after, same and other slot, codes."""
-    found, groups = cells(outcomes), collections.OrderedDict()
-    for it in columns(outcomes):
-        groups.setdefault(it.group, []).append(it)
-    side = max(len("%s#%d" % it) for it in rows(outcomes)) + 1
-
-    def line(head, text, sub):
-        blocks = [head.ljust(side)]
-        for group, own in groups.items():
-            inner = "".join(sub(it).ljust(max(2, len(it.short) + 1)) for it in own).rstrip()
-            width = max(len(group), sum(max(2, len(it.short) + 1) for it in own) - 1)
-            blocks.append((text(group) or inner).ljust(width))
-        return " ".join(blocks).rstrip()
-
-    lines = [line("", lambda group: group, lambda it: ""), line("", lambda _: "", lambda it: it.short)]
-    for row in rows(outcomes):
-        lines.append(line("%s#%d" % row, lambda _: "", lambda it: found[row, it.name].verdict.sign
-            if (row, it.name) in found else ""))
-    signs = sorted({it.verdict.sign for it in outcomes}, key=list(SIGNS).index)
-    return lines + ["", "  ".join("%s %s" % (it, SIGNS[it]) for it in signs)
-        + "   (b before, a after the server; s same, o other slot)"]
-
-
 def junit(report, outcomes):
-    """For continuous integration: a difference is a failure, what isn't finished an error."""
-    lines = []
-    for it in outcomes:
-        name, words = quoteattr(it.result.case.name), clean(it.verdict.words)
-        inner = ""
-        if it.verdict.sign == verdict.DIFFERS:
-            inner = "<failure message=%s>%s</failure>" % (quoteattr(words), escape(clean("\n".join(
-                story.short(it.result, it.verdict) + [report.again(it)]))))
-        elif it.verdict.sign in (verdict.UNFINISHED, verdict.OURS):
-            inner = "<error message=%s/>" % quoteattr(words)
-        elif it.verdict.sign == verdict.MISSED:
-            inner = "<skipped message=%s/>" % quoteattr(words)
-        lines.append("<testcase classname=\"torture\" name=%s time=\"%.1f\">%s</testcase>" % (
-            name, it.result.seconds, inner))
+    """JUnit's XML: a difference is a failure, and a run that isn't finished an error."""
     counts = report.signs
     return ("<?xml version=\"1.0\" encoding=\"UTF-8\"?>\n<testsuite name=\"torture\" tests=\"%d\" failures=\"%d\" "
         "errors=\"%d\" skipped=\"%d\">\n%s\n</testsuite>\n" % (len(outcomes), counts[verdict.DIFFERS],
-            counts[verdict.UNFINISHED] + counts[verdict.OURS], counts[verdict.MISSED], "\n".join(lines)))
+            counts[verdict.UNFINISHED] + counts[verdict.OURS], counts[verdict.MISSED],
+            "\n".join(testcase(report, it) for it in outcomes)))
+
+
+def testcase(report, it):
+    words, inner = quoteattr(clean(it.verdict.words)), ""
+    if it.verdict.sign == verdict.DIFFERS:
+        inner = "<failure message=%s>%s</failure>" % (words, escape(clean("\n".join(
+            story.short(it.result, it.verdict) + [report.again(it)]))))
+    elif it.verdict.sign in (verdict.UNFINISHED, verdict.OURS):
+        inner = "<error message=%s/>" % words
+    elif it.verdict.sign == verdict.MISSED:
+        inner = "<skipped message=%s/>" % words
+    return "<testcase classname=\"torture\" name=%s time=\"%.1f\">%s</testcase>" % (
+        quoteattr(it.result.case.name), it.result.seconds, inner)
 
 
 def clean(words):

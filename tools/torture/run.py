@@ -4,21 +4,29 @@ import os
 import signal
 import time
 
+import late
+import layouts
 import records
 from client import Refused
 from server import Server
 from watch import Watch
 
-# In seconds: how long nothing new is answered to a program that rests; to one that rests with work left;
-# how long one that asks nothing is thought to be starting; how long one that was stopped is watched; how
-# far apart it is looked whether the work is done; how long open transactions may take to end.
-QUIET, ASLEEP, SILENT, SLEPT, APART, STABLE = 2, 8, 10, 5, 1, 30
+# All in seconds. A program rests if nothing new was answered for QUIET, or for ASLEEP if it has work left.
+QUIET, ASLEEP = 2, 8
+# A start that has been answered nothing yet counts as resting after this.
+SILENT = 10
+# An instance that was stopped is watched so long after it goes on.
+SLEPT = 5
+# The time between two looks that find the work done.
+APART = 1
+# How long open transactions may take to end.
+STABLE = 30
 INPUT_TXN = "torture-input"
 
 Case = collections.namedtuple("Case", "name points aborted")
 
 Result = collections.namedtuple("Result", "case state words output events fired seconds audit points last_words "
-    "groups session facts ends")
+    "groups session facts ends late")
 
 
 def undisturbed(name, aborted):
@@ -27,7 +35,7 @@ def undisturbed(name, aborted):
 
 
 class Run(Watch):
-    """What is done in a run, in order."""
+    """One run. Its state while the program works is that of `Watch`."""
 
     def __init__(self, options, case, folder, patience, groups=(), prefix=""):
         super().__init__(options, case.points, folder, prefix)
@@ -36,7 +44,7 @@ class Run(Watch):
         self.input_file = os.path.join(folder, "input.txt")
 
     def go(self):
-        """Everything in order; always ends what it began."""
+        """Makes the run, and ends each process that it began."""
         os.makedirs(self.folder, exist_ok=True)
         output, audit, blocked = None, (True, ""), None
         try:
@@ -50,7 +58,7 @@ class Run(Watch):
             self.slots.end(self.options.grace)
             blocked = self.settle()
             output = self.output()
-        except (OSError, Refused, records.Unreadable) as fault:
+        except (OSError, Refused, layouts.Fault, records.Unreadable) as fault:
             finished = False
             self.fail(str(fault))
         finally:
@@ -64,12 +72,12 @@ class Run(Watch):
         return self.result(output, audit, finished, blocked)
 
     def look_at_server(self):
-        """A server that ended by itself is a fault of ours, whatever the program did."""
+        """Notes a server that has ended by itself: its own fault, whatever the program did."""
         if not self.down and not self.server.is_alive():
             self.ours, self.fault = True, "the server ended by itself: " + self.server.last_words()
 
     def fill(self):
-        """Writes the input, between aborted transactions where the case asks for them."""
+        """Writes the input, between aborted transactions if the case asks for them."""
         options = self.options
         if not self.is_alone():
             for topic, count in options.inputs + options.outputs:
@@ -78,11 +86,11 @@ class Run(Watch):
                         self.prefix, topic, count))
         if not options.inputs:
             with open(self.input_file, "w", encoding="utf-8", errors="surrogateescape") as it:
-                it.write("".join(line + "\n" for line in options.lines))
+                it.write("".join(line + "\n" for line in options.input_lines.lines))
             return
         for place, (topic, count) in enumerate(options.inputs):
             for partition in range(count):
-                own = options.share(place, partition)
+                own = options.input_lines.records(place, partition)
                 if self.case.aborted:
                     self.discard(topic, partition, 1)
                 for number, record in enumerate(own):
@@ -93,8 +101,8 @@ class Run(Watch):
                     self.discard(topic, partition, 3)
 
     def discard(self, topic, partition, number):
-        """A transaction that is aborted: no reader of committed records gets its record."""
-        record = self.options.like("aborted-%d-%d" % (partition, number))
+        """Writes a record in a transaction that is aborted, so no reader of committed records gets it."""
+        record = self.options.input_lines.similar("aborted-%d-%d" % (partition, number))
         self.client.aborted(INPUT_TXN, [(topic, partition, [record])])
 
     def feed(self):
@@ -111,15 +119,14 @@ class Run(Watch):
             for place, (topic, count) in enumerate(self.options.inputs):
                 for partition in range(count):
                     self.last[topic, partition] = self.client.write(
-                        topic, partition, self.options.tail(place, partition))
+                        topic, partition, self.options.input_lines.tail(place, partition))
         elif self.options.done[0] != "exit":
-            with open(self.input_file, "a", encoding="utf-8") as it:
-                it.write(self.options.last_line + "\n")
+            with open(self.input_file, "a", encoding="utf-8", errors="surrogateescape") as it:
+                it.write(self.options.input_lines.tails[-1] + "\n")
         self.heard = time.monotonic()
 
     def is_resting(self):
-        """What runs now was answered nothing new for two seconds after its faults; before them, once the
-        input is done too."""
+        """Whether nothing new was answered for QUIET seconds, and the faults have fired or the work is done."""
         if self.striking or time.monotonic() < self.heard + QUIET:
             return False
         if self.is_exited():
@@ -132,11 +139,11 @@ class Run(Watch):
         return any(it.status == 0 for it in self.slots.all)
 
     def is_enough(self, start):
-        """Whether the program ends by itself when it is done."""
+        """Whether this start has ended because it is done, so that no other follows."""
         return self.options.done[0] == "exit" and start.status == 0
 
     def finish(self):
-        """Whether the program has done its work within its patience."""
+        """Waits until the work is done, at most as long as the run's patience; whether it is."""
         end, twice = time.monotonic() + self.patience, 0
         while not self.fault and time.monotonic() < end:
             if self.is_done():
@@ -154,7 +161,7 @@ class Run(Watch):
         return False
 
     def are_awake(self):
-        """Each instance that was stopped has gone on for some seconds, or has ended."""
+        """Whether each instance that was stopped has gone on for SLEPT seconds, or has ended."""
         return all(it.woken is None or it.status is not None or time.monotonic() > it.woken + SLEPT
             for it in self.slots.all) and not self.striking
 
@@ -166,7 +173,7 @@ class Run(Watch):
             if kind == "quiet":
                 return time.monotonic() > self.heard + (limit if self.fed else QUIET)
             if kind == "count":
-                return sum(len(it) for _, it in self.visible()) >= limit
+                return len(self.output()) >= limit
             groups = [self.options.group] if self.options.group else self.watched or self.committing()
             return bool(groups) and all(
                 (self.client.committed(group, topic, partition) or -1) > last
@@ -175,12 +182,12 @@ class Run(Watch):
             return False
 
     def committing(self):
-        """The groups that committed offsets of the input."""
+        """The groups that have committed offsets."""
         with self.changed:
             return [it for it, commits in self.groups.items() if commits]
 
     def settle(self):
-        """Aborts what is open, as a next start would; the transactional ids, where that isn't enough."""
+        """Aborts open transactions, as a next start would; the transactional ids of those that stay open, or None."""
         if not self.options.outputs:
             return None
         refused = []
@@ -204,7 +211,7 @@ class Run(Watch):
                 yield (topic, partition), self.client.read(topic, partition)
 
     def output(self):
-        """What is compared: (place, key, value) of each record, in the order of its place."""
+        """The output that is compared: (partition, key, value) of each record. Lines have neither partition nor key."""
         found = []
         for (topic, partition), own in self.visible():
             found += [("%s-%d" % (topic, partition), it.key, it.value) for it in own]
@@ -226,16 +233,24 @@ class Run(Watch):
             state, words = "unfinished", "the input wasn't done %d s after its last record" % self.patience
         else:
             state, words = "ended", ""
-        last = next((it.last_words() for it in reversed(self.slots.all) if it.last_words()), [])
         return Result(self.case, state, words, output, self.events, self.fired, time.monotonic() - self.begun, audit,
-            self.points(), last, self.committing(), self.session, self.facts(), self.ends)
+            self.points(), self.last_words(), self.committing(), self.session, self.facts(), self.ends,
+            late.sentences(self.transacted, self.kills))
+
+    def last_words(self):
+        """Those of the last start that ended by itself, or else of the last start that wrote some."""
+        for it in sorted(reversed(self.slots.all), key=lambda it: not it.gave_up):
+            words = it.last_words()
+            if words:
+                return words
+        return []
 
     def fault_is_ours(self):
-        return self.ours or self.fault is not None and not self.slots.all
+        """Whether the server failed: it ended by itself, or something went wrong before the program was started."""
+        return self.ours or self.is_alone() and self.fault is not None and not self.slots.all
 
     def points(self):
-        """The requests of the first start before the tail, with how many there were; what comes only
-        after it (a timer's commit) is there too."""
+        """How many requests of each API the first start made before the tail, or after it if there were none before."""
         before, all_of_it = collections.Counter(), collections.Counter()
         for it in self.events:
             if it.exchange is None or (it.start.slot, it.start.number) != (1, 1):
@@ -247,5 +262,5 @@ class Run(Watch):
         return {name: before[name] or count for name, count in all_of_it.items()}
 
     def facts(self):
-        """What the undisturbed requests tell of the program, for advice."""
+        """The requests that were answered, with their starts."""
         return [(it.start, it.exchange) for it in self.events if it.exchange is not None]

@@ -1,4 +1,4 @@
-"""For the tests: a server that records what it is asked, and a client that asks what a test says."""
+"""For the tests: a server that records its requests, and a client that makes the requests of a test."""
 import collections
 import socket
 import tempfile
@@ -15,7 +15,7 @@ Asked = collections.namedtuple("Asked", "name fields")
 
 
 class Server:
-    """Answers each request with code 0, or with what `answers` has for its API: fields, or a function of them."""
+    """Answers each request with code 0, or as `answers` says for its API: by fields, or by a function of the request."""
 
     def __init__(self):
         self.asked, self.answers, self.starts, self.kills = [], {}, 0, 0
@@ -94,7 +94,7 @@ class Server:
         return True, "audit yes"
 
     def names(self):
-        """What was asked, but for what the harness asks to find its way."""
+        """The APIs of the requests, without ApiVersions and FindCoordinator."""
         with self.lock:
             return [it.name for it in self.asked if it.name not in ("ApiVersions", "FindCoordinator")]
 
@@ -116,7 +116,7 @@ class Client:
         return self.correlation
 
     def take(self):
-        """The next answer: correlation and fields; None where the connection has ended."""
+        """The correlation id and the fields of the next answer, or None if the connection has ended."""
         try:
             frame = read_frame(self.socket)
         except ConnectionError:
@@ -135,7 +135,7 @@ class Client:
 
 
 class Scene:
-    """A run with a scripted server, and a program that only sleeps: the test speaks for it."""
+    """A run with a scripted server, and a program that only sleeps, whose requests the test makes."""
 
     def __init__(self, only=None, words=()):
         self.folder = tempfile.TemporaryDirectory(prefix="kx-test-")

@@ -1,8 +1,13 @@
-"""What happened in a run, in sentences, and what its undisturbed requests say of the program."""
+"""What happened in a run, in sentences."""
+import collections
+import sys
+
+import codes
 import records
 from verdict import text
 
 OFFSETS = ("OffsetCommit", "TxnOffsetCommit")
+WORK = OFFSETS + ("Produce", "AddPartitionsToTxn", "AddOffsetsToTxn", "EndTxn")
 
 
 def values(exchange):
@@ -27,46 +32,79 @@ def offsets(exchange):
 def answer(exchange):
     """How an exchange ended: its code, and whether the program got to know."""
     if exchange.made_up:
-        return "was refused with %d" % exchange.code
+        return "was refused with " + codes.named(exchange.code)
     if not exchange.passed:
         return "wasn't passed on"
     if exchange.code is None:
         return "was passed on"
-    return "was answered %d" % exchange.code
+    return "was answered " + codes.named(exchange.code)
 
 
 def short(result, found):
     """The sentences that matter: the faults, where later starts began, and what was lost or doubled."""
-    told, fault = [], None
-    for it in result.events:
-        if it.exchange is not None and it.text:
-            if it.exchange is not fault:
-                fault = it.exchange
-                told.append("%s of %s %s" % (fault, it.start, answer(fault)))
-            told.append(it.text)
-    told += begun(result)
+    told = happened(result.events)
     for item in found.doubled[:3]:
         told += written(result, item[-1])
     for item in found.lost[:3]:
         told += missing(result, item[-1])
-    return told or [result.words]
+    return told + result.late or [result.words]
 
 
-def begun(result):
-    """Where starts after the first began to read."""
-    told, seen = [], set()
-    for it in result.events:
-        if it.exchange is None or it.text or it.exchange.name != "Fetch" or not it.exchange.fields:
-            continue
-        for topic in it.exchange.fields["topics"]:
-            for part in topic["parts"]:
-                place = (it.start, topic["name"], part["index"])
-                if place not in seen:
-                    seen.add(place)
-                    if (it.start.slot, it.start.number) != (1, 1):
-                        told.append("%s read %s-%d from offset %d" % (
-                            it.start, topic["name"], part["index"], part["offset"]))
-    return told[:6]
+class Sentences:
+    """Sentences in order, of some kinds a bounded number."""
+
+    MOST = {"end": 4, "refusal": 4, "read": 6}
+
+    def __init__(self):
+        self.all, self.counts = [], collections.Counter()
+
+    def add(self, kind, words):
+        self.counts[kind] += 1
+        if self.counts[kind] <= self.MOST.get(kind, sys.maxsize):
+            self.all.append(words)
+
+
+def happened(events):
+    """What faults did, which starts were refused something or ended, and where later starts began to read."""
+    sentences, read, seen = Sentences(), set(), collections.Counter()
+    notes = collections.Counter(it.exchange for it in events if it.exchange is not None and it.text)
+    for it in events:
+        if it.exchange is None:
+            if it.start is not None and not it.start.killed:
+                sentences.add("end", it.text)
+        elif it.text:
+            seen[it.exchange] += 1
+            for words in struck(it, seen[it.exchange] == 1, seen[it.exchange] == notes[it.exchange]):
+                sentences.add("fault", words)
+        elif it.exchange.name in WORK and it.exchange.code and not it.exchange.made_up and it.exchange not in notes:
+            sentences.add("refusal", "%s of %s %s" % (it.exchange, it.start, answer(it.exchange)))
+        elif it.exchange.name == "Fetch" and (it.start.slot, it.start.number) != (1, 1):
+            for words in began(it, read):
+                sentences.add("read", words)
+    return sentences.all
+
+
+def struck(event, is_first, is_last):
+    """What a fault did to a request, and how the request was answered: before that, or after it."""
+    it = event.exchange
+    if it.made_up:
+        return ["%s of %s: %s" % (it, event.start, event.text)]
+    if it.passed_at is None or it.passed_at < it.struck_at:
+        return (["%s of %s %s" % (it, event.start, answer(it))] if is_first else []) + [event.text]
+    named = "%s of %s: %s" % (it, event.start, event.text) if is_first else event.text
+    return [named] + (["%s %s" % (it, answer(it))] if is_last else [])
+
+
+def began(event, read):
+    """The offsets at which a start began to read; `read` has the partitions that were told before."""
+    told = []
+    for topic in (event.exchange.fields or {}).get("topics", []):
+        for part in topic["parts"]:
+            place = (event.start, topic["name"], part["index"])
+            if place not in read:
+                read.add(place)
+                told.append("%s read %s-%d from offset %d" % (event.start, topic["name"], part["index"], part["offset"]))
+    return told
 
 
 def written(result, value):
@@ -106,7 +144,7 @@ def long(result):
     for it in result.events:
         who = str(it.start) if it.start else ""
         if it.text:
-            told.append((it.at, who, ("%s: " % it.exchange if it.exchange is not None else "") + it.text))
+            told.append((it.at, who, noted(it)))
             last = None
         elif it.exchange.name in TOLD or it.exchange.code:
             name, after = it.exchange.name, answer(it.exchange) + detail(it.exchange)
@@ -118,7 +156,18 @@ def long(result):
     return told
 
 
+def noted(event):
+    """A note, with the request that it is about; and with its answer, if the program never got that."""
+    it = event.exchange
+    if it is None:
+        return event.text
+    if it.given:
+        return "%s: %s" % (it, event.text)
+    return "%s %s%s, and %s" % (it, answer(it), detail(it), event.text)
+
+
 def detail(exchange):
+    """What matters of a request's fields."""
     fields = exchange.fields or {}
     if exchange.name == "Produce":
         return ": " + ", ".join("\"%s\"" % text(it) for it in values(exchange)[:5])
@@ -129,37 +178,3 @@ def detail(exchange):
     if exchange.name == "InitProducerId":
         return ": %s" % fields.get("txn") if fields.get("txn") else ": without a transactional id"
     return ""
-
-
-def advice(results):
-    """What the undisturbed requests give away: a mistake and its mend, a sentence each."""
-    all_of_it = [[exchange for _, exchange in it.facts if exchange.fields is not None] for it in results]
-    found = [exchange for facts in all_of_it for exchange in facts]
-    names = {it.name for it in found}
-    txns = [{it.fields["txn"] for it in facts if it.name == "InitProducerId" and it.fields["txn"]} for facts in all_of_it]
-    told = []
-    if any(txns):
-        if "OffsetCommit" in names:
-            told.append("Offsets are committed outside the transaction (OffsetCommit). Send them with it: "
-                "send_offsets_to_transaction, before the commit.")
-        if len(txns) > 1 and all(txns) and not set.intersection(*txns):
-            told.append("Each start has a new transactional id, so nothing fences an earlier start that still runs. "
-                "Make the id of something that stays: a slot, a partition.")
-        if any(it.name == "Produce" and it.fields["txn"] is None and it.fields["acks"] for it in found):
-            told.append("Some output is written outside a transaction. Begin the transaction before the first record.")
-        if any(it.name == "TxnOffsetCommit" and it.fields.get("member", "") == "" for it in found) and "JoinGroup" in names:
-            told.append("Offsets are sent without the group's metadata, so a member that was replaced isn't fenced. "
-                "Pass consumer_group_metadata().")
-    elif any(it.name == "InitProducerId" for it in found) and names & {"OffsetCommit"}:
-        told.append("The producer is idempotent only: it repeats no batch by itself, but a new start reads and writes "
-            "again what the last one had not committed. Give it a transactional.id and commit offsets in the transaction.")
-    elif "OffsetCommit" in names and "Produce" in names:
-        told.append("Output and offsets are written one after the other, without a transaction: a crash in between "
-            "loses or doubles. Use a transactional producer and send the offsets with its transaction.")
-    if any(it.name == "Fetch" and it.fields["isolation"] == 0 for it in found):
-        told.append("It reads uncommitted records (isolation.level): set read_committed.")
-    if "OffsetCommit" in names and "Produce" in names:
-        order = [it.name for it in all_of_it[0] if it.name in ("OffsetCommit", "Produce")]
-        if order and order[0] == "OffsetCommit":
-            told.append("The first offset is committed before the first output is written.")
-    return told

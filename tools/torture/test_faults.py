@@ -85,6 +85,16 @@ class Kills(unittest.TestCase):
     def test_after(self):
         self.check("kill-after", ["JoinGroup", "EndTxn", "LeaveGroup"])
 
+    def test_all_members_of_a_start_leave(self):
+        """A program may have several consumers in a group."""
+        with Scene("EndTxn#1:kill-before") as scene:
+            for name in ("member-1", "member-2"):
+                scene.client().ask("JoinGroup", group="g", member=name, session=1, rebalance=1, type="consumer")
+            scene.client().ask("EndTxn", **END)
+            scene.wait(lambda: scene.server.names().count("LeaveGroup") == 2)
+            left = [it.fields["members"][0]["member"] for it in scene.server.asked if it.name == "LeaveGroup"]
+            self.assertEqual(left, ["member-1", "member-2"])
+
     def test_slow_members_stay(self):
         with Scene("EndTxn#1:kill-before", ["--slow"]) as scene:
             client = scene.client()

@@ -72,8 +72,8 @@ class AnotherClient(unittest.TestCase):
     PLACES = {"Produce": "produce", "Fetch": "fetch", "ListOffsets": "offset", "Metadata": "metadata",
         "OffsetCommit": "commit", "OffsetFetch": "commit", "JoinGroup": "group", "SyncGroup": "group",
         "Heartbeat": "group", "LeaveGroup": "group"}
-    # kafka-python 2.0.2 has a leader epoch of 64 bits in ListOffsets, where Kafka's has 32, and the
-    # records that Produce 8 refuses behind the partitions, where Kafka has them in each
+    # kafka-python 2.0.2 has a leader epoch of 64 bits in ListOffsets (32 in Kafka), and the records that
+    # Produce 8 refuses after all partitions (in each partition in Kafka)
     WRONG = {("ListOffsets", "Request", 4), ("ListOffsets", "Request", 5), ("Produce", "Response", 8)}
 
     def test_both_read_the_same(self):

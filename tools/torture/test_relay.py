@@ -69,7 +69,7 @@ class Passing(unittest.TestCase):
             self.assertEqual(told, [(1, "EndTxn#1"), (1, "EndTxn#2"), (1, "Heartbeat#1"), (2, "EndTxn#1")])
 
     def test_names_of_a_run(self):
-        """Where runs share a Kafka each has topics, groups and ids of its own, and the program sees its own names."""
+        """If runs share a Kafka, each has topics, groups and ids of its own, and the program sees its own names."""
         with Scene() as scene:
             scene.run.prefix = "torture-1-"
             scene.server.answers["Metadata"] = {"topics": [{"name": "torture-1-bills"}, {"name": "torture-2-bills"}]}

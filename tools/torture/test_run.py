@@ -1,6 +1,8 @@
 """A run from its input to its output, and what the undisturbed runs have to be, against a scripted server."""
+import tempfile
 import unittest
 from types import SimpleNamespace
+from unittest import mock
 
 import options
 import records
@@ -29,7 +31,7 @@ class Inputs(unittest.TestCase):
                 ["InitProducerId", "Produce", "Produce"])
 
     def test_a_record_is_written_once(self):
-        """Where its answer was lost it is sent again, with the same id and sequence."""
+        """If its answer is lost, it is sent again with the same id and sequence."""
         with Scene() as scene:
             answers = iter([{"topics": [{"name": "in", "parts": [{"index": 0, "error": 7}]}]}] * 2)
             scene.server.answers["Produce"] = lambda asked: next(answers, {"topics": [
@@ -41,7 +43,7 @@ class Inputs(unittest.TestCase):
             self.assertEqual([(it.pid, it.epoch, it.sequence) for it in sent], [(7, 0, 0)] * 3 + [(7, 0, 1)])
 
     def test_between_aborted_transactions(self):
-        """Before, between and behind the records of each partition."""
+        """Before, between and after the records of each partition."""
         with Scene() as scene:
             scene.run.case = run.undisturbed("aborted", True)
             scene.run.fill()
@@ -82,7 +84,7 @@ class Settling(unittest.TestCase):
             self.assertEqual(asked[2:], [("t", 5000), ("u", 60000)])
 
     def test_blocked(self):
-        """Where the last stable offset stays behind, the transactional ids are told."""
+        """If the last stable offset doesn't reach the end, the transactional ids are named."""
         kept, run.STABLE = run.STABLE, 0.2
         try:
             with Scene() as scene:
@@ -104,6 +106,19 @@ class Outputs(unittest.TestCase):
         with Scene() as scene:
             scene.server.answers.update(ListOffsets=offsets(1, 1), Fetch=fetch)
             self.assertEqual(scene.run.output(), [("out-0", b"k", b"0")])
+
+
+class LastWords(unittest.TestCase):
+    def test_of_a_start_that_ended_by_itself(self):
+        """Later starts may have logged something too, which explains nothing."""
+        with Scene() as scene:
+            first, second = scene.start, scene.run.begin(2)
+            for it, words in ((first, "a\nb\n\nc\nd\n"), (second, "a log line\n")):
+                with open(it.files[1], "w", encoding="ascii") as file:
+                    file.write(words)
+            self.assertEqual(scene.run.last_words(), ["a log line"])
+            first.gave_up = True
+            self.assertEqual(scene.run.last_words(), ["b", "c", "d"])
 
 
 class Undisturbed(unittest.TestCase):
@@ -151,6 +166,16 @@ class Undisturbed(unittest.TestCase):
         status, words = self.ended(self.ONE, self.ONE, self.ONE, state="unfinished")
         self.assertEqual(status, 3)
         self.assertIn("boom", words)
+
+    def test_a_server_that_failed(self):
+        self.assertEqual(self.ended(self.ONE, self.ONE, self.ONE, state="failed")[0], 5)
+
+    def test_a_broker_that_is_not_there(self):
+        """That of --against isn't ours, so the run has only failed."""
+        given = options.options(["--against", "127.0.0.1:9"] + self.WORDS)
+        with tempfile.TemporaryDirectory() as folder, mock.patch.object(run.Run, "fill", side_effect=OSError("refused")):
+            found = run.Run(given, run.undisturbed("plain", False), folder, 60).go()
+        self.assertEqual((found.state, found.words), ("unfinished", "refused"))
 
     def test_nothing_written(self):
         self.assertEqual(self.ended([], [], [])[0], 3)

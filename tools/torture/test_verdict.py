@@ -54,7 +54,7 @@ class Comparing(unittest.TestCase):
         self.assertEqual(sign([WANTED[2], WANTED[0], WANTED[1]], "--ordered"), ".")
 
     def test_check(self):
-        """The user's own comparison is given both as files, and its last line is told."""
+        """The user's own comparison is given both as files, and its last line is the verdict's words."""
         same = "diff"
         self.assertEqual(sign(WANTED, "--check", same), ".")
         self.assertEqual(sign(WANTED[1:], "--check", same), "X")

@@ -1,18 +1,19 @@
 """All runs of one program: the undisturbed ones, then a run for each case; status 0 to 5."""
 import collections
 import concurrent.futures
-import glob
 import os
 import shutil
 import signal
 import sys
 import tempfile
 import threading
+import time
 
 import options as command_line
 import plan
 import processes
 import report
+import server
 import story
 import verdict
 from run import Run, undisturbed
@@ -25,7 +26,7 @@ Outcome = collections.namedtuple("Outcome", "result verdict folder")
 
 
 class Ended(Exception):
-    """The torture can't go on: a status and words."""
+    """No more runs can be made: has the exit status, and words that say why."""
 
     def __init__(self, status, words):
         super().__init__(words)
@@ -33,7 +34,7 @@ class Ended(Exception):
 
 
 class Torture:
-    """The runs, side by side."""
+    """All runs, several at a time, and what the undisturbed ones have shown."""
 
     def __init__(self, options, report):
         self.options, self.report = options, report
@@ -42,6 +43,8 @@ class Torture:
         self.patience, self.groups, self.expected = PATIENCE, (), None
 
     def run(self, case):
+        if processes.closed:
+            raise OSError("the harness is ending")
         with self.lock:
             self.number += 1
             folder = os.path.join(self.top, "run-%03d" % self.number)
@@ -49,7 +52,7 @@ class Torture:
         return Run(self.options, case, folder, self.patience, self.groups, prefix).go(), folder
 
     def prepare(self, pool):
-        """Three undisturbed runs: they have to agree, and tell what can be asked of the others."""
+        """Makes the undisturbed runs, which have to agree. The first has the output that is expected of all others."""
         cases = [undisturbed("plain", False), undisturbed("plain again", False),
             undisturbed("with aborted input", True)]
         if not self.options.inputs:
@@ -58,6 +61,8 @@ class Torture:
         for result, folder in results:
             if not result.audit[0]:
                 raise Ended(AUDIT, "the server's audit said: %s (%s)" % (result.audit[1], folder))
+            if result.state == "failed":
+                raise Ended(AUDIT, "a fault of the server: %s" % result.words)
             if result.state != "ended":
                 raise Ended(UNDISTURBED, self.failed(result))
         first = results[0][0]
@@ -102,7 +107,7 @@ class Torture:
         results = self.prepare(pool)
         first = results[-1][0]
         cases = plan.plan(first.points, self.options)
-        self.report.begin(results, cases, self)
+        self.report.begin([it for it, _ in results], cases, self.expected)
         futures = [pool.submit(self.one, case) for case in cases]
         outcomes = []
         try:
@@ -120,7 +125,7 @@ class Torture:
         found = verdict.judge(result, self.expected, self.options, folder)
         dull = found.sign in (verdict.SAME, verdict.MISSED)
         if dull:
-            # its story isn't told, and there may be thousands
+            # nobody reads its story, and there may be thousands of such runs
             result = result._replace(events=[], facts=[], output=None)
         if dull or not self.options.keep:
             shutil.rmtree(folder, ignore_errors=True)
@@ -129,16 +134,23 @@ class Torture:
         return Outcome(result, found, folder)
 
     def keep(self, result, folder):
-        """Beside what the run left: its story, and the page of what the server did."""
+        """Writes the run's story and the page of what the server did into its folder."""
         with open(os.path.join(folder, "story.txt"), "w", encoding="utf-8", errors="replace") as it:
             it.write("".join("%7.2f %-20s %s\n" % line for line in story.long(result)))
         if self.options.program:
-            processes.run([self.options.program, "audit", os.path.join(folder, "traces"), "--dir",
+            processes.run(self.options.program + ["audit", os.path.join(folder, "traces"), "--dir",
                 os.path.join(folder, "logs"), "--page", os.path.join(folder, "page.html")])
 
     def end(self):
-        if not self.options.keep or not os.listdir(self.top):
+        """Removes the folders of all runs, unless some are kept."""
+        if self.options.keep and os.listdir(self.top):
+            return
+        for _ in range(50):
             shutil.rmtree(self.top, ignore_errors=True)
+            if not os.path.exists(self.top):
+                return
+            # threads of abandoned runs may still write there, until they see that their processes have ended
+            time.sleep(0.1)
 
 
 def status(outcomes):
@@ -147,43 +159,24 @@ def status(outcomes):
         return AUDIT
     if verdict.DIFFERS in signs:
         return DIFFER
-    # what no fault reached was not tried
+    # a fault that was never reached has shown nothing
     return UNFINISHED if verdict.UNFINISHED in signs or signs == {verdict.MISSED} else SAME
-
-
-def program(options):
-    """The server program, and what is said of it: the proved one if it is built."""
-    if options.against:
-        return None, "against %s:%d, whose broker nobody proved" % options.against
-    if options.program:
-        if not os.access(options.program, os.X_OK):
-            raise command_line.Wrong("--program %s: no such program" % options.program)
-        return os.path.realpath(options.program), "server: %s" % options.program
-    built = os.path.join(options.top, "crates", "kx_main", "out")
-    proved = os.path.join(built, "kx_main")
-    if os.access(proved, os.X_OK):
-        return proved, "server: the proved program, crates/kx_main/out/kx_main"
-    unproved = sorted(glob.glob(os.path.join(built, "kx_unproved-*")), key=os.path.getmtime)
-    if unproved:
-        return unproved[-1], "server: an unproved program, crates/kx_main/out/%s" % os.path.basename(unproved[-1])
-    raise command_line.Wrong("no server program is built: ./kx --help builds the proved one, or name one by --program")
 
 
 def main(words):
     try:
         options = command_line.options(words)
-        options.program, said = program(options)
-    except command_line.Wrong as wrong:
+        options.program, name = server.choose(options)
+    except (command_line.Wrong, server.Missing) as wrong:
         print("torture: %s" % wrong, file=sys.stderr)
         return WORDS
-    print(said, flush=True)
     signal.signal(signal.SIGINT, stop)
     signal.signal(signal.SIGTERM, stop)
-    told = report.Report(options, words)
-    it = Torture(options, told)
+    reports = report.Report(options, words, name)
+    it = Torture(options, reports)
     try:
         results, outcomes = it.go()
-        told.end(outcomes, status(outcomes))
+        reports.end(outcomes, status(outcomes))
         return status(outcomes)
     except Ended as ended:
         print("torture: %s" % ended, file=sys.stderr)
@@ -197,5 +190,5 @@ def main(words):
 
 
 def stop(*_):
-    """Ctrl-C, also where a shell that put the harness in the background had it ignored."""
+    """Ends everything on SIGINT, which a shell ignores for commands in the background, and on SIGTERM."""
     raise KeyboardInterrupt

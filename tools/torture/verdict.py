@@ -13,18 +13,19 @@ def text(value):
 
 
 def counted(output, options):
-    """What is compared, as often as it is there."""
+    """How often each item of an output is there. Items are topic, key and value, or topic and key alone."""
     if options.by_key:
         return collections.Counter((topic(place), key) for place, key, _ in output)
     return collections.Counter((topic(place), key, value) for place, key, value in output)
 
 
 def topic(place):
+    """The topic of a partition's name, such as paid-0."""
     return place.rpartition("-")[0]
 
 
 def in_order(output, options):
-    """The values of each key, or of each place for records without one, in order."""
+    """The values of each key in order, or of each partition for records without a key."""
     found = collections.defaultdict(list)
     for place, key, value in output:
         found[(topic(place), key) if key is not None else (place, key)].append(None if options.by_key else value)
@@ -32,7 +33,7 @@ def in_order(output, options):
 
 
 def compare(expected, output, options, folder):
-    """Verdict on an output, against that of the first undisturbed run."""
+    """Compares an output with that of the first undisturbed run."""
     if options.check:
         agreed, words = check(options.check, expected, output, folder)
         lost, doubled = difference(expected, output, options)
@@ -52,6 +53,7 @@ def compare(expected, output, options, folder):
 
 
 def difference(expected, output, options):
+    """The items that are lost, and those that are there too often."""
     wanted, found = counted(expected, options), counted(output, options)
     return sorted((wanted - found).elements(), key=repr), sorted((found - wanted).elements(), key=repr)
 
@@ -66,19 +68,20 @@ def sentence(lost, doubled):
 
 
 def some(items, most=5):
-    told = ", ".join(text(it[-1]) or text(it[1]) for it in items[:most])
-    return told + (" and %d more" % (len(items) - most) if len(items) > most else "")
+    """The first values of some items, or their keys."""
+    words = ", ".join(text(it[-1]) or text(it[1]) for it in items[:most])
+    return words + (" and %d more" % (len(items) - most) if len(items) > most else "")
 
 
 def lines(output):
-    """An output as lines of a file: topic, key and value with tabs between; backslashes lead."""
+    """An output as lines of a file: topic, key and value, with tabs between. A tab in them is \\t, a new line \\n."""
     def plain(value):
         return text(value).replace("\\", "\\\\").replace("\t", "\\t").replace("\n", "\\n")
     return "".join("%s\t%s\t%s\n" % (topic(place), plain(key), plain(value)) for place, key, value in output)
 
 
 def check(command, expected, output, folder):
-    """The user's own comparison: COMMAND EXPECTED FOUND."""
+    """Runs the user's own comparison, COMMAND EXPECTED FOUND; whether it agrees, and its last line."""
     names = []
     for name, content in (("expected.txt", expected), ("found.txt", output)):
         names.append(os.path.join(folder, name))
@@ -90,14 +93,14 @@ def check(command, expected, output, folder):
 
 
 def judge(result, expected, options, folder):
-    """The sign of a run."""
+    """The verdict on a run. The audit comes first, since a broken server proves nothing about the program."""
     if not result.audit[0]:
         return Verdict(OURS, "the server's audit said: " + result.audit[1], [], [])
     if result.state == "failed":
         return Verdict(OURS, result.words, [], [])
     if result.output is not None and result.state != "blocked":
         found = compare(expected, result.output, options, folder)
-        # what is there too often stays so, however long one waits
+        # a lost record may still come while a run isn't finished, but a doubled one stays
         stays = found.doubled and options.promise != "at-least" and not options.check
         if found.sign == DIFFERS and (result.state == "ended" or stays):
             return found

@@ -1,21 +1,28 @@
-"""What goes on in a run while its program works: what the relays tell, and what faults ask for."""
+"""The state of a run while its program works: what relays report, and what faults need.
+
+Each connection has a thread of its own. They share this state under one lock, `changed`, whose holder may wait
+until another thread changes the state.
+"""
 import collections
 import signal
 import threading
 import time
 
+import late
 import processes
 from client import Client, Refused
 from faults import BY_NAME
 from instances import Slots
 
 Point = collections.namedtuple("Point", "api number fault")
+# `exchange` and `text` may each be None: an answered request, a note, or a note on a request.
 Event = collections.namedtuple("Event", "at start exchange text")
+# The transaction timeout in ms of a transactional id whose InitProducerId wasn't seen.
 TIMEOUT = 60000
 
 
 def news_of(exchange):
-    """What an answer says that could be new: of a Fetch its records, of others request and answer."""
+    """What may be new in an answer: the records of a Fetch, if it has some; else the request and the answer."""
     if exchange.name == "Fetch" and exchange.response is not None:
         found = [part["records"] for topic in exchange.response["topics"] for part in topic["parts"] if part["records"]]
         return tuple(found) or None
@@ -23,21 +30,31 @@ def news_of(exchange):
 
 
 class Watch:
-    """Counts, learns and notes requests, and lets faults hit them. Threads wait for `changed` alone."""
+    """What is known of a run, and the points at which faults are still to come."""
 
     def __init__(self, options, points, folder, prefix):
         self.options, self.folder = options, folder
-        # of its names, where runs share a Kafka
+        self.begun = time.monotonic()
+        # put before each name, if runs share a Kafka
         self.prefix = prefix
         self.changed = threading.Condition(threading.RLock())
-        self.slots, self.events, self.seen = Slots(self), [], set()
+        self.slots, self.events = Slots(self), []
+        # when something new was answered last, and all answers that were new
+        self.heard, self.seen = self.begun, set()
+        # points that are still to come, requests since the last one that came, and faults of several requests:
+        # [start, API, fault, how many times still]
         self.left, self.since, self.sticky = list(points), collections.Counter(), []
+        # how many faults have hit, and how many of them are at work now
         self.fired = self.striking = 0
-        self.heard = self.begun = time.monotonic()
+        # how often each group has committed offsets, timeouts by transactional id, the longest session in seconds
         self.groups, self.txns, self.session = collections.OrderedDict(), {}, 0
-        self.server = self.fault = None
-        self.down = self.ours = False
-        # how starts ended that weren't killed: with which status, and last words
+        # requests of transactions, also those whose answers never came
+        self.transacted = []
+        # why the run can't be finished, and whether that is the server's fault
+        self.fault, self.ours = None, False
+        # the server, whether it is being started again, and when it was killed
+        self.server, self.down, self.kills = None, False, []
+        # (start, status, last words) of starts that ended and weren't killed
         self.ends = []
         self.client = Client(self.address, prefix)
         if self.is_alone():
@@ -55,10 +72,11 @@ class Watch:
         return self.down
 
     def restart_server(self):
-        """As after a crash. All connections break; the relay's addresses stay."""
+        """Kills the server and starts it again. All connections are closed, and the relays keep their addresses."""
         with self.changed:
             self.down = True
         self.server.kill()
+        self.kills.append(time.monotonic())
         for it in list(self.slots.all):
             it.relay.cut()
         self.client.close()
@@ -73,10 +91,10 @@ class Watch:
             for it in self.slots.all:
                 it.members.clear()
 
-    # what the relay tells
+    # what relays report
 
     def meet(self, it):
-        """A request has come: it meets its fault, or is passed on."""
+        """A request has come: its fault hits it, or it is passed on."""
         self.learn(it)
         strike = self.strike_for(it)
         if strike is None:
@@ -91,9 +109,11 @@ class Watch:
                 self.changed.notify_all()
 
     def learn(self, it):
-        """Groups, transactional ids and timeouts that requests name."""
+        """Notes groups, transactional ids and timeouts that a request names."""
         fields = it.fields or {}
         with self.changed:
+            if it.name in late.NAMES and it.fields is not None:
+                self.transacted.append(it)
             if "txn" in fields and fields["txn"] is not None:
                 it.start.txns.add(fields["txn"])
                 self.txns.setdefault(fields["txn"], TIMEOUT)
@@ -107,7 +127,7 @@ class Watch:
                     self.changed.notify_all()
 
     def strike_for(self, it):
-        """The fault that hits this request. The second of a pair counts from the first on."""
+        """The fault that hits this request, or None. The second of a pair is counted from the first on."""
         with self.changed:
             for entry in list(self.sticky):
                 start, name, strike = entry[:3]
@@ -136,16 +156,17 @@ class Watch:
             return BY_NAME[point.fault].strike
 
     def repeat(self, it, times, strike):
-        """Hits the next requests of this kind by this start too."""
+        """Hits the next requests of the same API by the same start too, so many times."""
         with self.changed:
             self.sticky.append([it.start, it.name, strike, times])
 
     def answered(self, it):
-        """An answer has come from the server. A member that its program doesn't know leaves again."""
+        """An answer has come from the server. If its program can't learn of its new member, the member leaves."""
         if it.name == "JoinGroup" and it.code == 0 and (it.link.closed or it.start.killed):
             self.forget(it)
 
     def forget(self, it):
+        """A member leaves whose program was never told its name, since the group would wait for it."""
         if it.name == "JoinGroup" and it.code == 0 and not self.options.slow and (
                 it.start.status is not None or it.start.killed or it.fields["member"] == ""):
             self.client.leave(it.fields["group"], it.response["member"])
@@ -156,9 +177,10 @@ class Watch:
         with self.changed:
             start.answers += 1
             if it.name == "JoinGroup" and code in (0, 79):
-                start.members[it.fields["group"]] = it.response["member"]
+                start.members.add((it.fields["group"], it.response["member"]))
             elif it.name == "LeaveGroup" and code == 0:
-                start.members.pop(it.fields["group"], None)
+                for member in [it.fields.get("member")] + [one["member"] for one in it.fields.get("members") or []]:
+                    start.members.discard((it.fields["group"], member))
             elif it.name == "Heartbeat" and code == 27:
                 start.rebalanced = True
             elif code == 0 and it.name in ("OffsetCommit", "TxnOffsetCommit"):
@@ -178,29 +200,34 @@ class Watch:
             self.changed.notify_all()
 
     def tell(self, text, it):
+        """Notes what a fault does to a request."""
+        it.struck_at = it.struck_at or time.monotonic()
         self.note(it.start, it, text)
 
     def ended(self, start):
-        """A start has ended: its members leave, as their sessions would end."""
+        """A start has ended: its members leave now, rather than at the end of their sessions."""
         if not self.options.slow and not self.is_down():
             self.leave(start)
         with self.changed:
             if not self.slots.ending:
                 how = "was killed" if start.killed else "ended with status %s" % start.status
                 if not start.killed:
+                    start.gave_up = True
                     self.ends.append((str(start), start.status, start.last_words(1)))
                 self.note(start, None, "%s %s" % (start, how))
                 self.heard = time.monotonic()
             self.changed.notify_all()
 
     def fail(self, words):
+        """Ends the run: it can't be finished."""
         with self.changed:
             self.fault = self.fault or words
             self.changed.notify_all()
 
-    # what faults ask for
+    # what faults need
 
     def wait_for(self, what, seconds):
+        """Waits until something holds, at most so long; whether it does."""
         with self.changed:
             return self.changed.wait_for(lambda: what() or self.fault, max(0, seconds))
 
@@ -221,17 +248,20 @@ class Watch:
         processes.send(start.process, signal.SIGCONT)
 
     def begin(self, slot):
+        """A new start in slot 1, beside the one that is there; in slot 2 the one that is there, or a new one."""
         if slot in self.slots.current and slot != 1:
             return self.slots.current[slot]
         return self.slots.begin(slot)
 
     def leave(self, start):
+        """The members of a start leave their groups."""
         with self.changed:
-            members, start.members = dict(start.members), {}
-        for group, member in members.items():
+            members, start.members = sorted(start.members), set()
+        for group, member in members:
             self.client.leave(group, member)
 
     def abort(self, txn):
+        """Aborts the transaction of an id and raises its epoch."""
         try:
             self.client.init(txn, self.txns.get(txn, TIMEOUT))
         except (OSError, Refused):
