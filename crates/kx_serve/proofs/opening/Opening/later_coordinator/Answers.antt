@@ -5,4 +5,4 @@ use Rattle.kx_serve.proofs.opening.Opening.later_coordinator.Goals as goal
 pub returns-in-Ok : goal.returns-in-Ok
 returns-in-Ok g c =
     made c.recorded.result _ (opened_coordinator c.in-Ok.machine.log.notes c.args.self.now.time)
-    c.recorded.ensures.machine c.in-Ok.ensures
+    c.recorded.ensures.machine c.in-Ok.ensures.stands
