@@ -23,7 +23,7 @@ fn is_past(above: u64, id: ProducerId) -> bool
 }
 
 impl Named {
-    /// The ids below this one, of which the coordinator has so many left to allocate.
+    /// The ids below `above`; `left` of them are still to be allocated.
     pub(crate) fn below(above: u64, left: u32) -> Named {
         Named {
             above,
