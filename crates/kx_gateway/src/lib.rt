@@ -18,7 +18,7 @@ mod topics;
 mod transactions;
 mod txn_batch;
 
-pub use code::GatewayCode;
+pub use code::{GatewayCode, coordinator_code};
 pub use fetch::{
     FetchAsk, FetchBudget, aborted_of, ask_fetch, fetch_frame, fetched, refused_fetch,
 };

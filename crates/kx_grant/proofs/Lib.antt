@@ -5,4 +5,5 @@ pub mod Older
 pub mod Places
 pub mod Rises
 pub mod Sends
+pub mod Sent
 pub mod Within

@@ -1,6 +1,6 @@
 -- No older connection is heard again.
 use Rattle.std.proofs.Common.{◌≡◌, ◌⊎◌, ◌<◌, ◌≤◌, ℕ, Bool, true, false, cond, List, [], ◌∷◌}
-use Rattle.std.proofs.Common.{refl, sym, ap, ◌∙◌, subst, inl, inr, Some, arith}
+use Rattle.std.proofs.Common.{refl, sym, ap, ◌∙◌, subst, inl, inr, Some, None, arith}
 use Rattle.std.proofs.lemmas.Bool.Decides.{nat_tests}
 use Rattle.std.specs.Prelude.{Option, not, nat_lt}
 use Rattle.kx_grant.specs.Heard.{Hear, after_hear, after_hears, is_heard, is_newest, newest}
@@ -93,3 +93,12 @@ pub not_heard : (h : Heard) (r : Role) (c older : ℕ) (xs : List Hear) → is_h
 not_heard h r c older xs e lt =
     refused r c older (after_hears (after_hear h r c) xs) lt
     (all_heard r c xs (after_hear h r c) (begins r c h (is_heard h r c) e))
+
+heard_if : (x : Option ℕ) (c : ℕ) → ((last : ℕ) → x ≡ Some last → last ≤ c) → is_newest x c ≡ true
+heard_if None c h = refl
+heard_if (Some last) c h = let no_newer = h last refl in grind (arith, nat_tests, no_newer)
+
+-- the newest connection is heard
+pub newest_heard : (h : Heard) (r : Role) (c : ℕ)
+    → ((last : ℕ) → newest h r ≡ Some last → last ≤ c) → is_heard h r c ≡ true
+newest_heard h r c no_newer = heard_if (newest h r) c no_newer

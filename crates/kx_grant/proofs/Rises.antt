@@ -1,6 +1,6 @@
 -- The core's pairs rise.
 use Rattle.std.proofs.Common.{◌≡◌, ◌≤◌, ◌<◌, ℕ, ℤ, Bool, true, false, cond, List, [], ◌∷◌, refl, ap}
-use Rattle.std.proofs.Common.{inl, inr, Some, None, arith}
+use Rattle.std.proofs.Common.{inl, inr, Some, None, arith, ◌∙◌}
 use Rattle.std.specs.Prelude.{Option, ◌&&◌}
 use Rattle.kx_message.specs.declared.code.ErrorCode.{ErrorCode}
 use Rattle.kx_message.specs.declared.message.Held.{Held}
@@ -10,7 +10,8 @@ use Rattle.kx_grant.specs.Grant.{commit_code, committing}
 use Rattle.kx_grant.specs.Grant.{after_verdict, batch_verdict, counts, ended_empty, gone_on, with_sent}
 use Rattle.kx_grant.specs.Grant.{is_held, noted, stopped_at}
 use Rattle.kx_grant.specs.Steps.{Step, Adds, Batches, Takes, Refuses, Ends, Commits, Goes, Regrants}
-use Rattle.kx_grant.specs.Steps.{AllRaise, Raises, after_all, after_step, all_stay, rank, stays}
+use Rattle.kx_grant.specs.Steps.{AllRaise, Raises, after_all, after_step, all_keep_grant, all_stay}
+use Rattle.kx_grant.specs.Steps.{keeps_grant, rank, stays}
 use Rattle.kx_grant.specs.declared.grant.Grant.{Grant}
 use Rattle.kx_grant.specs.declared.grant.Phase.{Phase}
 use Rattle.kx_grant.specs.declared.grant.Phase.TheVariants as phase
@@ -75,6 +76,23 @@ stepped g (Commits held) e = committed_same (commit_code g held) g
 stepped g (Goes outcome next) e = absurd cc
 stepped g (Regrants asked held) e = absurd cc
 
+both : (a b : Bool) → (a && b) ≡ true → (a ≡ true) × (b ≡ true)
+both true b e = (refl, e)
+both false b e = absurd cc
+
+after_both : (a b d : Grant) → SamePairs a b → SamePairs b d → SamePairs a d
+after_both a b d h k =
+    record { granted = k.granted ∙ h.granted; core = k.core ∙ h.core }
+
+-- as long as the core goes on with the same pair
+pub all_same : (steps : List Step) (g : Grant) → all_stay steps ≡ true
+    → SamePairs g (after_all g steps)
+all_same [] g e = same g
+all_same (s ∷ steps) g e =
+    let b = both (stays s) (all_stay steps) e in
+    after_both g (after_step g s) (after_all (after_step g s) steps) (stepped g s b.0)
+    (all_same steps (after_step g s) b.1)
+
 -- a batch changes neither
 pub batch_same : (g : Grant) (held : Held) (q : ℕ) (first : ℤ) (count : ℕ)
     → SamePairs g (after_step g (Batches held q first count))
@@ -137,6 +155,11 @@ still g s e h =
     ap rank (stepped g s e).granted in
     omega (arith, core, granted, h)
 
+kept : (g : Grant) (s : Step) → stays s ≡ true → rank g.granted ≤ rank (after_step g s).granted
+kept g s e =
+    let same : rank (after_step g s).granted ≡ rank g.granted = ap rank (stepped g s e).granted in
+    omega (arith, same)
+
 -- the granted pair is no newer than the core's
 step_behind : (g : Grant) (s : Step) → Raises g s → rank g.granted ≤ rank g.core
     → rank (after_step g s).granted ≤ rank (after_step g s).core
@@ -154,3 +177,55 @@ pub behind : (steps : List Step) (g : Grant) → rank g.granted ≤ rank g.core 
 behind [] g h r = h
 behind (s ∷ steps) g h r =
     behind steps (after_step g s) (step_behind g s r.0 h) r.1
+
+------ the granted pair
+
+step_above : (g : Grant) (s : Step) → Raises g s → rank g.granted ≤ rank g.core
+    → rank g.granted ≤ rank (after_step g s).granted
+step_above g (Goes outcome next) r h = omega arith
+step_above g (Regrants asked held) r h = omega (arith, r, h)
+step_above g (Adds held q) r h = kept g (Adds held q) refl
+step_above g (Batches held q first count) r h = kept g (Batches held q first count) refl
+step_above g (Takes held q first count) r h = kept g (Takes held q first count) refl
+step_above g (Refuses held q first count) r h = kept g (Refuses held q first count) refl
+step_above g (Ends held outcome) r h = kept g (Ends held outcome) refl
+step_above g (Commits held) r h = kept g (Commits held) refl
+
+-- it never falls
+pub never_falls : (steps : List Step) (g : Grant) → rank g.granted ≤ rank g.core
+    → AllRaise g steps → rank g.granted ≤ rank (after_all g steps).granted
+never_falls [] g h r = omega arith
+never_falls (s ∷ steps) g h r =
+    let here = step_above g s r.0 h in
+    let more = never_falls steps (after_step g s) (step_behind g s r.0 h) r.1 in
+    omega (arith, here, more)
+
+regrants : (g : Grant) (s : Step) → keeps_grant s ≡ false → Raises g s
+    → rank g.granted ≤ rank g.core → rank g.granted < rank (after_step g s).granted
+regrants g (Adds held q) e r h = absurd cc
+regrants g (Batches held q first count) e r h = absurd cc
+regrants g (Takes held q first count) e r h = absurd cc
+regrants g (Refuses held q first count) e r h = absurd cc
+regrants g (Ends held outcome) e r h = absurd cc
+regrants g (Commits held) e r h = absurd cc
+regrants g (Goes outcome next) e r h = absurd cc
+regrants g (Regrants asked held) e r h = omega (arith, r, h)
+
+-- and a new grant raises it
+pub rises_at_grants : (steps : List Step) (g : Grant) → all_keep_grant steps ≡ false
+    → rank g.granted ≤ rank g.core → AllRaise g steps
+    → rank g.granted < rank (after_all g steps).granted
+rises_at_grants [] g e h r = absurd cc
+rises_at_grants (s ∷ steps) g e h r =
+    let after = step_behind g s r.0 h in
+    elim (which (keeps_grant s)) [
+      | inl keeps ↦
+          let here = step_above g s r.0 h in
+          let more = rises_at_grants steps (after_step g s)
+          (rest_goes (keeps_grant s) (all_keep_grant steps) keeps e) after r.1 in
+          omega (arith, here, more)
+      | inr anew ↦
+          let here = regrants g s anew r.0 h in
+          let more = never_falls steps (after_step g s) after r.1 in
+          omega (arith, here, more)
+    ]

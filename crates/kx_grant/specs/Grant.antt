@@ -7,6 +7,7 @@ use Rattle.kx_message.specs.Ranges.{data_partitions, offsets_partition}
 use Rattle.kx_message.specs.Codes.{outcome_byte}
 use Rattle.kx_message.specs.declared.message.Held.{Held}
 use Rattle.kx_message.specs.declared.outcome.Outcome.{Outcome}
+use Rattle.kx_message.specs.declared.outcome.Outcome.TheVariants.{Abort, Commit}
 use Rattle.kx_message.specs.declared.code.ErrorCode.{ErrorCode}
 use Rattle.kx_message.specs.declared.code.ErrorCode.TheVariants as code
 use Rattle.kx_grant.specs.Sequences.{after, sequence_in, sequences, since}
@@ -140,13 +141,14 @@ at_sequence g partition None count = Refused code.OutOfOrderSequenceNumber
 at_sequence g partition (Some first) count =
     in_listed g.core (next_at g partition) (listed_at g partition) first count
 
--- of a transaction from before a restart the sequences aren't known; after an end nothing is listed
+-- of a transaction from before a restart neither the sequences nor the listed partitions are known;
+-- after an end nothing is listed
 abbrev pub phase_code : Phase → Option ErrorCode
 phase_code phase.Empty = None
 phase_code phase.Sent = None
 phase_code phase.Resumed = Some code.InvalidProducerIdMapping
 phase_code (phase.Ended outcome) = Some code.InvalidTxnState
-phase_code (phase.Decided outcome) = Some code.InvalidTxnState
+phase_code (phase.Decided outcome) = Some code.InvalidProducerIdMapping
 
 abbrev pub unless : Option ErrorCode → BatchVerdict → BatchVerdict
 unless None verdict = verdict
@@ -226,7 +228,7 @@ offsets_code phase.Empty = None
 offsets_code phase.Sent = None
 offsets_code phase.Resumed = Some code.UnknownMemberId
 offsets_code (phase.Ended outcome) = Some code.InvalidTxnState
-offsets_code (phase.Decided outcome) = Some code.InvalidTxnState
+offsets_code (phase.Decided outcome) = Some code.UnknownMemberId
 
 abbrev pub commit_code : Grant → Held → Option ErrorCode
 commit_code g held =
@@ -250,13 +252,18 @@ abbrev pub again : Outcome → Outcome → ErrorCode → EndVerdict
 again last outcome other =
     end.Answer (if same_outcome last outcome then code.NoError else other)
 
+-- after a restart an abort has nothing left to abort: each transaction is decided
+abbrev pub decided_before : Outcome → Outcome → EndVerdict
+decided_before last Abort = end.Answer code.NoError
+decided_before last Commit = again last Commit code.InvalidProducerIdMapping
+
 -- the core is asked if something was sent
 abbrev pub end_in : Held → Phase → Outcome → EndVerdict
 end_in core phase.Empty outcome = end.Answer code.NoError
 end_in core phase.Sent outcome = end.Ask core outcome
 end_in core phase.Resumed outcome = end.Ask core outcome
 end_in core (phase.Ended last) outcome = again last outcome code.InvalidTxnState
-end_in core (phase.Decided last) outcome = again last outcome code.InvalidProducerIdMapping
+end_in core (phase.Decided last) outcome = decided_before last outcome
 
 abbrev pub end_verdict : Grant → Held → Outcome → EndVerdict
 end_verdict g held outcome =

@@ -3,4 +3,5 @@ pub mod Grant
 pub mod Steps
 pub mod Codes
 pub mod Heard
+pub mod Fencing
 pub mod Producer

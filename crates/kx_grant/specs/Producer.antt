@@ -14,11 +14,12 @@ use Rattle.kx_message.specs.declared.requests.EndTxn.{EndTxn}
 use Rattle.kx_grant.specs.Codes.{init_code, is_final}
 use Rattle.kx_grant.specs.Grant.{add_code, after_batch, after_refused}
 use Rattle.kx_grant.specs.Grant.{after_taken, batch_verdict, begun, end_fenced, end_verdict, ended}
-use Rattle.kx_grant.specs.Grant.{init_verdict, is_held}
+use Rattle.kx_grant.specs.Grant.{init_verdict, is_before, is_held}
 use Rattle.kx_grant.specs.Heard.{after_hear, granted_to, is_heard}
 use Rattle.kx_grant.specs.declared.grant.Grant.{Grant}
 use Rattle.kx_grant.specs.declared.heard.Heard.{Heard}
 use Rattle.kx_grant.specs.declared.heard.Role.{Role}
+use Rattle.kx_grant.specs.declared.heard.Role.TheVariants as role
 use Rattle.kx_grant.specs.declared.producer.ClientBatch.{ClientBatch}
 use Rattle.kx_grant.specs.declared.producer.Producer.{Producer}
 use Rattle.kx_grant.specs.declared.verdicts.BatchVerdict.{BatchVerdict}
@@ -29,6 +30,8 @@ use Rattle.kx_grant.specs.declared.verdicts.EndVerdict.{EndVerdict}
 use Rattle.kx_grant.specs.declared.verdicts.EndVerdict.TheVariants as end
 use Rattle.kx_grant.specs.declared.verdicts.InitVerdict.{InitVerdict}
 use Rattle.kx_grant.specs.declared.verdicts.InitVerdict.TheVariants as init
+use Rattle.kx_grant.specs.declared.verdicts.Granting.{Granting}
+use Rattle.kx_grant.specs.declared.verdicts.Granting.TheVariants as grants
 
 -- the code for a producer of whom no grant is known
 abbrev pub unknown : ErrorCode
@@ -73,11 +76,10 @@ answered p held in_role connection x =
 
 ------ InitProducerId
 
--- a pair that was never granted is fenced
+-- where no grant is known, any producer may ask
 abbrev pub init_of : Option Grant → Option Held → InitVerdict
 init_of (Some g) held = init_verdict g held
-init_of None None = init.Ask
-init_of None (Some held) = init.Fenced
+init_of None held = init.Ask
 
 -- only a request of which the core is asked has to be heard
 abbrev pub asks : InitVerdict → Bool
@@ -89,15 +91,20 @@ abbrev pub pair_in : ErrorCode → Option Held → Option Held
 pair_in code.NoError held = held
 pair_in other held = None
 
--- no response that grants nothing has code 0
-abbrev pub init_refusal : ℤ → ErrorCode → ErrorCode
-init_refusal version code.NoError = unknown
-init_refusal version other = init_code version other
+-- of a pair that the client named itself the core is asked once more: its next one is another
+abbrev pub granting : Option Held → Held → Granting
+granting asked held = if is_before asked held then grants.AskAgain else grants.Granted held
 
-abbrev pub after_init : Producer → Option Held → ℕ → Option Held → Producer
-after_init p asked connection None = p
-after_init p asked connection (Some held) =
+-- what an answer of the core grants; no response that grants nothing has code 0
+abbrev pub granting_of : ℤ → Option Held → ErrorCode → Option Held → Granting
+granting_of version asked code.NoError (Some held) = granting asked held
+granting_of version asked code.NoError None = grants.Refused unknown
+granting_of version asked other held = grants.Refused (init_code version other)
+
+abbrev pub after_init : Producer → Option Held → ℕ → Granting → Producer
+after_init p asked connection (grants.Granted held) =
     record p { grant = Some (begun asked held); heard = granted_to connection }
+after_init p asked connection other = p
 
 ------ AddPartitionsToTxn
 
@@ -174,6 +181,13 @@ heard_as p held in_role connection =
 abbrev pub after_if : Bool → Producer → Producer → Producer
 after_if true after before = after
 after_if false after before = before
+
+-- what offsets leave, if they are heard
+abbrev pub after_commits : Producer → Held → ℕ → ℕ → Producer
+after_commits p held count connection =
+    let heard = heard_as p held role.Offsets connection in
+    after_if (hears p.heard (holds p.grant held) role.Offsets connection)
+    (after_offsets (offsets_of p.grant p.place held count) held count heard) heard
 
 -- the sequences go on if the core took the offsets
 abbrev pub after_count : ErrorCode → ℕ → ℕ → ℕ

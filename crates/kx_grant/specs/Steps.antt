@@ -1,13 +1,15 @@
 -- What happens to a grant, in turn.
 use Rattle.std.specs.Prelude.{◌≡◌, ◌<◌, ◌+◌, ◌*◌, ℕ, ℤ, Bool, true, false, ◌&&◌, List, [], ◌∷◌, Some}
-use Rattle.std.specs.Prelude.{◌==◌, if◌then◌else◌}
+use Rattle.std.specs.Prelude.{◌==◌, if◌then◌else◌, ◌⊎◌}
 use Rattle.kx_message.specs.declared.message.Held.{Held}
 use Rattle.kx_message.specs.declared.outcome.Outcome.{Outcome}
+use Rattle.kx_message.specs.declared.outcome.Outcome.TheVariants.{Abort}
 use Rattle.kx_grant.specs.Sequences.{IsSequence, sequence_in}
 use Rattle.kx_grant.specs.Grant.{after_add, after_batch, after_commit, after_end, after_refused}
 use Rattle.kx_grant.specs.Grant.{after_taken, begun, counts, ended, listed_at, next_at}
 use Rattle.kx_grant.specs.declared.grant.Grant.{Grant}
 use Rattle.kx_grant.specs.declared.grant.Listed.{Listed}
+use Rattle.kx_grant.specs.declared.grant.Phase.{Phase}
 use Rattle.kx_grant.specs.declared.grant.Phase.TheVariants as phase
 
 pub data Step : Type 0 where
@@ -94,6 +96,15 @@ abbrev pub EndsSo : Grant → Step → Outcome → Type 0
 EndsSo g (Goes decided next) outcome = decided ≡ outcome
 EndsSo g (Ends held asked) outcome = (g.phase ≡ phase.Empty) × (asked ≡ outcome)
 EndsSo g step outcome = ⊥
+
+-- a grant by which an end is answered with code 0 and the core isn't asked: nothing was sent, the
+-- transaction ended so, or all was decided before a restart, of which an abort has nothing left
+abbrev pub EndsAtOnce : Phase → Outcome → Type 0
+EndsAtOnce phase.Empty outcome = Unit {0}
+EndsAtOnce phase.Sent outcome = ⊥
+EndsAtOnce phase.Resumed outcome = ⊥
+EndsAtOnce (phase.Ended last) outcome = last ≡ outcome
+EndsAtOnce (phase.Decided last) outcome = (last ≡ outcome) ⊎ (outcome ≡ Abort)
 
 -- the base sequence that a batch says is one
 abbrev pub Fits : Step → Type 0

@@ -4,10 +4,10 @@ ghost use Rattle.kx_grant.specs.Sequences.{sequences};
 ghost use Rattle.kx_grant.specs.Grant.{add_code, after_add, after_batch, after_end, after_refused};
 ghost use Rattle.kx_grant.specs.Grant.{after_taken, again, batch_verdict, begun, begun_at, counted};
 ghost use Rattle.kx_grant.specs.Grant.{after_commit, commit_code, committing, offsets_code};
-ghost use Rattle.kx_grant.specs.Grant.{counts, end_in, end_verdict, ended, gone_on, with_sent};
+ghost use Rattle.kx_grant.specs.Grant.{counts, decided_before, end_in, end_verdict, ended, gone_on};
 ghost use Rattle.kx_grant.specs.Grant.{in_turn, init_verdict, is_before, is_held, is_next};
 ghost use Rattle.kx_grant.specs.Grant.{listed_at, listed_verdict, listing, next_at, opened};
-ghost use Rattle.kx_grant.specs.Grant.{with_at};
+ghost use Rattle.kx_grant.specs.Grant.{with_at, with_sent};
 ghost use Rattle.kx_grant.specs.Grant.{phase_code, phase_of, reopened, stopped, stopped_at};
 
 use crate::sequence::{SEQUENCES, after, sequence_in, since};
@@ -74,7 +74,8 @@ fn is_held(a: &Held, b: &Held) -> bool
     a.id == b.id && a.epoch == b.epoch
 }
 
-fn is_before(before: &Option<Held>, held: &Held) -> bool
+/// Whether this is a pair, and the same.
+pub(crate) fn is_before(before: &Option<Held>, held: &Held) -> bool
     ensures { result ≡ is_before before.now held.now }
 {
     match before {
@@ -131,8 +132,8 @@ impl Phase {
     {
         match self {
             Phase::Empty | Phase::Sent => None,
-            Phase::Resumed => Some(ErrorCode::InvalidProducerIdMapping),
-            Phase::Ended(_) | Phase::Decided(_) => Some(ErrorCode::InvalidTxnState),
+            Phase::Resumed | Phase::Decided(_) => Some(ErrorCode::InvalidProducerIdMapping),
+            Phase::Ended(_) => Some(ErrorCode::InvalidTxnState),
         }
     }
 
@@ -142,8 +143,8 @@ impl Phase {
     {
         match self {
             Phase::Empty | Phase::Sent => None,
-            Phase::Resumed => Some(ErrorCode::UnknownMemberId),
-            Phase::Ended(_) | Phase::Decided(_) => Some(ErrorCode::InvalidTxnState),
+            Phase::Resumed | Phase::Decided(_) => Some(ErrorCode::UnknownMemberId),
+            Phase::Ended(_) => Some(ErrorCode::InvalidTxnState),
         }
     }
 
@@ -158,7 +159,7 @@ impl Phase {
                 outcome,
             },
             Phase::Ended(last) => again(last, outcome, ErrorCode::InvalidTxnState),
-            Phase::Decided(last) => again(last, outcome, ErrorCode::InvalidProducerIdMapping),
+            Phase::Decided(last) => decided_before(last, outcome),
         }
     }
 }
@@ -172,6 +173,17 @@ fn again(last: Outcome, outcome: Outcome, other: ErrorCode) -> EndVerdict
     } else {
         other
     })
+}
+
+// The answer to an end if the last transaction was decided before a restart. An abort has nothing left
+// to abort.
+fn decided_before(last: Outcome, outcome: Outcome) -> EndVerdict
+    ensures { result ≡ decided_before last outcome }
+{
+    match outcome {
+        Outcome::Abort => EndVerdict::Answer(ErrorCode::NoError),
+        Outcome::Commit => again(last, outcome, ErrorCode::InvalidProducerIdMapping),
+    }
 }
 
 // What becomes of a batch that begins `at` records after the begin of its transaction, if the
@@ -501,7 +513,8 @@ impl Grant {
     ///
     /// The code with which they are refused; then nothing changes. 47 for another pair than the
     /// granted one; 25 in a transaction that was under way before a restart, after which clients
-    /// abort it; 48 after an end, before a partition was listed.
+    /// abort it, or after one that was decided before it; 48 after an end, before a partition was
+    /// listed.
     pub fn commit(&mut self, held: &Held) -> Result<Held, ErrorCode>
         ensures answered { MatchResult result
             (λ core. (commit_code self.old held.now ≡ None) × (core ≡ self.old.core))

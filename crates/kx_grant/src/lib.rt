@@ -18,8 +18,9 @@ pub use grant::{Grant, LastRow};
 pub use heard::{Heard, Role};
 pub use laws::{
     a_batch_is_sent_as_one, a_batch_is_sent_in_one_transaction, a_bump_answers_another_pair,
-    an_end_is_decided_by_the_core, grants_know_sequences, older_connections_are_not_heard,
+    a_counted_batch_moves_on, a_fenced_producer_sends_nothing, an_end_is_decided_by_the_core,
+    grants_know_sequences, offsets_are_sent_in_turn, older_connections_are_not_heard,
     zero_is_the_cores,
 };
 pub use producer::{ClientBatch, Producer, outcome_of};
-pub use verdicts::{BatchVerdict, EndStep, EndVerdict, InitVerdict};
+pub use verdicts::{BatchVerdict, EndStep, EndVerdict, Granting, InitVerdict};

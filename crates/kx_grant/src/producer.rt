@@ -2,23 +2,24 @@
 //!
 //! Each request of a client is a step here. If the core has to be asked, its answer is a second
 //! step; the caller takes no other request of the transactional id in between.
-ghost use Rattle.std.specs.Prelude.{◌≡◌, None, Some, IsSome, MatchResult, option_map};
+ghost use Rattle.std.specs.Prelude.{◌≡◌, None, Some, option_map};
 ghost use Rattle.kx_grant.specs.Codes.{end_code, produce_code};
 ghost use Rattle.kx_grant.specs.Grant.{after_add, after_end};
 ghost use Rattle.kx_grant.specs.Heard.{none_heard};
 ghost use Rattle.kx_grant.specs.Producer.{add_of, after_answer, after_batch_of, after_end_reply};
 ghost use Rattle.kx_grant.specs.Producer.{after_hears, after_init, after_verdict_of, answer_if};
 ghost use Rattle.kx_grant.specs.Producer.{answered, asks, batch_of, end_of, end_step, hears, holds};
-ghost use Rattle.kx_grant.specs.Producer.{init_of, init_refusal, outcome_of, pair_in, stepped};
-ghost use Rattle.kx_grant.specs.Producer.{after_if, after_offsets, answered_place, at_place};
-ghost use Rattle.kx_grant.specs.Producer.{first_in, free_at, heard_as, offsets_of, place_in};
+ghost use Rattle.kx_grant.specs.Producer.{granting, granting_of, init_of, outcome_of, pair_in};
+ghost use Rattle.kx_grant.specs.Producer.{after_commits, after_offsets, answered_place, at_place};
+ghost use Rattle.kx_grant.specs.Producer.{first_in, free_at, offsets_of, place_in};
+ghost use Rattle.kx_grant.specs.Producer.{stepped};
 ghost use Rattle.kx_grant.specs.Grant.{after_commit, is_held};
 
 use crate::fenced::{end_code, end_fenced_code, init_code, is_final, produce_code};
-use crate::grant::Grant;
+use crate::grant::{Grant, is_before};
 use crate::heard::{Heard, Role};
 use crate::sequence::{SEQUENCES, after};
-use crate::verdicts::{BatchVerdict, EndStep, EndVerdict, InitVerdict};
+use crate::verdicts::{BatchVerdict, EndStep, EndVerdict, Granting, InitVerdict};
 use kx_message::{EndReply, EndTxn, ErrorCode, Held, InitReply, Outcome, PartitionId};
 
 // The code for a producer of whom no grant is known.
@@ -71,10 +72,9 @@ pub fn outcome_of(committed: bool) -> Outcome
 fn init_of(grant: &Option<Grant>, held: Option<Held>) -> InitVerdict
     ensures { result ≡ init_of grant.now held }
 {
-    match (grant, held) {
-        (Some(grant), held) => grant.init_again(held),
-        (None, None) => InitVerdict::Ask,
-        (None, Some(_)) => InitVerdict::Fenced,
+    match grant {
+        Some(grant) => grant.init_again(held),
+        None => InitVerdict::Ask,
     }
 }
 
@@ -100,13 +100,25 @@ fn pair_in(code: ErrorCode, held: Option<Held>) -> Option<Held>
     }
 }
 
-// The code in a response to InitProducerId that grants nothing.
-fn init_refusal(version: i16, code: ErrorCode) -> ErrorCode
-    ensures { result ≡ init_refusal version code }
+// What an answer with code 0 and this pair grants to a client that named a pair, or none.
+fn granting(asked: &Option<Held>, held: Held) -> Granting
+    ensures { result ≡ granting asked.now held }
 {
-    match code {
-        ErrorCode::NoError => UNKNOWN,
-        _ => init_code(version, code),
+    if is_before(asked, &held) {
+        Granting::AskAgain
+    } else {
+        Granting::Granted(held)
+    }
+}
+
+// What an answer of the core grants.
+fn granting_of(version: i16, asked: &Option<Held>, code: ErrorCode, held: Option<Held>) -> Granting
+    ensures { result ≡ granting_of version asked.now code held }
+{
+    match (code, held) {
+        (ErrorCode::NoError, Some(held)) => granting(asked, held),
+        (ErrorCode::NoError, None) => Granting::Refused(UNKNOWN),
+        _ => Granting::Refused(init_code(version, code)),
     }
 }
 
@@ -280,7 +292,8 @@ impl Producer {
 
     /// A client asks for an id, over this connection, with the pair that it holds, if it says one.
     /// None if the request isn't taken, since a newer connection spoke for the transactional id;
-    /// then nothing changes. A pair of which no grant is known is fenced (KIP-360).
+    /// then nothing changes. Where no grant is known the core is asked, whatever pair is named, as
+    /// for a transactional id whose metadata is gone (KIP-360).
     pub fn init(&mut self, held: Option<Held>, connection: u64) -> Option<InitVerdict>
         ensures answered { result ≡ answer_if
             (hears self.old.heard (asks (init_of self.old.grant held)) Role.Coordinator connection)
@@ -299,36 +312,38 @@ impl Producer {
     }
 
     /// The core answered a request for an id, which was made with the pair `asked` and is answered
-    /// over this connection. What it grants is the grant from now on, and of earlier connections
-    /// none is heard any more.
-    ///
-    /// # Errors
-    ///
-    /// If the core granted nothing, the code in a response of this version, which is never 0;
-    /// then nothing changes.
+    /// over this connection by a response of this version. What it grants is the grant from now on,
+    /// and of earlier connections none is heard any more. If it grants nothing, nothing changes.
     pub fn granted(
         &mut self,
         version: i16,
         asked: Option<Held>,
         connection: u64,
         reply: &InitReply,
-    ) -> Result<(), ErrorCode>
-        ensures answered { MatchResult result
-            (λ done. IsSome (pair_in reply.now.code reply.now.held))
-            (λ code. (pair_in reply.now.code reply.now.held ≡ None)
-            × (code ≡ init_refusal version reply.now.code)) }
-        ensures noted { self.new
-            ≡ after_init self.old asked connection (pair_in reply.now.code reply.now.held) }
+    ) -> Granting
+        ensures answered { result ≡ granting_of version asked reply.now.code reply.now.held }
+        ensures noted { self.new ≡ after_init self.old asked connection
+            (granting_of version asked reply.now.code reply.now.held) }
     {
-        let Some(held) = pair_in(reply.code, reply.held) else {
-            return Err(init_refusal(version, reply.code));
-        };
-        self.grant = Some(match asked {
-            Some(asked) => Grant::granted_anew(asked, held),
-            None => Grant::new(held),
-        });
-        self.heard.granted_to(connection);
-        Ok(())
+        let granting = granting_of(version, &asked, reply.code, reply.held);
+        self.note_granting(asked, connection, &granting);
+        granting
+    }
+
+    // What the core granted is the grant from now on.
+    fn note_granting(&mut self, asked: Option<Held>, connection: u64, granting: &Granting)
+        ensures { self.new ≡ after_init self.old asked connection granting.now }
+    {
+        match granting {
+            Granting::AskAgain | Granting::Refused(_) => {}
+            Granting::Granted(held) => {
+                self.grant = Some(match asked {
+                    Some(asked) => Grant::granted_anew(asked, *held),
+                    None => Grant::new(*held),
+                });
+                self.heard.granted_to(connection);
+            }
+        }
     }
 
     /// A client lists a partition, over this connection; the offsets partition stands for offsets
@@ -398,11 +413,7 @@ impl Producer {
     pub fn offsets(&mut self, held: &Held, count: u32, connection: u64) -> Option<BatchVerdict>
         ensures answered { result ≡ answered self.old held.now Role.Offsets connection
             (offsets_of self.old.grant self.old.place held.now count) }
-        ensures noted { self.new ≡ after_if
-            (hears self.old.heard (holds self.old.grant held.now) Role.Offsets connection)
-            (after_offsets (offsets_of self.old.grant self.old.place held.now count) held.now count
-            (heard_as self.old held.now Role.Offsets connection))
-            (heard_as self.old held.now Role.Offsets connection) }
+        ensures noted { self.new ≡ after_commits self.old held.now count connection }
     {
         let must = self.holds(held);
         if !self.hears(must, Role::Offsets, connection) {

@@ -11,6 +11,18 @@ pub enum InitVerdict {
     Fenced,
 }
 
+/// What an answer of the core to a request for an id grants.
+#[derive(Clone, Copy, Debug, PartialEq, Eq)]
+pub enum Granting {
+    /// This id and epoch, from now on.
+    Granted(Held),
+    /// Nothing: it has the id and epoch that the client named itself, as a server that keeps no files
+    /// may after a restart. The core is asked once more, whose next pair is another.
+    AskAgain,
+    /// Nothing, and the response has this code.
+    Refused(ErrorCode),
+}
+
 /// What becomes of a batch, or of offsets that are to be committed.
 #[derive(Clone, Copy, Debug, PartialEq, Eq)]
 pub enum BatchVerdict {

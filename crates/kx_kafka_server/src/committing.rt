@@ -7,7 +7,7 @@ use crate::closed::Closed;
 use crate::groups::KnownGroup;
 use crate::replies::{offset_fetch_reply, offsets_reply};
 use crate::transacting::TxnInit;
-use kx_gateway::{held_of, txn_of};
+use kx_gateway::{coordinator_code, held_of, txn_of};
 use kx_grant::{BatchVerdict, Producer};
 use kx_group_gateway::{
     ClaimedTopic, FetchedTopic, GroupCode, alone_code, claims_of, commit_frame, fetched_offset,
@@ -231,7 +231,7 @@ impl<'a, L: Readable, J: Naming, R: Wait + Clock + Drop> Session<'a, L, J, R> {
         };
         let code = self.commit_in(producer, txn, held, claim);
         self.link.shared.groups.leave(self.rt, &group);
-        Ok(code?.number())
+        Ok(coordinator_code(code?))
     }
 
     // The code for offsets of a transaction.
@@ -258,7 +258,8 @@ impl<'a, L: Readable, J: Naming, R: Wait + Clock + Drop> Session<'a, L, J, R> {
             Committer::Member { member, generation } => {
                 let by = By::Member { member, generation };
                 let claim = Claim { group, by, offsets };
-                Ok(self.commit_in(&producer, txn, &held, claim)?.number())
+                let code = self.commit_in(&producer, txn, &held, claim)?;
+                Ok(coordinator_code(code))
             }
         }
     }

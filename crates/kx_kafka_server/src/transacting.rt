@@ -7,11 +7,12 @@ use crate::left::id_to_pass;
 use crate::replies::{end_reply, init_reply, produce_reply};
 use crate::span::keeps_nothing;
 use kx_gateway::{
-    GatewayCode, TxnBatch, add_offsets_frame, add_partitions_frame, end_txn_frame, held_of,
-    init_frame, produced, refused_produce, txn_of,
+    GatewayCode, TxnBatch, add_offsets_frame, add_partitions_frame, coordinator_code,
+    end_txn_frame, held_of, init_frame, produced, refused_produce, txn_of,
 };
 use kx_grant::{
-    BatchVerdict, ClientBatch, EndStep, InitVerdict, Producer, init_fenced_code, outcome_of,
+    BatchVerdict, ClientBatch, EndStep, Granting, InitVerdict, Producer, init_fenced_code,
+    outcome_of,
 };
 use kx_kafka::{
     AddOffsetsToTxnRequest, AddPartitionsToTxnRequest, EndTxnRequest, PartitionProduceResponse,
@@ -36,6 +37,10 @@ const MOST_PASSED: u32 = 65_537;
 const PAUSE_MILLIS: u64 = 5;
 
 const MOST_ASKED: usize = 400;
+
+// A request for an id is asked of the core twice at most: its second pair is never the one that the
+// client named.
+const MOST_GRANTS: usize = 2;
 
 // The code for a producer of whom the server knows no grant.
 const UNKNOWN: ErrorCode = ErrorCode::InvalidProducerIdMapping;
@@ -162,11 +167,15 @@ impl<'a, L: Readable, J: Naming, R: Wait + Clock + Drop> Session<'a, L, J, R> {
         version: i16,
         init: &TxnInit,
     ) -> Result<Result<InitReply, ErrorCode>, Closed> {
-        let reply = self.ask_as_newest(init)?;
-        match producer.granted(version, init.held, self.number(), &reply) {
-            Ok(()) => Ok(Ok(reply)),
-            Err(code) => Ok(Err(code)),
+        for _ in 0..MOST_GRANTS {
+            let reply = self.ask_as_newest(init)?;
+            match producer.granted(version, init.held, self.number(), &reply) {
+                Granting::Granted(_) => return Ok(Ok(reply)),
+                Granting::Refused(code) => return Ok(Err(code)),
+                Granting::AskAgain => {}
+            }
         }
+        Err(Closed)
     }
 
     // What a producer that asks for an id is granted, or the code if it is granted none.
@@ -206,7 +215,7 @@ impl<'a, L: Readable, J: Naming, R: Wait + Clock + Drop> Session<'a, L, J, R> {
         producers.leave(self.rt, &init.txn, matches!(&answered, Ok(Ok(_))));
         match answered? {
             Ok(reply) => Ok(Answer::Frame(init_frame(self.alloc, &asked.header, &reply)?)),
-            Err(code) => self.refuse_init(asked, code.number()),
+            Err(code) => self.refuse_init(asked, coordinator_code(code)),
         }
     }
 
@@ -353,7 +362,8 @@ impl<'a, L: Readable, J: Naming, R: Wait + Clock + Drop> Session<'a, L, J, R> {
         request: &EndTxnRequest<'_>,
     ) -> Result<Answer, Closed> {
         let code = self.end_code_of(version_of(asked), request)?;
-        Ok(Answer::Frame(end_txn_frame(self.alloc, &asked.header, code.number())?))
+        let code = coordinator_code(code);
+        Ok(Answer::Frame(end_txn_frame(self.alloc, &asked.header, code)?))
     }
 
     // Asks the partition to append a batch with the core's pair and sequence, and again while the

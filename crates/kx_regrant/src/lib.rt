@@ -5,5 +5,5 @@
 mod laws;
 mod regrant;
 
-pub use laws::the_last_grant_is_read_again;
+pub use laws::{the_coordinator_raises_pairs, the_last_grant_is_read_again};
 pub use regrant::{Regrant, granted_again};

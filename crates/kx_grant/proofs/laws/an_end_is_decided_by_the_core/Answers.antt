@@ -1,4 +1,4 @@
-use Rattle.std.proofs.Common.{◌≡◌, ◌⊎◌, Bool, true, false, cond, refl, sym, ap, ◌∙◌, subst, inl, inr, Some}
+use Rattle.std.proofs.Common.{◌≡◌, Bool, true, false, cond, refl, sym, ap, ◌∙◌, subst, inl, inr, Some}
 use Rattle.std.specs.Prelude.{Option, None, ℤ, int_lt, pos, unwrap_or}
 use Rattle.kx_message.specs.declared.message.Held.{Held}
 use Rattle.kx_message.specs.declared.outcome.Outcome.{Outcome}
@@ -6,11 +6,12 @@ use Rattle.kx_message.specs.declared.outcome.Outcome.TheVariants.{Abort, Commit}
 use Rattle.kx_message.specs.declared.code.ErrorCode.{ErrorCode}
 use Rattle.kx_message.specs.declared.code.ErrorCode.TheVariants as code
 use Rattle.kx_message.specs.declared.requests.EndTxn.{EndTxn}
-use Rattle.kx_grant.specs.Grant.{after_batch, end_in, end_verdict, is_held, same_outcome}
+use Rattle.kx_grant.specs.Grant.{after_batch, after_commit, committing, end_in, end_verdict, is_held}
+use Rattle.kx_grant.specs.Grant.{offsets_code, same_outcome}
 use Rattle.kx_grant.specs.Producer.{end_of, end_step}
 use Rattle.kx_grant.specs.Grant.{with_sent}
 use Rattle.kx_grant.specs.Sequences.{sequence_in}
-use Rattle.kx_grant.specs.Steps.{after_all}
+use Rattle.kx_grant.specs.Steps.{EndsAtOnce, after_all}
 use Rattle.kx_grant.specs.declared.grant.Grant.{Grant}
 use Rattle.kx_grant.specs.declared.grant.Phase.{Phase}
 use Rattle.kx_grant.specs.declared.grant.Phase.TheVariants as phase
@@ -18,7 +19,9 @@ use Rattle.kx_grant.specs.declared.verdicts.EndStep.TheVariants as step
 use Rattle.kx_grant.specs.declared.verdicts.EndVerdict.{EndVerdict}
 use Rattle.kx_grant.specs.declared.verdicts.EndVerdict.TheVariants as end
 use Rattle.kx_grant.proofs.Ends.{read, remembered}
+use Rattle.kx_grant.proofs.Rises.{all_same}
 use Rattle.kx_grant.proofs.Sends.{with_sent_is, sent_at}
+use Rattle.kx_grant.proofs.Sent.{all_still_sent}
 use Rattle.kx_grant.proofs.Within.{Within, begins, stays_within}
 use Rattle.kx_grant.proofs.laws.an_end_is_decided_by_the_core.Goals as goal
 
@@ -57,25 +60,44 @@ agrees Abort Commit true other h s e = absurd cc
 agrees Commit Abort true other h s e = absurd cc
 
 by_phase : (core : Held) (f : Phase) (outcome : Outcome)
-    → end_in core f outcome ≡ end.Answer code.NoError
-    → (f ≡ phase.Empty) ⊎ ((f ≡ phase.Ended outcome) ⊎ (f ≡ phase.Decided outcome))
-by_phase core phase.Empty outcome e = inl refl
+    → end_in core f outcome ≡ end.Answer code.NoError → EndsAtOnce f outcome
+by_phase core phase.Empty outcome e = tt
 by_phase core phase.Sent outcome e = absurd cc
 by_phase core phase.Resumed outcome e = absurd cc
 by_phase core (phase.Ended last) outcome e =
-    let same : last ≡ outcome =
-    agrees last outcome (same_outcome last outcome) code.InvalidTxnState (λ never. absurd cc) refl e in
-    inr (inl (ap (λ (x : Outcome). phase.Ended x) same))
-by_phase core (phase.Decided last) outcome e =
-    let same : last ≡ outcome =
-    agrees last outcome (same_outcome last outcome) code.InvalidProducerIdMapping
-    (λ never. absurd cc) refl e in
-    inr (inr (ap (λ (x : Outcome). phase.Decided x) same))
+    agrees last outcome (same_outcome last outcome) code.InvalidTxnState (λ never. absurd cc) refl e
+by_phase core (phase.Decided last) Abort e = inr refl
+by_phase core (phase.Decided last) Commit e =
+    inl (agrees last Commit (same_outcome last Commit) code.InvalidProducerIdMapping
+    (λ never. absurd cc) refl e)
 
 ours_only : (b : Bool) (x : EndVerdict) → cond b x end.Fenced ≡ end.Answer code.NoError
     → x ≡ end.Answer code.NoError
 ours_only true x e = e
 ours_only false x e = absurd cc
+
+no_refusal : (b : Bool) (f : Option ErrorCode) (x : ErrorCode) → cond b f (Some x) ≡ None
+    → (b ≡ true) × (f ≡ None)
+no_refusal true f x e = (refl, e)
+no_refusal false f x e = absurd cc
+
+pub returns-clause-offsets : goal.returns-clause-offsets
+returns-clause-offsets c = λ g steps held outcome e stay.
+    let sent : after_commit g held ≡ record g { phase = phase.Sent } =
+    ap (λ (x : Option ErrorCode). committing x g) e in
+    let ours = no_refusal (is_held g.granted held) (offsets_code g.phase) code.InvalidProducerEpoch e in
+    let same = all_same steps (record g { phase = phase.Sent }) stay in
+    let last = after_all (record g { phase = phase.Sent }) steps in
+    let still : last.phase ≡ phase.Sent =
+    all_still_sent steps (record g { phase = phase.Sent }) stay refl in
+    let held_still : is_held last.granted held ≡ true =
+    ap (λ (h : Held). is_held h held) same.granted ∙ ours.0 in
+    let asks : end_in last.core last.phase outcome ≡ end.Ask g.core outcome =
+    ap (λ (f : Phase). end_in last.core f outcome) still
+    ∙ ap (λ (h : Held). end.Ask h outcome) same.core in
+    ap (λ (x : Grant). end_verdict (after_all x steps) held outcome) sent
+    ∙ chosen (is_held last.granted held) (end_in last.core last.phase outcome) end.Fenced
+    (end.Ask g.core outcome) held_still asks
 
 pub returns-clause-answered : goal.returns-clause-answered
 returns-clause-answered c = λ g held outcome e.
@@ -106,8 +128,7 @@ zero_step version request end.Fenced e =
 
 at_once : (version : ℤ) (request : EndTxn) (grant : Option Grant)
     → end_of version request grant ≡ step.Answer code.NoError
-    → (g : Grant) × (grant ≡ Some g) × ((g.phase ≡ phase.Empty)
-    ⊎ ((g.phase ≡ phase.Ended request.outcome) ⊎ (g.phase ≡ phase.Decided request.outcome)))
+    → (g : Grant) × (grant ≡ Some g) × EndsAtOnce g.phase request.outcome
 at_once version request None e = absurd cc
 at_once version request (Some g) e =
     let verdict : end_verdict g request.held request.outcome ≡ end.Answer code.NoError =
@@ -129,7 +150,8 @@ asks_so true core phase.Empty outcome held asked e = absurd cc
 asks_so true core phase.Sent outcome held asked e = cc
 asks_so true core phase.Resumed outcome held asked e = cc
 asks_so true core (phase.Ended last) outcome held asked e = absurd cc
-asks_so true core (phase.Decided last) outcome held asked e = absurd cc
+asks_so true core (phase.Decided last) Abort held asked e = absurd cc
+asks_so true core (phase.Decided last) Commit held asked e = absurd cc
 
 asking_step : (version : ℤ) (request core : EndTxn) (v : EndVerdict)
     → end_step version request v ≡ step.Ask core
