@@ -1,5 +1,5 @@
 -- Before the next time of a group nothing happens to it, and at the deadline it is due.
-use Rattle.std.proofs.Common.{◌≡◌, ℕ, ◌<◌, ◌≤◌, Bool, true, false, ◌&&◌, not, cond, List, [], ◌∷◌, length}
+use Rattle.std.proofs.Common.{◌||◌, ◌≡◌, ℕ, ◌<◌, ◌≤◌, Bool, true, false, ◌&&◌, not, cond, List, [], ◌∷◌, length}
 use Rattle.std.proofs.Common.{Option, Some, None, refl, eqb, arith, ◌⊎◌, inl, inr}
 use Rattle.std.specs.Prelude.{nat_le}
 use Rattle.std.specs.List.{filter, fold}
@@ -37,7 +37,7 @@ pub before_all : (now : ℕ) (t : Option ℕ) (members : List Member)
 before_all now t [] before = (before, refl)
 before_all now t (m ∷ members) before =
     let rest = before_all now (sooner t m) members before in
-    let one = before_one now t m.waits m.ends rest.0 in
+    let one = before_one now t (m.waits || m.syncs) m.ends rest.0 in
     (one.0, rw (one.1, rest.1) refl)
 
 before_due : (now : ℕ) (ready : Bool) (p : Phase)

@@ -7,3 +7,4 @@ pub mod Before
 pub mod Absent
 pub mod Distinct
 pub mod Sound
+pub mod Staying

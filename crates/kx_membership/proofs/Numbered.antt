@@ -5,7 +5,7 @@ use Rattle.std.specs.List.{filter, find, list_any}
 use Rattle.std.specs.Option.{option_or}
 use Rattle.std.proofs.lemmas.Bool.{cond_both, eqb-true}
 use Rattle.std.proofs.lemmas.List.Folds.{find-append}
-use Rattle.kx_membership.specs.Roster.{changed, counted, has, is_numbered}
+use Rattle.kx_membership.specs.Roster.{RosterState, changed, counted, has, is_numbered, woken, woken_if}
 use Rattle.kx_membership.specs.Steps.{numbers}
 use Rattle.kx_membership.specs.declared.member.Member.{Member}
 
@@ -25,6 +25,27 @@ pub numbers_counted : (now : ℕ) (members : List Member)
 numbers_counted now [] = refl
 numbers_counted now (m ∷ members) =
     ap (λ (rest : List ℕ). m.number ∷ rest) (numbers_counted now members)
+
+pub numbers_woken : (now : ℕ) (members : List Member)
+    → numbers (map (woken now) members) ≡ numbers members
+numbers_woken now [] = refl
+numbers_woken now (m ∷ members) =
+    ap (λ (rest : List ℕ). m.number ∷ rest) (numbers_woken now members)
+
+pub numbers_woken_if : (b : Bool) (now : ℕ) (r : RosterState)
+    → numbers (woken_if b now r).members ≡ numbers r.members
+numbers_woken_if true now r = numbers_woken now r.members
+numbers_woken_if false now r = refl
+
+pub gone_woken_if : (b : Bool) (now : ℕ) (r : RosterState) → (woken_if b now r).gone ≡ r.gone
+gone_woken_if true now r = refl
+gone_woken_if false now r = refl
+
+-- a change under a condition that keeps the number
+pub same_number : (b : Bool) (m new : Member) → new.number ≡ m.number
+    → (cond b new m).number ≡ m.number
+same_number true m new e = e
+same_number false m new e = refl
 
 by_head : (b : Bool) (m : Member) (rest : Option Member) (others : Bool)
     → is_some rest ≡ others → is_some (cond b (Some m) rest) ≡ (b || others)

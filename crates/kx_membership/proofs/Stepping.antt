@@ -1,14 +1,18 @@
 -- What a step does to a group, once for the laws.
-use Rattle.std.proofs.Common.{◌≡◌, ℕ, ℤ, Bool, true, false, ◌&&◌, cond, length}
+use Rattle.std.proofs.Common.{◌≡◌, ℕ, ℤ, Bool, true, false, ◌&&◌, ◌||◌, cond, length}
 use Rattle.std.proofs.Common.{Option, Some, None, refl, sym, ap, ◌∙◌, eqb, ◌⊎◌, inl, inr, List, [], ◌∷◌, subst}
 use Rattle.std.proofs.lemmas.Bool.{cond_both, eqb-true}
-use Rattle.kx_membership.specs.Roster.{any_goes, begun, has, heard, joining, parted, pushed}
-use Rattle.kx_membership.specs.Group.{after_heartbeat, is_completing, is_present, joined_again}
+use Rattle.std.specs.List.{find}
+use Rattle.kx_membership.specs.Roster.{all_woken, any_goes, asked, asking, begun, cut_off, has, heard}
+use Rattle.kx_membership.specs.Roster.{is_numbered, joining, left_alone, parted, pushed}
+use Rattle.kx_membership.specs.Group.{after_heartbeat, asks, is_completing, is_lost, is_present}
+use Rattle.kx_membership.specs.Group.{joined_again}
 use Rattle.kx_membership.specs.Group.{leads, left, prepared, preparing, settled_as, takes, after_join_new}
 use Rattle.kx_membership.specs.Group.{after_join_again, again_refusal, is_past, is_ready, must_wait}
 use Rattle.kx_membership.specs.Group.{new_refusal}
 use Rattle.kx_membership.specs.Steps.{Assigns, IsAssigned, SettlesAs, Step, after_all, after_step, is_settled, numbers, unless}
-use Rattle.kx_membership.specs.Steps.{JoinsNew, JoinsAgain, Closes, Settles, Syncs, Beats, Leaves, Ticks}
+use Rattle.kx_membership.specs.Steps.{JoinsNew, JoinsAgain, Closes, Settles, Syncs, Beats, Leaves}
+use Rattle.kx_membership.specs.Steps.{Parts, Ticks}
 use Rattle.kx_membership.specs.declared.ask.Assignment.{Assignment}
 use Rattle.kx_membership.specs.declared.fault.GroupFault.{GroupFault}
 use Rattle.kx_membership.specs.declared.group.Group.{Group}
@@ -16,7 +20,7 @@ use Rattle.kx_membership.specs.declared.group.Phase.{Phase}
 use Rattle.kx_membership.specs.declared.group.Phase.TheVariants as phase
 use Rattle.kx_membership.specs.declared.member.Going.{Going}
 use Rattle.kx_membership.specs.declared.member.Going.TheVariants as going
-use Rattle.kx_membership.proofs.Numbered.{numbers_changed, numbers_counted}
+use Rattle.kx_membership.proofs.Numbered.{numbers_changed, numbers_counted, numbers_woken, same_number}
 
 pub data Did (g : Group) (step : Step) (h : Group) : Type 0 where
   unsettles : h.generation ≡ g.generation → is_settled h.phase ≡ false → Did g step h
@@ -102,25 +106,38 @@ did g (Syncs number generation assignments now) =
     cond_both (takes g number generation)
     (record g {
       phase = phase.Stable;
-      roster = heard number now g.roster;
+      roster = all_woken now g.roster;
       assignments = assignments;
     })
-    (after_heartbeat g number generation now)
+    (cond (asks g number generation) (record g { roster = asked number now g.roster })
+    (after_heartbeat g number generation now))
     (λ (h : Group). Did g (Syncs number generation assignments now) h)
     (λ taken.
     let rest = both (is_present g number generation) (is_completing g.phase && leads g number)
     taken in
     assigns refl (completing_is_settled g.phase
     (both (is_completing g.phase) (leads g number) rest.1).0)
-    (numbers_changed number (begun now) g.roster.members (λ m here. refl)) (taken, refl))
+    (numbers_woken now g.roster.members) (taken, refl))
     (λ others.
-    beats g (Syncs number generation assignments now) number generation now)
+    cond_both (asks g number generation) (record g { roster = asked number now g.roster })
+    (after_heartbeat g number generation now)
+    (λ (h : Group). Did g (Syncs number generation assignments now) h)
+    (λ asks_it. stays refl refl
+    (numbers_changed number (asking now) g.roster.members (λ m here. refl)) refl)
+    (λ no. beats g (Syncs number generation assignments now) number generation now))
 did g (Beats number generation now) =
     beats g (Beats number generation now) number generation now
 did g (Leaves number now) =
     cond_both (has number g.roster.members) (left (going.Number number) now g) g
     (λ (h : Group). Did g (Leaves number now) h)
     (λ there. unsettles refl (left_unsettled (going.Number number) now g)) (λ gone. stays refl refl refl refl)
+did g (Parts number now) =
+    cond_both (is_lost (find (is_numbered number) g.roster.members))
+    (left (going.Number number) now g) (record g { roster = left_alone number now g.roster })
+    (λ (h : Group). Did g (Parts number now) h)
+    (λ lost. unsettles refl (left_unsettled (going.Number number) now g))
+    (λ kept. stays refl refl (numbers_changed number (cut_off now) g.roster.members
+    (λ m here. same_number (m.waits || m.syncs) m _ refl)) refl)
 did g (Ticks now) =
     cond_both (any_goes (going.Ended now) g.roster.members) (left (going.Ended now) now g) g
     (λ (h : Group). Did g (Ticks now) h)

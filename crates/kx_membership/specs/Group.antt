@@ -7,9 +7,10 @@ use Rattle.std.specs.List.{find, fold, slice_get}
 use Rattle.std.specs.Option.{option_and_then, option_map, option_map_or}
 use Rattle.std.specs.Ordering.{int_eq}
 use Rattle.kx_membership.specs.Protocols.{assigned_to, is_session_timeout, later, metadata_in}
-use Rattle.kx_membership.specs.Roster.{RosterState, any_goes, has, has_others, has_same, heard}
+use Rattle.kx_membership.specs.Roster.{RosterState, all_woken, any_goes, asked, has, has_others}
+use Rattle.kx_membership.specs.Roster.{has_same, heard, left_alone}
 use Rattle.kx_membership.specs.Roster.{is_among, is_numbered, joining, led_by, longest, nobody, parted, pushed}
-use Rattle.kx_membership.specs.Roster.{replaced, settled}
+use Rattle.kx_membership.specs.Roster.{replaced, settled, woken_if}
 use Rattle.kx_membership.specs.Votes.{chosen_by, common_of}
 use Rattle.kx_membership.specs.declared.ask.Assignment.{Assignment}
 use Rattle.kx_membership.specs.declared.ask.JoinAsk.{JoinAsk}
@@ -47,11 +48,19 @@ preparing phase.Empty deadline = phase.Preparing deadline
 preparing phase.Completing deadline = phase.Preparing deadline
 preparing phase.Stable deadline = phase.Preparing deadline
 
--- with members, all have to join again, within the greatest of their rebalance timeouts
+abbrev pub is_completing : Phase → Bool
+is_completing phase.Completing = true
+is_completing phase.Empty = false
+is_completing (phase.Preparing until) = false
+is_completing phase.Stable = false
+
+-- with members, all have to join again, within the greatest of their rebalance timeouts; who waits
+-- for what is assigned is told so
 abbrev pub prepared : ℕ → Group → Group
 prepared now g = record g {
   phase = if length g.roster.members == 0 then phase.Empty
       else preparing g.phase (later now (longest g.roster.members));
+  roster = woken_if (is_completing g.phase) now g.roster;
 }
 
 -- members go, and the others have to join again
@@ -199,7 +208,7 @@ new_at g place =
     option_and_then (λ m. if m.is_counted then None else Some m.number)
     (slice_get g.roster.members place)
 
------- SyncGroup, Heartbeat, LeaveGroup
+------ SyncGroup, Heartbeat
 
 -- a member of the present generation
 abbrev pub is_present : Group → ℕ → ℤ → Bool
@@ -224,24 +233,23 @@ abbrev pub after_heartbeat : Group → ℕ → ℤ → ℕ → Group
 after_heartbeat g number generation now =
     if is_present g number generation then record g { roster = heard number now g.roster } else g
 
-abbrev pub is_completing : Phase → Bool
-is_completing phase.Completing = true
-is_completing phase.Empty = false
-is_completing (phase.Preparing until) = false
-is_completing phase.Stable = false
-
 -- the leader's assignments are missing
 abbrev pub takes : Group → ℕ → ℤ → Bool
 takes g number generation =
     is_present g number generation && (is_completing g.phase && leads g number)
 
+-- who asks before the leader has assigned waits for that
+abbrev pub asks : Group → ℕ → ℤ → Bool
+asks g number generation = is_present g number generation && is_completing g.phase
+
 abbrev pub after_sync : Group → ℕ → ℤ → List Assignment → ℕ → Group
 after_sync g number generation assignments now =
     if takes g number generation then record g {
       phase = phase.Stable;
-      roster = heard number now g.roster;
+      roster = all_woken now g.roster;
       assignments = assignments;
-    } else after_heartbeat g number generation now
+    } else (if asks g number generation then record g { roster = asked number now g.roster }
+    else after_heartbeat g number generation now)
 
 abbrev pub assigned_in : Phase → List ℕ → Option (List ℕ)
 assigned_in phase.Stable bytes = Some bytes
@@ -257,6 +265,21 @@ synced_by g number None =
 
 abbrev pub synced_of : Group → ℕ → ℤ → Option (Result (List ℕ) GroupFault)
 synced_of g number generation = synced_by g number (fence g number generation)
+
+------ the end of a connection
+
+-- a member that isn't counted yet never learnt its id, so it can't come back
+abbrev pub is_lost : Option Member → Bool
+is_lost None = false
+is_lost (Some m) = m.waits && not m.is_counted
+
+abbrev pub after_end : Group → ℕ → ℕ → Group
+after_end g number now =
+    if is_lost (find (is_numbered number) g.roster.members)
+    then left (going.Number number) now g
+    else record g { roster = left_alone number now g.roster }
+
+------ LeaveGroup
 
 abbrev pub after_leave : Group → ℕ → ℕ → Group
 after_leave g number now =
@@ -285,7 +308,7 @@ due_time g = if is_ready g then Some 0 else deadline_of g.phase
 
 -- then, or when the first session of a member ends that doesn't wait
 abbrev pub sooner : Option ℕ → Member → Option ℕ
-sooner time m = if m.waits then time else earlier time m.ends
+sooner time m = if m.waits || m.syncs then time else earlier time m.ends
 
 abbrev pub next_of : Group → Option ℕ
 next_of g = fold sooner (due_time g) g.roster.members

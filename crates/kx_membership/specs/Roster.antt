@@ -1,5 +1,5 @@
 -- The members of a group, and who is gone.
-use Rattle.std.specs.Prelude.{ℕ, ◌==◌, ◌&&◌, Bool, true, false, not, nat_le, max}
+use Rattle.std.specs.Prelude.{ℕ, ◌==◌, ◌&&◌, ◌||◌, Bool, true, false, not, nat_le, max}
 use Rattle.std.specs.Prelude.{List, [], ◌∷◌, ◌++◌, map, Option, is_some, if◌then◌else◌}
 use Rattle.std.specs.List.{filter, find, fold, list_any, slice_get}
 use Rattle.std.specs.Option.{option_and_then, option_map_or, option_or}
@@ -55,6 +55,7 @@ joining number ask now = record {
   protocols = ask.protocols;
   ends = later now (milliseconds ask.session_timeout);
   waits = true;
+  syncs = false;
   is_counted = false;
 }
 
@@ -62,16 +63,35 @@ joining number ask now = record {
 abbrev pub begun : ℕ → Member → Member
 begun now m = record m { ends = later now m.session }
 
+-- it asks for what is assigned to it, and waits for that
+abbrev pub asking : ℕ → Member → Member
+asking now m = record m { ends = later now m.session; syncs = true }
+
+-- nobody waits any more for what is assigned, and sessions begin anew
+abbrev pub woken : ℕ → Member → Member
+woken now m = record m { ends = later now m.session; syncs = false }
+
 -- all have joined
 abbrev pub counted : ℕ → Member → Member
-counted now m = record m { ends = later now m.session; waits = false; is_counted = true }
+counted now m = record m {
+  ends = later now m.session;
+  waits = false;
+  syncs = false;
+  is_counted = true;
+}
+
+-- its connection has ended, so that nobody waits for an answer to it; it has a session to come back
+abbrev pub cut_off : ℕ → Member → Member
+cut_off now m =
+    if m.waits || m.syncs
+    then record m { ends = later now m.session; waits = false; syncs = false } else m
 
 ------ who goes
 
 abbrev pub goes : Going → Member → Bool
 goes (Number number) m = m.number == number
 goes Silent m = not m.waits
-goes (Ended now) m = not m.waits && nat_le m.ends now
+goes (Ended now) m = not (m.waits || m.syncs) && nat_le m.ends now
 
 abbrev pub any_goes : Going → List Member → Bool
 any_goes going members = list_any (goes going) members
@@ -105,6 +125,19 @@ parted going r = record {
   members = filter (λ m. not (goes going m)) r.members;
   gone = r.gone ++ gone_numbers going r.members;
 }
+
+abbrev pub asked : ℕ → ℕ → RosterState → RosterState
+asked number now r = record r { members = changed number (asking now) r.members }
+
+abbrev pub left_alone : ℕ → ℕ → RosterState → RosterState
+left_alone number now r = record r { members = changed number (cut_off now) r.members }
+
+abbrev pub all_woken : ℕ → RosterState → RosterState
+all_woken now r = record r { members = map (woken now) r.members }
+
+abbrev pub woken_if : Bool → ℕ → RosterState → RosterState
+woken_if true now r = all_woken now r
+woken_if false now r = r
 
 abbrev pub settled : ℕ → RosterState → RosterState
 settled now r = record { members = map (counted now) r.members; gone = [] }

@@ -2,7 +2,8 @@
 use Rattle.std.specs.Prelude.{◌≡◌, ◌<◌, ◌≤◌, ◌↔◌, ◌⊎◌, ℕ, ℤ, Bool, true, false, ◌&&◌, not, length, map}
 use Rattle.std.specs.Prelude.{List, [], ◌∷◌, ◌++◌, Option, Some, None, is_some}
 use Rattle.std.specs.List.{list_any}
-use Rattle.kx_membership.specs.Group.{after_due, after_heartbeat, after_join_again, after_join_new}
+use Rattle.kx_membership.specs.Group.{after_due, after_end, after_heartbeat, after_join_again}
+use Rattle.kx_membership.specs.Group.{after_join_new}
 use Rattle.kx_membership.specs.Group.{after_leave, after_settle, after_sync, after_tick, again_refusal}
 use Rattle.kx_membership.specs.Group.{is_ready, most_members, new_refusal, takes}
 use Rattle.kx_membership.specs.Roster.{any_goes, has, is_among}
@@ -23,6 +24,8 @@ pub data Step : Type 0 where
   Syncs : ℕ → ℤ → List Assignment → ℕ → Step
   Beats : ℕ → ℤ → ℕ → Step
   Leaves : ℕ → ℕ → Step
+  -- the connection of a member has ended
+  Parts : ℕ → ℕ → Step
   Ticks : ℕ → Step
 
 abbrev pub unless : Option GroupFault → Group → Group → Group
@@ -41,6 +44,7 @@ after_step g (Syncs number generation assignments now) =
     after_sync g number generation assignments now
 after_step g (Beats number generation now) = after_heartbeat g number generation now
 after_step g (Leaves number now) = after_leave g number now
+after_step g (Parts number now) = after_end g number now
 after_step g (Ticks now) = after_tick g now
 
 abbrev pub after_all : Group → List Step → Group
@@ -100,6 +104,7 @@ pub record IsGroup (g : Group) : Type 0 where
   pub joined : is_settled g.phase ≡ true → list_any (λ m. m.waits) g.roster.members ≡ false
   pub led : is_settled g.phase ≡ true → HasLeader g
   pub known : any_goes going.Silent g.roster.members ≡ true → is_some g.leader ≡ true
+  pub counted : list_any (λ m. m.is_counted) g.roster.members ≡ true → is_some g.leader ≡ true
 
 -- a time comes before another, if there is another
 abbrev pub IsBefore : ℕ → Option ℕ → Type 0

@@ -2,12 +2,13 @@
 ghost use Rattle.std.specs.Prelude.{◌≡◌, None, Some, Ok, Err, IsTrue, false, MatchOption};
 ghost use Rattle.std.specs.Prelude.{MatchResult};
 ghost use Rattle.std.specs.Option.{option_copied, option_map};
-ghost use Rattle.std.specs.List.{slice_get};
-ghost use Rattle.kx_membership.specs.Roster.{has};
-ghost use Rattle.kx_membership.specs.Group.{Refuses, after_due, after_heartbeat, after_join_again};
-ghost use Rattle.kx_membership.specs.Group.{after_join_new, after_leave, after_settle, after_sync};
-ghost use Rattle.kx_membership.specs.Group.{after_tick, again_refusal, due_time, fence, fits};
-ghost use Rattle.kx_membership.specs.Group.{is_past, is_ready, joined_of, leads, left};
+ghost use Rattle.std.specs.List.{find, slice_get};
+ghost use Rattle.kx_membership.specs.Roster.{has, is_numbered};
+ghost use Rattle.kx_membership.specs.Group.{Refuses, after_due, after_end, after_heartbeat};
+ghost use Rattle.kx_membership.specs.Group.{after_join_again, after_join_new, after_leave};
+ghost use Rattle.kx_membership.specs.Group.{after_settle, after_sync, after_tick, again_refusal, asks};
+ghost use Rattle.kx_membership.specs.Group.{due_time, fence, fits, is_lost, is_past, is_ready};
+ghost use Rattle.kx_membership.specs.Group.{joined_of, leads, left};
 ghost use Rattle.kx_membership.specs.Group.{metadata_of, must_wait, new_at, new_group, next_of};
 ghost use Rattle.kx_membership.specs.Group.{new_refusal, prepared, protocol_by};
 ghost use Rattle.kx_membership.specs.Group.{refusal_of, sooner, synced_of, takes};
@@ -132,21 +133,32 @@ impl Group {
         None
     }
 
-    // With members, all have to join again, within the greatest of their rebalance timeouts.
-    fn prepare(&mut self, now: u64)
-        ensures { self.new ≡ prepared now self.old }
+    // The phase in which all members have to join again, within the greatest of their rebalance
+    // timeouts.
+    fn preparing(&self, now: u64) -> Phase
+        ensures { result ≡ (prepared now self.now).phase }
     {
         let members = self.roster.members();
         if members.is_empty() {
-            self.phase = Phase::Empty;
-            return;
+            return Phase::Empty;
         }
-        self.phase = match self.phase {
+        match self.phase {
             Phase::Preparing(until) => Phase::Preparing(until),
             Phase::Empty | Phase::Completing | Phase::Stable => {
                 Phase::Preparing(now.saturating_add(longest(members)))
             }
-        };
+        }
+    }
+
+    // With members, all have to join again; who waits for what is assigned is told so.
+    fn prepare(&mut self, now: u64)
+        ensures { self.new ≡ prepared now self.old }
+    {
+        let next = self.preparing(now);
+        if let Phase::Completing = self.phase {
+            self.roster.wake(now);
+        }
+        self.phase = next;
     }
 
     // Members go, and the others have to join again.
@@ -428,8 +440,18 @@ impl Group {
             && self.leads(number)
     }
 
-    /// A member asks for what is assigned to it, and its session begins anew. The leader's
-    /// assignments are taken once; a member that it doesn't name is assigned no bytes. What is
+    // Whether the member has to wait for the leader's assignments.
+    fn asks(&self, number: ClientId, generation: i32) -> bool
+        ensures { result ≡ asks self.now number generation }
+    {
+        has(self.roster.members(), number)
+            && self.generation == generation
+            && matches!(self.phase, Phase::Completing)
+    }
+
+    /// A member asks for what is assigned to it, and its session begins anew; before the leader has
+    /// assigned it waits, and its session doesn't end. The leader's assignments are taken once, and
+    /// then all sessions begin anew; a member that it doesn't name is assigned no bytes. What is
     /// answered, [`Group::synced`] says.
     ///
     /// # Errors
@@ -446,13 +468,17 @@ impl Group {
             (λ fault. fence self.old number generation ≡ Some fault) }
         ensures noted { self.new ≡ after_sync self.old number generation assignments now }
     {
-        let takes = self.takes(number, generation);
-        let answer = self.heartbeat(number, generation, now);
-        if takes {
-            self.phase = Phase::Stable;
-            self.assignments = assignments;
+        if !self.asks(number, generation) {
+            return self.heartbeat(number, generation, now);
         }
-        answer
+        if self.takes(number, generation) {
+            self.phase = Phase::Stable;
+            self.roster.wake(now);
+            self.assignments = assignments;
+        } else {
+            self.roster.ask(number, now);
+        }
+        Ok(())
     }
 
     /// What the leader assigned to a member of this generation, which answers its SyncGroup: None
@@ -469,6 +495,29 @@ impl Group {
         match self.phase {
             Phase::Stable => Some(Ok(self.assignments.of(number))),
             Phase::Empty | Phase::Preparing(_) | Phase::Completing => None,
+        }
+    }
+
+    /// The connection over which a member's JoinGroup or SyncGroup waits has ended: the member waits
+    /// no more, and has a session to come back. One that joins for the first time is gone, since it
+    /// never learnt its id.
+    pub fn end_wait(&mut self, number: ClientId, now: u64)
+        ensures { self.new ≡ after_end self.old number now }
+    {
+        if self.is_lost(number) {
+            self.part(Going::Number(number), now);
+        } else {
+            self.roster.cut_off(number, now);
+        }
+    }
+
+    // Whether this is a member that waits and that the core doesn't count yet.
+    fn is_lost(&self, number: ClientId) -> bool
+        ensures { result ≡ is_lost (find (is_numbered number) self.now.roster.members) }
+    {
+        match find(self.roster.members(), number) {
+            None => false,
+            Some(member) => member.waits && !member.is_counted,
         }
     }
 
@@ -491,8 +540,8 @@ impl Group {
         Ok(())
     }
 
-    /// Time has gone on: members whose session has ended, and which don't wait for the others, are
-    /// gone, and the others have to join again.
+    /// Time has gone on: members whose session has ended, and which wait for no answer, are gone, and
+    /// the others have to join again.
     pub fn tick(&mut self, now: u64)
         ensures { self.new ≡ after_tick self.old now }
     {
@@ -532,7 +581,7 @@ impl Group {
 fn sooner(time: Option<u64>, member: &Member) -> Option<u64>
     ensures { result ≡ sooner time member.now }
 {
-    if member.waits {
+    if member.is_waiting() {
         return time;
     }
     match time {

@@ -1,12 +1,14 @@
 //! Laws of the definitions.
 ghost use Rattle.std.specs.Prelude.{◌≡◌, ◌<◌, ◌≤◌, ◌^◌, ◌⊎◌, ℕ, ℤ, List, [], Option, Some, Ok, Err};
-ghost use Rattle.std.specs.Prelude.{true, false, is_some, not};
+ghost use Rattle.std.specs.Prelude.{true, false, is_some, not, ◌||◌};
 ghost use Rattle.std.specs.List.{find};
 ghost use Rattle.kx_membership.specs.MemberId.{IsIdOf, member_id_of};
-ghost use Rattle.kx_membership.specs.Protocols.{assigned_to};
+ghost use Rattle.kx_membership.specs.Protocols.{assigned_to, later};
 ghost use Rattle.kx_membership.specs.Roster.{any_goes, has, is_numbered};
-ghost use Rattle.kx_membership.specs.Group.{after_due, after_settle, after_tick, again_refusal};
-ghost use Rattle.kx_membership.specs.Group.{fence, is_ready, joined_of, new_group, next_of, synced_of};
+ghost use Rattle.kx_membership.specs.Group.{after_due, after_end, after_heartbeat, after_settle};
+ghost use Rattle.kx_membership.specs.Group.{after_sync, after_tick, again_refusal, asks, fence};
+ghost use Rattle.kx_membership.specs.Group.{is_present, is_ready, joined_of, new_group, next_of};
+ghost use Rattle.kx_membership.specs.Group.{synced_of, takes};
 ghost use Rattle.kx_membership.specs.Steps.{IsAssigned, IsBefore, IsGroup, NoneJoins, SettlesAs, Step};
 ghost use Rattle.kx_membership.specs.Steps.{after_all, after_step, is_settled, numbers};
 ghost use Rattle.kx_membership.specs.declared.ask.Assignment.{Assignment};
@@ -86,6 +88,36 @@ pub fn groups_are_sound()
 pub fn nothing_happens_before()
     ensures { (g : Group) (now : ℕ) → IsBefore now (next_of g)
         → (is_ready g ≡ false) × (after_due g now ≡ g) × (after_tick g now ≡ g) }
+{}
+
+/// A law: a member to which an answer is owed, or whose session hasn't ended, stays however much time
+/// goes on (`stays`). A heartbeat begins its session anew, and a SyncGroup before the leader has
+/// assigned waits (`heard`, `asks`). Once the leader has assigned nobody waits for it, and all
+/// sessions begin anew (`assigned`). Once its connection has ended no answer is owed to a member
+/// (`ended`).
+pub fn members_that_wait_stay()
+    ensures stays { (g : Group) (m : Member) (number now : ℕ)
+        → find (is_numbered number) g.roster.members ≡ Some m
+        → ((m.waits || m.syncs) ≡ true) ⊎ (now < m.ends)
+        → has number (after_tick g now).roster.members ≡ true }
+    ensures heard { (g : Group) (m : Member) (number now : ℕ) (generation : ℤ)
+        → is_present g number generation ≡ true
+        → find (is_numbered number) (after_heartbeat g number generation now).roster.members
+        ≡ Some m → m.ends ≡ later now m.session }
+    ensures asks { (g : Group) (m : Member) (number now : ℕ) (generation : ℤ)
+        (assignments : List Assignment)
+        → asks g number generation ≡ true → takes g number generation ≡ false
+        → find (is_numbered number)
+        (after_sync g number generation assignments now).roster.members ≡ Some m
+        → m.syncs ≡ true }
+    ensures assigned { (g : Group) (m : Member) (leader number now : ℕ) (generation : ℤ)
+        (assignments : List Assignment) → takes g leader generation ≡ true
+        → find (is_numbered number)
+        (after_sync g leader generation assignments now).roster.members ≡ Some m
+        → (m.syncs ≡ false) × (m.ends ≡ later now m.session) }
+    ensures ended { (g : Group) (m : Member) (number now : ℕ)
+        → find (is_numbered number) (after_end g number now).roster.members ≡ Some m
+        → (m.waits || m.syncs) ≡ false }
 {}
 
 /// A law: the id of a member says its number, and no other.

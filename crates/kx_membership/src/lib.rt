@@ -22,5 +22,5 @@ pub use group::{Group, Joined};
 pub use ids::{member_id, number_in};
 pub use laws::{
     assignments_are_the_leaders, generations_are_settled, groups_are_sound, member_ids_say_numbers,
-    nothing_happens_before, preparing_ends, those_gone_are_unknown,
+    members_that_wait_stay, nothing_happens_before, preparing_ends, those_gone_are_unknown,
 };

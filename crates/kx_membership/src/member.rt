@@ -1,10 +1,11 @@
 //! One member, and what a list of members says.
-ghost use Rattle.std.specs.Prelude.{◌≡◌, ◌≤◌, ◌+◌, ◌++◌, length, map, vec_capacity, vec_len};
+ghost use Rattle.std.specs.Prelude.{◌≡◌, ◌≤◌, ◌+◌, ◌++◌, ◌||◌, length, map, vec_capacity, vec_len};
 ghost use Rattle.std.specs.Option.{option_copied};
 ghost use Rattle.std.specs.List.{find};
 ghost use Rattle.kx_membership.specs.Internal.Places.{IsPlaceOf};
-ghost use Rattle.kx_membership.specs.Roster.{any_goes, begun, counted, goes, gone_numbers, has, has_others, has_same};
-ghost use Rattle.kx_membership.specs.Roster.{is_numbered, joining, led_by, longest};
+ghost use Rattle.kx_membership.specs.Roster.{any_goes, asking, begun, counted, cut_off, goes};
+ghost use Rattle.kx_membership.specs.Roster.{gone_numbers, has, has_others, has_same, is_numbered};
+ghost use Rattle.kx_membership.specs.Roster.{joining, led_by, longest, woken};
 
 use crate::ask::{JoinAsk, Protocols, milliseconds};
 use kx_message::{Bytes, ClientId};
@@ -22,6 +23,8 @@ pub(crate) struct Member {
     pub(crate) ends: u64,
     // Whether a JoinGroup of it waits for the others.
     pub(crate) waits: bool,
+    // Whether a SyncGroup of it waits for the leader's assignments.
+    pub(crate) syncs: bool,
     // Whether the core counts it.
     pub(crate) is_counted: bool,
 }
@@ -33,7 +36,7 @@ pub(crate) enum Going {
     Number(ClientId),
     // Those that don't wait.
     Silent,
-    // Those that don't wait and whose session has ended by this time.
+    // Those that wait for no answer and whose session has ended by this time.
     Ended(u64),
 }
 
@@ -57,6 +60,7 @@ impl Member {
             protocols,
             ends: now.saturating_add(session),
             waits: true,
+            syncs: false,
             is_counted: false,
         };
         (member, protocol_type)
@@ -68,6 +72,32 @@ impl Member {
     {
         self.ends = now.saturating_add(self.session);
     }
+
+    // It asks for what is assigned to it, and waits for that.
+    pub(crate) fn ask(&mut self, now: u64)
+        ensures { self.new ≡ asking now self.old }
+    {
+        self.begin(now);
+        self.syncs = true;
+    }
+
+    // Its connection has ended: nobody waits for an answer to it.
+    pub(crate) fn cut_off(&mut self, now: u64)
+        ensures { self.new ≡ cut_off now self.old }
+    {
+        if self.waits || self.syncs {
+            self.begin(now);
+            self.waits = false;
+            self.syncs = false;
+        }
+    }
+
+    // Whether an answer is owed to it.
+    pub(crate) fn is_waiting(&self) -> bool
+        ensures { result ≡ (self.now.waits || self.now.syncs) }
+    {
+        self.waits || self.syncs
+    }
 }
 
 impl Going {
@@ -78,7 +108,7 @@ impl Going {
         match self {
             Going::Number(number) => member.number == *number,
             Going::Silent => !member.waits,
-            Going::Ended(now) => !member.waits && member.ends <= *now,
+            Going::Ended(now) => !member.is_waiting() && member.ends <= *now,
         }
     }
 }
@@ -186,6 +216,17 @@ pub(crate) fn note_gone(members: &[Member], going: &Going, gone: &mut Vec<Client
     }
 }
 
+// None waits any more for what is assigned to it, and their sessions begin anew.
+pub(crate) fn wake_all(members: &mut [Member], now: u64)
+    ensures { members.new ≡ map (woken now) members.old }
+{
+    for place in 0..members.len() {
+        let member = &mut members[place];
+        member.begin(now);
+        member.syncs = false;
+    }
+}
+
 // The core counts each; none waits, and their sessions begin anew.
 pub(crate) fn count_all(members: &mut [Member], now: u64)
     ensures { members.new ≡ map (counted now) members.old }
@@ -194,6 +235,7 @@ pub(crate) fn count_all(members: &mut [Member], now: u64)
         let member = &mut members[place];
         member.begin(now);
         member.waits = false;
+        member.syncs = false;
         member.is_counted = true;
     }
 }

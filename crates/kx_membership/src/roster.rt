@@ -1,8 +1,9 @@
 //! The members of a group, and the numbers of those gone that the core still counts.
 ghost use Rattle.std.specs.Prelude.{◌≡◌, ◌++◌, ◌∷◌, [], IsOk, MatchResult};
-ghost use Rattle.kx_membership.specs.Roster.{heard, nobody, parted, pushed, replaced, settled};
+ghost use Rattle.kx_membership.specs.Roster.{all_woken, asked, heard, left_alone, nobody, parted};
+ghost use Rattle.kx_membership.specs.Roster.{pushed, replaced, settled};
 
-use crate::member::{Going, Member, count_all, note_gone, place_of};
+use crate::member::{Going, Member, count_all, note_gone, place_of, wake_all};
 use kx_message::ClientId;
 use std::alloc::{AllocError, Global};
 use std::marker::Model;
@@ -69,6 +70,31 @@ impl Roster {
         if let Some(place) = place_of(&self.members, number) {
             self.members[place].begin(now);
         }
+    }
+
+    // A member asks for what is assigned to it, and waits for that.
+    pub(crate) fn ask(&mut self, number: ClientId, now: u64)
+        ensures { self.new ≡ asked number now self.old }
+    {
+        if let Some(place) = place_of(&self.members, number) {
+            self.members[place].ask(now);
+        }
+    }
+
+    // The connection of a member has ended: nobody waits for an answer to it.
+    pub(crate) fn cut_off(&mut self, number: ClientId, now: u64)
+        ensures { self.new ≡ left_alone number now self.old }
+    {
+        if let Some(place) = place_of(&self.members, number) {
+            self.members[place].cut_off(now);
+        }
+    }
+
+    // None waits any more for what is assigned to it, and sessions begin anew.
+    pub(crate) fn wake(&mut self, now: u64)
+        ensures { self.new ≡ all_woken now self.old }
+    {
+        wake_all(&mut self.members, now);
     }
 
     // A member says its protocols and timeouts anew; its number and whether the core counts it
