@@ -127,9 +127,18 @@ pub(crate) struct Session<'a, L: Readable, J: Naming, R: Wait + Clock + Drop> {
 }
 
 impl<'a, L: Readable, J: Naming, R: Wait + Clock + Drop> Session<'a, L, J, R> {
-    /// Who asks the core: each message of a connection has the number of its client, and is answered
-    /// before the next is sent.
-    pub(crate) fn caller(&self) -> Caller {
+    /// Who sends the next message to the core: each has a number of its own among those of the
+    /// connection's client, and one that is sent again keeps it.
+    ///
+    /// # Errors
+    ///
+    /// After 2^32 - 1 messages: the connection ends.
+    pub(crate) fn caller(&self) -> Result<Caller, Closed> {
+        self.link.next_caller(self.rt).ok_or(Closed)
+    }
+
+    /// Who reads published pages, of which the core isn't asked.
+    pub(crate) fn reader(&self) -> Caller {
         Caller {
             client: self.link.client,
             correlation: 0,
@@ -292,16 +301,9 @@ impl<'a, L: Readable, J: Naming, R: Wait + Clock + Drop> Session<'a, L, J, R> {
         topic: &[u8],
         data: &PartitionProduceData<'t>,
     ) -> Result<ProduceAsk<'t>, Closed> {
+        let caller = self.caller()?;
         let kept = self.link.shared.table.lock(self.rt);
-        let step = ask_produce(
-            self.alloc,
-            &kept.topics,
-            self.caller(),
-            acks,
-            id,
-            topic,
-            data,
-        )?;
+        let step = ask_produce(self.alloc, &kept.topics, caller, acks, id, topic, data)?;
         Ok(step)
     }
 
@@ -347,7 +349,7 @@ impl<'a, L: Readable, J: Naming, R: Wait + Clock + Drop> Session<'a, L, J, R> {
             return Ok(ends);
         }
         let fetch = Fetch {
-            caller: self.caller(),
+            caller: self.caller()?,
             partition,
             from: 0,
             max: 0,
@@ -419,7 +421,7 @@ impl<'a, L: Readable, J: Naming, R: Wait + Clock + Drop> Session<'a, L, J, R> {
         asked: &Asked<'_>,
         request: &InitProducerIdRequest<'_>,
     ) -> Result<Answer, Closed> {
-        match ask_init(self.caller(), request) {
+        match ask_init(self.caller()?, request) {
             InitAsk::Refused(code) => self.refuse_init(asked, code),
             InitAsk::Ask(init) => {
                 let reply = self.ask_init(&init)?;

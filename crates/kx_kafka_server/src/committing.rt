@@ -4,7 +4,7 @@
 use crate::absent::ASK_AGAIN;
 use crate::answering::{Answer, Asked, Session};
 use crate::closed::Closed;
-use crate::groups::KnownGroup;
+use crate::groups::{KnownGroup, OwnTxn};
 use crate::replies::{offset_fetch_reply, offsets_reply};
 use crate::transacting::TxnInit;
 use kx_gateway::{coordinator_code, held_of, txn_of};
@@ -81,6 +81,23 @@ struct Claim<'g> {
     offsets: Vec<PartitionOffset>,
 }
 
+// What became of offsets that were to be committed outside of a client's transaction.
+#[derive(Clone, Copy)]
+enum Committed {
+    // this is the code for the client
+    Answered(i16),
+    // the core refused them with this code, since the generation ended meanwhile
+    OfAnotherGeneration(ErrorCode),
+}
+
+// Whether the core refused offsets since they are of no member of the present generation.
+fn is_of_another_generation(code: ErrorCode) -> bool {
+    matches!(
+        code,
+        ErrorCode::IllegalGeneration | ErrorCode::UnknownMemberId
+    )
+}
+
 // Who asks to commit offsets in a transaction.
 #[derive(Clone, Copy)]
 struct TxnCommit<'t> {
@@ -147,13 +164,14 @@ impl<'a, L: Readable, J: Naming, R: Wait + Clock + Drop> Session<'a, L, J, R> {
         first: i32,
         commit: &Commit,
     ) -> Result<OffsetsReply, Closed> {
+        let caller = self.caller()?;
         for _ in 0..self.most_asked() {
             let offsets = Vec::from_slice(self.alloc, &commit.offsets)?;
             if offsets.is_empty() || offsets.len() > Offsets::MOST {
                 return Err(Closed);
             }
             let message = Message::TxnOffsetCommit(TxnOffsetCommit {
-                caller: self.caller(),
+                caller,
                 txn,
                 group: commit.group,
                 member: commit.member,
@@ -166,6 +184,29 @@ impl<'a, L: Readable, J: Naming, R: Wait + Clock + Drop> Session<'a, L, J, R> {
             if reply.code != ErrorCode::ConcurrentTransactions {
                 return Ok(reply);
             }
+            self.pause();
+        }
+        Err(Closed)
+    }
+
+    // Asks the offsets partition to commit offsets of a producer's transaction. In the name of a guest
+    // it is asked again with the next one, if the group's generation ended meanwhile.
+    fn ask_to_commit_claim(
+        &self,
+        txn: TxnId,
+        held: Held,
+        first: i32,
+        claim: Claim<'_>,
+    ) -> Result<OffsetsReply, Closed> {
+        let Claim { group, by, offsets } = claim;
+        let mut offsets = offsets;
+        for _ in 0..self.most_asked() {
+            let commit = self.commit_of(Claim { group, by, offsets })?;
+            let reply = self.ask_to_commit(txn, held, first, &commit)?;
+            if !(matches!(by, By::Guest(_)) && is_of_another_generation(reply.code)) {
+                return Ok(reply);
+            }
+            offsets = commit.offsets;
             self.pause();
         }
         Err(Closed)
@@ -188,8 +229,7 @@ impl<'a, L: Readable, J: Naming, R: Wait + Clock + Drop> Session<'a, L, J, R> {
             None => Err(Closed),
             Some(BatchVerdict::Refused(code)) => Ok(code),
             Some(BatchVerdict::Send { held, first }) => {
-                let commit = self.commit_of(claim)?;
-                let reply = self.ask_to_commit(txn, held, first, &commit)?;
+                let reply = self.ask_to_commit_claim(txn, held, first, claim)?;
                 Ok(producer.offsets_answered(reply.code))
             }
         }
@@ -307,9 +347,9 @@ impl<'a, L: Readable, J: Naming, R: Wait + Clock + Drop> Session<'a, L, J, R> {
 
     // The id and epoch with which the server commits a group's offsets, asked for if there is
     // none.
-    fn own_held(&self, txn: TxnId, known: &KnownGroup) -> Result<Option<Held>, Closed> {
-        if known.held.is_some() {
-            return Ok(known.held);
+    fn own_held(&self, txn: TxnId, own: &Option<Held>) -> Result<Option<Held>, Closed> {
+        if own.is_some() {
+            return Ok(*own);
         }
         let Ok(timeout) = Timeout::try_from(OWN_TIMEOUT) else {
             return Err(Closed);
@@ -340,13 +380,13 @@ impl<'a, L: Readable, J: Naming, R: Wait + Clock + Drop> Session<'a, L, J, R> {
     // Ends the server's own transaction in which offsets were committed, and returns the core's code.
     fn end_own(
         &self,
-        known: &mut KnownGroup,
+        own: &mut Option<Held>,
         txn: TxnId,
         held: Held,
         commit: &Commit,
     ) -> Result<ErrorCode, Closed> {
         let reply = self.ask_for_end(EndTxn {
-            caller: self.caller(),
+            caller: self.caller()?,
             txn,
             held,
             outcome: Outcome::Commit,
@@ -354,7 +394,7 @@ impl<'a, L: Readable, J: Naming, R: Wait + Clock + Drop> Session<'a, L, J, R> {
         if reply.code != ErrorCode::NoError {
             return Ok(reply.code);
         }
-        known.held = reply.held;
+        *own = reply.held;
         if let Some(first) = commit.offsets.first() {
             self.wait_until_stable(commit.group, first.partition)?;
         }
@@ -362,25 +402,49 @@ impl<'a, L: Readable, J: Naming, R: Wait + Clock + Drop> Session<'a, L, J, R> {
     }
 
     // Commits offsets in a transaction of the server's own. The code for the client: 0 only if the
-    // core took the offsets and committed their transaction.
-    fn commit_alone(&self, known: &mut KnownGroup, commit: &Commit) -> Result<i16, Closed> {
-        let txn = self.own_txn(known.place)?;
-        let Some(held) = self.own_held(txn, known)? else {
-            return Ok(GroupCode::CoordinatorNotAvailable.number());
+    // core took the offsets and committed their transaction. Other commits of the group wait for it;
+    // its members don't.
+    fn commit_alone(&self, own: &OwnTxn, commit: &Commit) -> Result<Committed, Closed> {
+        let txn = self.own_txn(own.place)?;
+        let mut own = own.held.lock(self.rt);
+        let Some(held) = self.own_held(txn, &own)? else {
+            return Ok(Committed::Answered(GroupCode::CoordinatorNotAvailable.number()));
         };
         // Until the core has answered, it isn't known if the transaction is: the next commit then
         // begins with a new pair, which aborts it.
-        known.held = None;
+        *own = None;
         let reply = self.ask_to_commit(txn, held, 0, commit)?;
+        if is_of_another_generation(reply.code) {
+            *own = Some(held);
+            return Ok(Committed::OfAnotherGeneration(reply.code));
+        }
         let end = match reply.code {
-            ErrorCode::NoError => Some(self.end_own(known, txn, held, commit)?),
-            ErrorCode::IllegalGeneration | ErrorCode::UnknownMemberId => {
-                known.held = Some(held);
-                None
-            }
+            ErrorCode::NoError => Some(self.end_own(&mut own, txn, held, commit)?),
             _ => None,
         };
-        Ok(alone_code(reply.code, end))
+        Ok(Committed::Answered(alone_code(reply.code, end)))
+    }
+
+    // The offsets that are to be committed outside of a client's transaction, and the server's own
+    // transaction for them. None for a client that doesn't say which member it is, if there are members.
+    fn begin_commit(
+        &self,
+        group: GroupId,
+        known: &Mutex<KnownGroup>,
+        committer: Committer,
+        offsets: Vec<PartitionOffset>,
+    ) -> Result<Option<(Commit, Arc<OwnTxn>)>, Closed> {
+        let read = self.now()?;
+        let mut known = known.lock(self.rt);
+        self.move_on(group, &mut known, read)?;
+        if known.has_members() && matches!(committer, Committer::Anyone) {
+            return Ok(None);
+        }
+        let Ok(own) = Arc::try_clone(&known.own) else {
+            return Err(Closed);
+        };
+        let commit = self.commit_as(group, &mut known, committer, offsets)?;
+        Ok(Some((commit, own)))
     }
 
     // The code for offsets outside of a client's transaction, in a group.
@@ -391,12 +455,22 @@ impl<'a, L: Readable, J: Naming, R: Wait + Clock + Drop> Session<'a, L, J, R> {
         committer: Committer,
         offsets: Vec<PartitionOffset>,
     ) -> Result<i16, Closed> {
-        let mut known = known.lock(self.rt);
-        if known.has_members() && matches!(committer, Committer::Anyone) {
-            return Ok(ErrorCode::UnknownMemberId.number());
+        let mut offsets = offsets;
+        for _ in 0..self.most_asked() {
+            let Some((commit, own)) = self.begin_commit(group, known, committer, offsets)? else {
+                return Ok(ErrorCode::UnknownMemberId.number());
+            };
+            match (self.commit_alone(&own, &commit)?, committer) {
+                (Committed::Answered(code), _) => return Ok(code),
+                (Committed::OfAnotherGeneration(code), Committer::Member { .. }) => {
+                    return Ok(code.number());
+                }
+                (Committed::OfAnotherGeneration(_), Committer::Anyone) => {}
+            }
+            offsets = commit.offsets;
+            self.pause();
         }
-        let commit = self.commit_as(group, &mut known, committer, offsets)?;
-        self.commit_alone(&mut known, &commit)
+        Err(Closed)
     }
 
     // The group in which offsets are committed outside of a client's transaction, for a thread that
@@ -464,7 +538,7 @@ impl<'a, L: Readable, J: Naming, R: Wait + Clock + Drop> Session<'a, L, J, R> {
         stable: bool,
     ) -> Result<OffsetFetchReply, Closed> {
         offset_fetch_reply(&self.ask(Message::OffsetFetch(OffsetFetch {
-            caller: self.caller(),
+            caller: self.caller()?,
             group,
             partition,
             stable,

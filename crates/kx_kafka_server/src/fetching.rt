@@ -200,7 +200,7 @@ impl<'a, L: Readable, J: Naming, R: Wait + Clock + Drop> Session<'a, L, J, R> {
             for asked in topic.partitions {
                 let step = ask_fetch(
                     &self.link.shared.table.lock(self.rt).topics,
-                    self.caller(),
+                    self.reader(),
                     level,
                     topic.topic,
                     &asked,

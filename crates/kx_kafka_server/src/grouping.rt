@@ -28,12 +28,20 @@ use std::time::Clock;
 // How many protocols of a member are looked at. Stock clients have two or three.
 const MOST_PROTOCOLS: usize = 16;
 
+// The messages by which the core is told of a member: each has a number of its own.
+const JOINS: u32 = 0;
+
+const LEAVES: u32 = 1;
+
+// How many numbers a guest tries at most: the core refuses one that left the group before.
+const MOST_GUESTS: usize = 16;
+
 // How many other groups are looked after at most for a client that asks for one more.
 const MOST_TENDED: usize = 64;
 
 impl<'a, L: Readable, J: Naming, R: Wait + Clock + Drop> Session<'a, L, J, R> {
-    // The time of the server's clock, in milliseconds.
-    fn now(&self) -> Result<u64, Closed> {
+    /// The time of the server's clock, in milliseconds.
+    pub(crate) fn now(&self) -> Result<u64, Closed> {
         let Some(begun) = &self.link.shared.begun else {
             return Err(Closed);
         };
@@ -55,7 +63,7 @@ impl<'a, L: Readable, J: Naming, R: Wait + Clock + Drop> Session<'a, L, J, R> {
     fn tell_leave(&self, group: GroupId, member: ClientId) -> Result<(), Closed> {
         let caller = Caller {
             client: member,
-            correlation: 0,
+            correlation: LEAVES,
         };
         let leave = Leave { caller, group };
         let reply = leave_reply(&self.ask_as(member, Message::Leave(leave))?)?;
@@ -65,15 +73,19 @@ impl<'a, L: Readable, J: Naming, R: Wait + Clock + Drop> Session<'a, L, J, R> {
         }
     }
 
-    // Tells the core that a member joins, and returns the group's generation.
-    fn tell_join(&self, group: GroupId, member: ClientId) -> Result<i32, Closed> {
+    // Tells the core that a member joins, and returns the group's generation. None if the core refuses
+    // it, as it does a number that left the group before.
+    fn tell_join(&self, group: GroupId, member: ClientId) -> Result<Option<i32>, Closed> {
         let caller = Caller {
             client: member,
-            correlation: 0,
+            correlation: JOINS,
         };
         let join = Join { caller, group };
         let reply = join_reply(&self.ask_as(member, Message::Join(join))?)?;
-        generation_in(&reply).ok_or(Closed)
+        match reply.code {
+            ErrorCode::NoError | ErrorCode::UnknownMemberId => Ok(generation_in(&reply)),
+            _ => Err(Closed),
+        }
     }
 
     // Tells the core of each that leaves.
@@ -89,24 +101,32 @@ impl<'a, L: Readable, J: Naming, R: Wait + Clock + Drop> Session<'a, L, J, R> {
         Ok(())
     }
 
-    // Tells the core of each new member.
-    fn tell_new(&self, id: GroupId, known: &KnownGroup) -> Result<(), Closed> {
+    // Tells the core of each new member, and returns those that it refuses.
+    fn tell_new(&self, id: GroupId, known: &KnownGroup) -> Result<Vec<ClientId>, Closed> {
+        let mut refused = Vec::new(self.alloc);
         for place in 0..MOST_MEMBERS {
-            if let Some(member) = known.group.new_at(place) {
-                self.tell_join(id, member)?;
+            if let Some(member) = known.group.new_at(place)
+                && self.tell_join(id, member)?.is_none()
+            {
+                refused.push(member)?;
             }
         }
-        Ok(())
+        Ok(refused)
     }
 
     // A guest joins, and what it is answered is the group's generation.
     fn invite_guest(&self, id: GroupId, known: &mut KnownGroup) -> Result<(), Closed> {
-        let Some(guest) = self.link.shared.numbers.take(self.rt) else {
-            return Err(Closed);
-        };
-        known.generation = self.tell_join(id, guest)?;
-        known.guest = Some(guest);
-        Ok(())
+        for _ in 0..MOST_GUESTS {
+            let Some(guest) = self.link.shared.numbers.take(self.rt) else {
+                return Err(Closed);
+            };
+            if let Some(generation) = self.tell_join(id, guest)? {
+                known.generation = generation;
+                known.guest = Some(guest);
+                return Ok(());
+            }
+        }
+        Err(Closed)
     }
 
     /// Has a guest join, if none is there.
@@ -117,22 +137,32 @@ impl<'a, L: Readable, J: Naming, R: Wait + Clock + Drop> Session<'a, L, J, R> {
         }
     }
 
-    // Tells the core who is a member after a rebalance. If nobody is, there is no guest either.
+    // Tells the core who is a member after a rebalance. A member that it refuses is gone, alone. If
+    // nobody is left, there is no guest either.
     fn tell_members(&self, id: GroupId, known: &mut KnownGroup) -> Result<(), Closed> {
         self.tell_gone(id, known)?;
+        let now = self.now()?;
+        for refused in self.tell_new(id, known)? {
+            // It is a member, since nobody else changes the group meanwhile.
+            let _ = known.group.leave(refused, now);
+        }
         if known.has_members() {
-            self.tell_new(id, known)?;
             self.invite_guest(id, known)?;
         }
         Ok(())
     }
 
     /// Does what is due: members that are late are gone, and a rebalance that is complete is told to
-    /// the core and settled.
-    pub(crate) fn move_on(&self, id: GroupId, known: &mut KnownGroup) -> Result<(), Closed> {
-        let now = self.now()?;
-        known.group.tick(now);
-        if !known.group.due(now) {
+    /// the core and settled. Sessions are over that ended by the time at which the request was read,
+    /// so that nobody's ends while it waits for the group.
+    pub(crate) fn move_on(
+        &self,
+        id: GroupId,
+        known: &mut KnownGroup,
+        read: u64,
+    ) -> Result<(), Closed> {
+        known.group.tick(read);
+        if !known.group.due(self.now()?) {
             return Ok(());
         }
         self.tell_members(id, known)?;
@@ -242,13 +272,24 @@ impl<'a, L: Readable, J: Naming, R: Wait + Clock + Drop> Session<'a, L, J, R> {
         known: &Mutex<KnownGroup>,
         number: ClientId,
     ) -> Result<Option<Answer>, Closed> {
+        let read = self.now()?;
         let mut known = known.lock(self.rt);
-        self.move_on(id, &mut known)?;
+        self.move_on(id, &mut known, read)?;
         match known.group.joined(number) {
             None => Ok(None),
             Some(Ok(joined)) => Ok(Some(self.joined(asked, &known, number, joined)?)),
             Some(Err(fault)) => Ok(Some(self.refuse_join(asked, fault.number(), &[])?)),
         }
+    }
+
+    // Ends the wait of a member whose connection has ended.
+    fn stay_open(&self, known: &Mutex<KnownGroup>, number: ClientId) -> Result<(), Closed> {
+        if self.link.inbox.is_open(self.rt) {
+            return Ok(());
+        }
+        let now = self.now()?;
+        known.lock(self.rt).group.end_wait(number, now);
+        Err(Closed)
     }
 
     // Waits for the answer to a member's JoinGroup.
@@ -263,9 +304,7 @@ impl<'a, L: Readable, J: Naming, R: Wait + Clock + Drop> Session<'a, L, J, R> {
             if let Some(answer) = self.look_joined(asked, id, known, number)? {
                 return Ok(answer);
             }
-            if !self.link.inbox.is_open(self.rt) {
-                return Err(Closed);
-            }
+            self.stay_open(known, number)?;
             self.pause();
         }
         Err(Closed)
@@ -280,8 +319,9 @@ impl<'a, L: Readable, J: Naming, R: Wait + Clock + Drop> Session<'a, L, J, R> {
         member: &[u8],
         ask: JoinAsk,
     ) -> Result<Result<ClientId, GroupFault>, Closed> {
+        let read = self.now()?;
         let mut known = known.lock(self.rt);
-        self.move_on(id, &mut known)?;
+        self.move_on(id, &mut known, read)?;
         if member.is_empty() {
             let client_id = asked.header.client_id.unwrap_or(b"");
             self.join_new(&mut known, client_id, ask)
@@ -307,8 +347,9 @@ impl<'a, L: Readable, J: Naming, R: Wait + Clock + Drop> Session<'a, L, J, R> {
 
     // Does what is due in a group that nobody used. If it has no members, its guest leaves.
     fn tend(&self, id: GroupId, known: &Mutex<KnownGroup>) -> Result<(), Closed> {
+        let read = self.now()?;
         let mut known = known.lock(self.rt);
-        self.move_on(id, &mut known)?;
+        self.move_on(id, &mut known, read)?;
         if !known.has_members() {
             self.tell_gone(id, &mut known)?;
         }
@@ -429,8 +470,9 @@ impl<'a, L: Readable, J: Naming, R: Wait + Clock + Drop> Session<'a, L, J, R> {
         number: ClientId,
         generation: i32,
     ) -> Result<Option<Answer>, Closed> {
+        let read = self.now()?;
         let mut known = known.lock(self.rt);
-        self.move_on(id, &mut known)?;
+        self.move_on(id, &mut known, read)?;
         match known.group.synced(number, generation) {
             None => Ok(None),
             Some(Ok(assignment)) => Ok(Some(self.synced(asked, 0, assignment)?)),
@@ -447,8 +489,9 @@ impl<'a, L: Readable, J: Naming, R: Wait + Clock + Drop> Session<'a, L, J, R> {
         generation: i32,
         assignments: Assignments,
     ) -> Result<Result<(), GroupFault>, Closed> {
+        let read = self.now()?;
         let mut known = known.lock(self.rt);
-        self.move_on(id, &mut known)?;
+        self.move_on(id, &mut known, read)?;
         let now = self.now()?;
         Ok(known.group.sync(number, generation, assignments, now))
     }
@@ -466,9 +509,7 @@ impl<'a, L: Readable, J: Naming, R: Wait + Clock + Drop> Session<'a, L, J, R> {
             if let Some(answer) = self.look_synced(asked, id, known, number, generation)? {
                 return Ok(answer);
             }
-            if !self.link.inbox.is_open(self.rt) {
-                return Err(Closed);
-            }
+            self.stay_open(known, number)?;
             self.pause();
         }
         Err(Closed)
@@ -520,8 +561,9 @@ impl<'a, L: Readable, J: Naming, R: Wait + Clock + Drop> Session<'a, L, J, R> {
         number: ClientId,
         generation: i32,
     ) -> Result<i16, Closed> {
+        let read = self.now()?;
         let mut known = known.lock(self.rt);
-        self.move_on(id, &mut known)?;
+        self.move_on(id, &mut known, read)?;
         let now = self.now()?;
         match known.group.heartbeat(number, generation, now) {
             Ok(()) => Ok(0),
@@ -562,10 +604,10 @@ impl<'a, L: Readable, J: Naming, R: Wait + Clock + Drop> Session<'a, L, J, R> {
         known: &Mutex<KnownGroup>,
         number: ClientId,
     ) -> Result<i16, Closed> {
+        let read = self.now()?;
         let mut known = known.lock(self.rt);
-        let now = self.now()?;
-        let left = known.group.leave(number, now);
-        self.move_on(id, &mut known)?;
+        let left = known.group.leave(number, read);
+        self.move_on(id, &mut known, read)?;
         match left {
             Ok(()) => Ok(0),
             Err(fault) => Ok(fault.number()),

@@ -19,6 +19,16 @@ struct MemberName {
     id: Vec<u8>,
 }
 
+/// The transaction of the server's own in which offsets of a group are committed outside of clients'
+/// transactions, one after the other.
+#[derive(Drop)]
+pub(crate) struct OwnTxn {
+    /// The place of the group, which no other has meanwhile.
+    pub(crate) place: usize,
+    /// The id and epoch of the next one, if they are known.
+    pub(crate) held: Mutex<Option<Held>>,
+}
+
 /// What is known of a group.
 #[derive(Drop)]
 pub(crate) struct KnownGroup {
@@ -29,10 +39,8 @@ pub(crate) struct KnownGroup {
     pub(crate) guest: Option<ClientId>,
     /// The generation of the core's group, once the guest has joined.
     pub(crate) generation: i32,
-    /// The place of the group, which no other has meanwhile.
-    pub(crate) place: usize,
-    /// The id and epoch with which the server commits offsets outside of clients' transactions.
-    pub(crate) held: Option<Held>,
+    /// How offsets are committed outside of clients' transactions.
+    pub(crate) own: Arc<OwnTxn>,
     names: Vec<MemberName>,
 }
 
@@ -61,15 +69,21 @@ pub(crate) struct Groups {
 
 impl KnownGroup {
     // A group without members.
-    fn new(alloc: Global, place: usize) -> KnownGroup {
-        KnownGroup {
+    fn new(alloc: Global, place: usize) -> Result<KnownGroup, AllocError> {
+        let own = OwnTxn {
+            place,
+            held: Mutex::new(None),
+        };
+        let Ok(own) = Arc::new(alloc, own) else {
+            return Err(AllocError);
+        };
+        Ok(KnownGroup {
             group: Group::new(alloc),
             guest: None,
             generation: 0,
-            place,
-            held: None,
+            own,
             names: Vec::new(alloc),
-        }
+        })
     }
 
     /// The id of a member; no bytes for a number that has none.
@@ -153,7 +167,7 @@ impl All {
         id: GroupId,
         place: usize,
     ) -> Result<Arc<Mutex<KnownGroup>>, Absent> {
-        let group = shared(alloc, KnownGroup::new(alloc, place))?;
+        let group = shared(alloc, KnownGroup::new(alloc, place)?)?;
         let known = Arc::try_clone(&group)?;
         let mut users = Users::none();
         users.enter();
@@ -184,7 +198,7 @@ impl All {
         }
         let known = entry.group.lock(rt);
         if known.is_idle() {
-            Some(known.place)
+            Some(known.own.place)
         } else {
             None
         }

@@ -6,7 +6,7 @@ use crate::inbox::Inbox;
 use crate::protocol::Shared;
 use kx_gateway::Broker;
 use kx_kafka::{Frames, KafkaFault};
-use kx_message::ClientId;
+use kx_message::{Caller, ClientId};
 use kx_notices::Closing;
 use kx_server::{Peer, Waker};
 use std::alloc::{AllocError, Global};
@@ -53,6 +53,8 @@ pub struct StockLink {
     pub(crate) client: ClientId,
     // whether the connection is to end with the response that is being made
     ends: Mutex<bool>,
+    // how many messages were sent to the core
+    asked: Mutex<u32>,
 }
 
 impl StockLink {
@@ -74,6 +76,17 @@ impl StockLink {
             waker,
             client,
             ends: Mutex::new(false),
+            asked: Mutex::new(0),
+        })
+    }
+
+    /// Who sends the next message to the core. None after 2^32 - 1 messages.
+    pub(crate) fn next_caller<R: Wait>(&self, rt: &R) -> Option<Caller> {
+        let mut asked = self.asked.lock(rt);
+        *asked = asked.checked_add(1)?;
+        Some(Caller {
+            client: self.client,
+            correlation: *asked,
         })
     }
 

@@ -95,7 +95,7 @@ impl<'a, L: Readable, J: Naming, R: Wait + Clock + Drop> Session<'a, L, J, R> {
             if named.are_passed(self.rt) {
                 return Ok(true);
             }
-            match init_reply(&self.ask(id_to_pass(self.caller()))?)?.held {
+            match init_reply(&self.ask(id_to_pass(self.caller()?))?)?.held {
                 None => return Ok(false),
                 Some(held) => named.note(self.rt, held),
             }
@@ -346,7 +346,7 @@ impl<'a, L: Readable, J: Naming, R: Wait + Clock + Drop> Session<'a, L, J, R> {
             return Ok(UNKNOWN);
         };
         let end = EndTxn {
-            caller: self.caller(),
+            caller: self.caller()?,
             txn,
             held,
             outcome: outcome_of(request.committed),
@@ -374,8 +374,9 @@ impl<'a, L: Readable, J: Naming, R: Wait + Clock + Drop> Session<'a, L, J, R> {
         held: Held,
         first: i32,
     ) -> Result<ProduceReply, Closed> {
+        let caller = self.caller()?;
         for _ in 0..MOST_ASKED {
-            let produce = batch.produce(self.alloc, self.caller(), held, first)?;
+            let produce = batch.produce(self.alloc, caller, held, first)?;
             let reply = produce_reply(&self.ask_verified(Message::Produce(produce))?)?;
             if reply.code != ErrorCode::ConcurrentTransactions {
                 return Ok(reply);
@@ -385,19 +386,21 @@ impl<'a, L: Readable, J: Naming, R: Wait + Clock + Drop> Session<'a, L, J, R> {
         Err(Closed)
     }
 
-    // What a producer is answered for its batch, a code and an offset.
+    // What a producer is answered for its batch.
     fn append_of(
         &self,
         producer: &mut Producer,
+        index: i32,
         batch: &TxnBatch<'_>,
-    ) -> Result<(ErrorCode, i64), Closed> {
+    ) -> Result<PartitionProduceResponse, Closed> {
         let claims = client_batch(batch);
         match producer.batch(&claims, self.number()) {
             None => Err(Closed),
-            Some(BatchVerdict::Refused(code)) => Ok((code, -1)),
+            Some(BatchVerdict::Refused(code)) => Ok(refused_produce(index, code.number())),
             Some(BatchVerdict::Send { held, first }) => {
-                let reply = self.ask_to_append(batch, held, first)?;
-                Ok((producer.batch_answered(&claims, reply.code), reply.offset))
+                let mut reply = self.ask_to_append(batch, held, first)?;
+                reply.code = producer.batch_answered(&claims, reply.code);
+                Ok(produced(index, &reply))
             }
         }
     }
@@ -412,13 +415,6 @@ impl<'a, L: Readable, J: Naming, R: Wait + Clock + Drop> Session<'a, L, J, R> {
             return Ok(refused_produce(index, UNKNOWN.number()));
         };
         let mut producer = producer.lock(self.rt);
-        let (code, offset) = self.append_of(&mut producer, batch)?;
-        let reply = ProduceReply {
-            caller: self.caller(),
-            partition: batch.partition(),
-            code,
-            offset,
-        };
-        Ok(produced(index, &reply))
+        self.append_of(&mut producer, index, batch)
     }
 }
