@@ -1,4 +1,5 @@
 pub mod Advertised
+pub mod Callers
 pub mod Named
 pub mod Numbers
 pub mod Untaken

@@ -2,7 +2,7 @@
 use crate::closed::Closed;
 use crate::left::end_of_nobody;
 use crate::link::StockLink;
-use crate::replies::{fetch_reply, produce_reply};
+use crate::replies::{caller_of, fetch_reply, produce_reply};
 use crate::table::{Kept, MakeFault};
 use crate::transacting::TxnInit;
 use crate::untaken::{UNTAKEN, untaken_reply};
@@ -152,16 +152,23 @@ impl<'a, L: Readable, J: Naming, R: Wait + Clock + Drop> Session<'a, L, J, R> {
     ///
     /// If memory ran out for the step or for its reply.
     pub(crate) fn ask(&self, message: Message) -> Result<Message, Closed> {
+        let caller = caller_of(&message);
         let untaken = untaken_reply(&message);
         if !self.hub.deliver(self.rt, message) {
             return untaken.ok_or(Closed);
         }
-        self.reply_within(Duration::ZERO).ok_or(Closed)
+        self.reply_within(&caller, Duration::ZERO).ok_or(Closed)
     }
 
-    // The reply of a node that arrives within this time.
-    fn reply_within(&self, patience: Duration) -> Option<Message> {
-        self.link.peer.take_reply(self.rt, patience)
+    // The reply to this caller that arrives within this time. One to a caller before is dropped.
+    fn reply_within(&self, caller: &Option<Caller>, patience: Duration) -> Option<Message> {
+        for _ in self.rt.forever() {
+            let reply = self.link.peer.take_reply(self.rt, patience)?;
+            if caller_of(&reply) == *caller {
+                return Some(reply);
+            }
+        }
+        None
     }
 
     // Whether the coordinator takes a step: not if its trace can't be written, or memory runs out.
@@ -178,18 +185,20 @@ impl<'a, L: Readable, J: Naming, R: Wait + Clock + Drop> Session<'a, L, J, R> {
     ///
     /// If no reply is there after 30 seconds, as if memory ran out for it.
     pub(crate) fn ask_verified(&self, message: Message) -> Result<Message, Closed> {
+        let caller = caller_of(&message);
         let untaken = untaken_reply(&message);
         if !self.hub.deliver(self.rt, message) {
             return untaken.ok_or(Closed);
         }
-        if let Some(reply) = self.reply_within(Duration::from_secs(SECONDS_UNTIL_TRIED)) {
+        let until_tried = Duration::from_secs(SECONDS_UNTIL_TRIED);
+        if let Some(reply) = self.reply_within(&caller, until_tried) {
             return Ok(reply);
         }
         if !self.coordinator_steps() {
             self.link.end(self.rt);
             return untaken.ok_or(Closed);
         }
-        self.reply_within(Duration::from_secs(PATIENCE_SECONDS))
+        self.reply_within(&caller, Duration::from_secs(PATIENCE_SECONDS))
             .ok_or(Closed)
     }
 

@@ -53,10 +53,11 @@ pub(crate) fn aborts_of(alloc: Global, entries: &[Entry]) -> Result<Vec<EndTxn>,
     Ok(aborts)
 }
 
-// A client for which no connection speaks, so that replies to it are dropped.
+// A client for which no connection speaks, since their numbers are below 2^31; so replies to it are
+// dropped.
 fn nobody() -> Caller {
     Caller {
-        client: ClientId::from(0),
+        client: ClientId::from(u32::MAX),
         correlation: 0,
     }
 }

@@ -1,9 +1,40 @@
 //! The replies of the core's nodes.
+ghost use Rattle.std.specs.Prelude.{◌≡◌};
+ghost use Rattle.kx_kafka_server.specs.Callers.{caller_of};
+
 use crate::closed::Closed;
 use kx_message::{
-    EndReply, FetchReply, InitReply, JoinReply, LeaveReply, Message, OffsetFetchReply,
+    Caller, EndReply, FetchReply, InitReply, JoinReply, LeaveReply, Message, OffsetFetchReply,
     OffsetsReply, ProduceReply,
 };
+
+/// Who asked: the caller of a client's request, and of the reply to one. None of a message between nodes.
+pub(crate) fn caller_of(message: &Message) -> Option<Caller>
+    ensures { result ≡ caller_of message.now }
+{
+    match message {
+        Message::InitProducerId(it) => Some(it.caller),
+        Message::InitReply(it) => Some(it.caller),
+        Message::EndTxn(it) => Some(it.caller),
+        Message::EndReply(it) => Some(it.caller),
+        Message::Produce(it) => Some(it.caller),
+        Message::ProduceReply(it) => Some(it.caller),
+        Message::Fetch(it) => Some(it.caller),
+        Message::FetchReply(it) => Some(it.caller),
+        Message::Join(it) => Some(it.caller),
+        Message::JoinReply(it) => Some(it.caller),
+        Message::Leave(it) => Some(it.caller),
+        Message::LeaveReply(it) => Some(it.caller),
+        Message::TxnOffsetCommit(it) => Some(it.caller),
+        Message::OffsetsReply(it) => Some(it.caller),
+        Message::OffsetFetch(it) => Some(it.caller),
+        Message::OffsetFetchReply(it) => Some(it.caller),
+        Message::AddPartition(_)
+        | Message::AddReply(_)
+        | Message::WriteMarker(_)
+        | Message::MarkerReply(_) => None,
+    }
+}
 
 /// The reply to an InitProducerId.
 pub(crate) fn init_reply(message: &Message) -> Result<InitReply, Closed> {
