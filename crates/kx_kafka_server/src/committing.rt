@@ -17,9 +17,9 @@ use kx_kafka::{
     OffsetCommitRequest, OffsetFetchPartition, OffsetFetchRequest, TopicPartition,
     TxnOffsetCommitRequest,
 };
-use kx_membership::number_in;
+use kx_membership::{GroupFault, number_in};
 use kx_message::{
-    EndTxn, ErrorCode, GroupId, Held, Message, OffsetFetch, OffsetFetchReply, Offsets,
+    ClientId, EndTxn, ErrorCode, GroupId, Held, Message, OffsetFetch, OffsetFetchReply, Offsets,
     OffsetsReply, Outcome, PartitionId, PartitionOffset, Timeout, TxnId, TxnOffsetCommit,
 };
 use kx_published::book::Naming;
@@ -48,7 +48,7 @@ pub(crate) fn place_of(txn: &TxnId) -> Option<usize> {
     str::from_utf8(digits).ok()?.parse::<usize>().ok()
 }
 
-// Offsets that are to be committed in a group, for a member of a generation.
+// Offsets that are to be committed in a group, in the name of the guest of a generation.
 #[derive(Drop)]
 struct Commit {
     group: GroupId,
@@ -60,37 +60,20 @@ struct Commit {
 // Who commits offsets: a member of a generation, or a client that doesn't say.
 #[derive(Clone, Copy)]
 enum Committer {
-    Member { member: u32, generation: i32 },
+    Member { member: ClientId, generation: i32 },
     Anyone,
-}
-
-// In whose name the core is asked to commit offsets.
-#[derive(Clone, Copy)]
-enum By<'g> {
-    // a member of a generation
-    Member { member: u32, generation: i32 },
-    // the guest of a group, which joins if none is there
-    Guest(&'g Mutex<KnownGroup>),
 }
 
 // Offsets that a producer asks to commit in a group.
 #[derive(Drop)]
 struct Claim<'g> {
     group: GroupId,
-    by: By<'g>,
+    known: &'g Mutex<KnownGroup>,
+    by: Committer,
     offsets: Vec<PartitionOffset>,
 }
 
-// What became of offsets that were to be committed outside of a client's transaction.
-#[derive(Clone, Copy)]
-enum Committed {
-    // this is the code for the client
-    Answered(i16),
-    // the core refused them with this code, since the generation ended meanwhile
-    OfAnotherGeneration(ErrorCode),
-}
-
-// Whether the core refused offsets since they are of no member of the present generation.
+// Whether the core refused offsets since their guest isn't that of the present generation.
 fn is_of_another_generation(code: ErrorCode) -> bool {
     matches!(
         code,
@@ -115,10 +98,7 @@ fn committer_of(id: &[u8], generation: i32) -> Option<Committer> {
         return Some(Committer::Anyone);
     }
     let member = number_in(id)?;
-    Some(Committer::Member {
-        member: member.get(),
-        generation,
-    })
+    Some(Committer::Member { member, generation })
 }
 
 impl<'a, L: Readable, J: Naming, R: Wait + Clock + Drop> Session<'a, L, J, R> {
@@ -128,29 +108,45 @@ impl<'a, L: Readable, J: Naming, R: Wait + Clock + Drop> Session<'a, L, J, R> {
         Ok(offsets_of(self.alloc, &kept.topics, topics)?)
     }
 
-    // Offsets that the core is asked to commit. A client that doesn't say which member it is commits
-    // as the guest, and so isn't fenced.
-    fn commit_as(
+    // Why offsets of a transaction aren't committed in a group, if they aren't: a member commits in the
+    // present generation alone, and a client that doesn't say which member it is in any.
+    fn refusal_in_transaction(
         &self,
         group: GroupId,
         known: &mut KnownGroup,
-        committer: Committer,
-        offsets: Vec<PartitionOffset>,
-    ) -> Result<Commit, Closed> {
-        let (member, generation) = match committer {
-            Committer::Member { member, generation } => (member, generation),
-            Committer::Anyone => {
-                self.ensure_guest(group, known)?;
-                match known.guest {
-                    Some(guest) => (guest.get(), known.generation),
-                    None => return Err(Closed),
+        by: Committer,
+        read: u64,
+    ) -> Result<Option<ErrorCode>, Closed> {
+        self.move_on(group, known, read)?;
+        let now = self.now()?;
+        Ok(match by {
+            Committer::Anyone => None,
+            Committer::Member { member, generation } => {
+                match known.group.commit(member, generation, true, now) {
+                    Ok(()) => None,
+                    Err(GroupFault::IllegalGeneration) => Some(ErrorCode::IllegalGeneration),
+                    Err(_) => Some(ErrorCode::UnknownMemberId),
                 }
             }
+        })
+    }
+
+    // Offsets that the core is asked to commit, as the guest of the group's generation, which joins if
+    // none is there.
+    fn commit_as_guest(
+        &self,
+        group: GroupId,
+        known: &mut KnownGroup,
+        offsets: Vec<PartitionOffset>,
+    ) -> Result<Commit, Closed> {
+        self.ensure_guest(group, known)?;
+        let Some(guest) = known.guest else {
+            return Err(Closed);
         };
         Ok(Commit {
             group,
-            member,
-            generation,
+            member: guest.get(),
+            generation: known.generation,
             offsets,
         })
     }
@@ -189,22 +185,33 @@ impl<'a, L: Readable, J: Naming, R: Wait + Clock + Drop> Session<'a, L, J, R> {
         Err(Closed)
     }
 
-    // Asks the offsets partition to commit offsets of a producer's transaction. In the name of a guest
-    // it is asked again with the next one, if the group's generation ended meanwhile.
+    // Asks the offsets partition to commit offsets of a producer's transaction. If the group's generation
+    // ends meanwhile, they are judged again, and the core is asked as the next guest.
     fn ask_to_commit_claim(
         &self,
         txn: TxnId,
         held: Held,
         first: i32,
         claim: Claim<'_>,
-    ) -> Result<OffsetsReply, Closed> {
-        let Claim { group, by, offsets } = claim;
+    ) -> Result<ErrorCode, Closed> {
+        let Claim {
+            group,
+            known,
+            by,
+            offsets,
+        } = claim;
         let mut offsets = offsets;
         for _ in 0..self.most_asked() {
-            let commit = self.commit_of(Claim { group, by, offsets })?;
+            let read = self.now()?;
+            let mut group_now = known.lock(self.rt);
+            if let Some(code) = self.refusal_in_transaction(group, &mut group_now, by, read)? {
+                return Ok(code);
+            }
+            let commit = self.commit_as_guest(group, &mut group_now, offsets)?;
+            drop(group_now);
             let reply = self.ask_to_commit(txn, held, first, &commit)?;
-            if !(matches!(by, By::Guest(_)) && is_of_another_generation(reply.code)) {
-                return Ok(reply);
+            if !is_of_another_generation(reply.code) {
+                return Ok(reply.code);
             }
             offsets = commit.offsets;
             self.pause();
@@ -212,8 +219,8 @@ impl<'a, L: Readable, J: Naming, R: Wait + Clock + Drop> Session<'a, L, J, R> {
         Err(Closed)
     }
 
-    // The code of offsets that a producer commits in its transaction. A guest joins the group for them
-    // only once the producer may commit.
+    // The code of offsets that a producer commits in its transaction: first of the group, whose refusal
+    // leaves the transaction as it is, and then of the producer.
     fn commit_in(
         &self,
         producer: &Mutex<Producer>,
@@ -224,57 +231,28 @@ impl<'a, L: Readable, J: Naming, R: Wait + Clock + Drop> Session<'a, L, J, R> {
         let Ok(count) = u32::try_from(claim.offsets.len()) else {
             return Err(Closed);
         };
+        let read = self.now()?;
+        let refusal = self.refusal_in_transaction(
+            claim.group,
+            &mut claim.known.lock(self.rt),
+            claim.by,
+            read,
+        )?;
+        if let Some(code) = refusal {
+            return Ok(code);
+        }
         let mut producer = producer.lock(self.rt);
         match producer.offsets(held, count, self.number()) {
             None => Err(Closed),
             Some(BatchVerdict::Refused(code)) => Ok(code),
             Some(BatchVerdict::Send { held, first }) => {
-                let reply = self.ask_to_commit_claim(txn, held, first, claim)?;
-                Ok(producer.offsets_answered(reply.code))
+                let code = self.ask_to_commit_claim(txn, held, first, claim)?;
+                Ok(producer.offsets_answered(code))
             }
         }
     }
 
-    // The commit that is asked for.
-    fn commit_of(&self, claim: Claim<'_>) -> Result<Commit, Closed> {
-        let Claim { group, by, offsets } = claim;
-        match by {
-            By::Member { member, generation } => Ok(Commit {
-                group,
-                member,
-                generation,
-                offsets,
-            }),
-            By::Guest(known) => {
-                let mut known = known.lock(self.rt);
-                self.commit_as(group, &mut known, Committer::Anyone, offsets)
-            }
-        }
-    }
-
-    // The code for offsets of a transaction that a client commits without saying which member it is.
-    fn txn_commit_as_guest(
-        &self,
-        producer: &Mutex<Producer>,
-        txn: TxnId,
-        held: &Held,
-        group: GroupId,
-        offsets: Vec<PartitionOffset>,
-    ) -> Result<i16, Closed> {
-        let Some(known) = self.enter_group(group)? else {
-            return Ok(ASK_AGAIN);
-        };
-        let claim = Claim {
-            group,
-            by: By::Guest(&known),
-            offsets,
-        };
-        let code = self.commit_in(producer, txn, held, claim);
-        self.link.shared.groups.leave(self.rt, &group);
-        Ok(coordinator_code(code?))
-    }
-
-    // The code for offsets of a transaction.
+    // The code for offsets of a transaction, in a group.
     fn txn_commit_code(
         &self,
         request: &TxnCommit<'_>,
@@ -284,7 +262,7 @@ impl<'a, L: Readable, J: Naming, R: Wait + Clock + Drop> Session<'a, L, J, R> {
         let Some(group) = group_of(request.group) else {
             return Ok(GroupCode::InvalidGroupId.number());
         };
-        let Some(committer) = request.committer else {
+        let Some(by) = request.committer else {
             return Ok(unknown);
         };
         let Some(held) = request.held else {
@@ -293,15 +271,19 @@ impl<'a, L: Readable, J: Naming, R: Wait + Clock + Drop> Session<'a, L, J, R> {
         let Some((txn, producer)) = self.producer_of(request.txn) else {
             return Ok(unknown);
         };
-        match committer {
-            Committer::Anyone => self.txn_commit_as_guest(&producer, txn, &held, group, offsets),
-            Committer::Member { member, generation } => {
-                let by = By::Member { member, generation };
-                let claim = Claim { group, by, offsets };
-                let code = self.commit_in(&producer, txn, &held, claim)?;
-                Ok(coordinator_code(code))
-            }
-        }
+        let known = match self.group_for(group, by)? {
+            Ok(known) => known,
+            Err(code) => return Ok(code),
+        };
+        let claim = Claim {
+            group,
+            known: &known,
+            by,
+            offsets,
+        };
+        let code = self.commit_in(&producer, txn, &held, claim);
+        self.link.shared.groups.leave(self.rt, &group);
+        Ok(coordinator_code(code?))
     }
 
     // The code for n offsets, if it doesn't depend on the core.
@@ -402,13 +384,13 @@ impl<'a, L: Readable, J: Naming, R: Wait + Clock + Drop> Session<'a, L, J, R> {
     }
 
     // Commits offsets in a transaction of the server's own. The code for the client: 0 only if the
-    // core took the offsets and committed their transaction. Other commits of the group wait for it;
-    // its members don't.
-    fn commit_alone(&self, own: &OwnTxn, commit: &Commit) -> Result<Committed, Closed> {
+    // core took the offsets and committed their transaction; none if the generation ended meanwhile.
+    // Other commits of the group wait for it; its members don't.
+    fn commit_alone(&self, own: &OwnTxn, commit: &Commit) -> Result<Option<i16>, Closed> {
         let txn = self.own_txn(own.place)?;
         let mut own = own.held.lock(self.rt);
         let Some(held) = self.own_held(txn, &own)? else {
-            return Ok(Committed::Answered(GroupCode::CoordinatorNotAvailable.number()));
+            return Ok(Some(GroupCode::CoordinatorNotAvailable.number()));
         };
         // Until the core has answered, it isn't known if the transaction is: the next commit then
         // begins with a new pair, which aborts it.
@@ -416,56 +398,70 @@ impl<'a, L: Readable, J: Naming, R: Wait + Clock + Drop> Session<'a, L, J, R> {
         let reply = self.ask_to_commit(txn, held, 0, commit)?;
         if is_of_another_generation(reply.code) {
             *own = Some(held);
-            return Ok(Committed::OfAnotherGeneration(reply.code));
+            return Ok(None);
         }
         let end = match reply.code {
             ErrorCode::NoError => Some(self.end_own(&mut own, txn, held, commit)?),
             _ => None,
         };
-        Ok(Committed::Answered(alone_code(reply.code, end)))
+        Ok(Some(alone_code(reply.code, end)))
+    }
+
+    // Why offsets outside of a transaction aren't committed in a group, if they aren't. A client that
+    // doesn't say which member it is commits in a group without members alone.
+    fn refusal_alone(&self, known: &mut KnownGroup, by: Committer) -> Result<Option<i16>, Closed> {
+        let now = self.now()?;
+        Ok(match by {
+            Committer::Anyone if known.has_members() => Some(GroupFault::UnknownMember.number()),
+            Committer::Anyone => None,
+            Committer::Member { member, generation } => {
+                match known.group.commit(member, generation, false, now) {
+                    Ok(()) => None,
+                    Err(fault) => Some(fault.number()),
+                }
+            }
+        })
     }
 
     // The offsets that are to be committed outside of a client's transaction, and the server's own
-    // transaction for them. None for a client that doesn't say which member it is, if there are members.
+    // transaction for them; or the code with which they are refused.
     fn begin_commit(
         &self,
         group: GroupId,
         known: &Mutex<KnownGroup>,
-        committer: Committer,
+        by: Committer,
         offsets: Vec<PartitionOffset>,
-    ) -> Result<Option<(Commit, Arc<OwnTxn>)>, Closed> {
+    ) -> Result<Result<(Commit, Arc<OwnTxn>), i16>, Closed> {
         let read = self.now()?;
         let mut known = known.lock(self.rt);
         self.move_on(group, &mut known, read)?;
-        if known.has_members() && matches!(committer, Committer::Anyone) {
-            return Ok(None);
+        if let Some(code) = self.refusal_alone(&mut known, by)? {
+            return Ok(Err(code));
         }
         let Ok(own) = Arc::try_clone(&known.own) else {
             return Err(Closed);
         };
-        let commit = self.commit_as(group, &mut known, committer, offsets)?;
-        Ok(Some((commit, own)))
+        let commit = self.commit_as_guest(group, &mut known, offsets)?;
+        Ok(Ok((commit, own)))
     }
 
-    // The code for offsets outside of a client's transaction, in a group.
+    // The code for offsets outside of a client's transaction, in a group. If the group's generation ends
+    // meanwhile, they are judged again, and the core is asked as the next guest.
     fn commit_code_in(
         &self,
         group: GroupId,
         known: &Mutex<KnownGroup>,
-        committer: Committer,
+        by: Committer,
         offsets: Vec<PartitionOffset>,
     ) -> Result<i16, Closed> {
         let mut offsets = offsets;
         for _ in 0..self.most_asked() {
-            let Some((commit, own)) = self.begin_commit(group, known, committer, offsets)? else {
-                return Ok(ErrorCode::UnknownMemberId.number());
+            let (commit, own) = match self.begin_commit(group, known, by, offsets)? {
+                Ok(begun) => begun,
+                Err(code) => return Ok(code),
             };
-            match (self.commit_alone(&own, &commit)?, committer) {
-                (Committed::Answered(code), _) => return Ok(code),
-                (Committed::OfAnotherGeneration(code), Committer::Member { .. }) => {
-                    return Ok(code.number());
-                }
-                (Committed::OfAnotherGeneration(_), Committer::Anyone) => {}
+            if let Some(code) = self.commit_alone(&own, &commit)? {
+                return Ok(code);
             }
             offsets = commit.offsets;
             self.pause();

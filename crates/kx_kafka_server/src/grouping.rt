@@ -1,12 +1,14 @@
 //! The members of consumer groups: JoinGroup, SyncGroup, Heartbeat and LeaveGroup.
 //!
-//! A group's generation is the core's: when a rebalance is complete, the core is told who left and
-//! who is new, and a guest of the server's joins last, so that the generation that it is answered
-//! is the group's. A group that nobody is left in has no guest either, and is forgotten.
+//! A group's generation is the core's. The core counts one member of it, a guest of the server's, in
+//! whose name all offsets are committed: when a rebalance is complete the guest of before leaves, and
+//! another joins, so that the generation that it is answered is the group's, and offsets of an
+//! earlier one are refused. Who is a member is kept here. A group that nobody is left in has no guest
+//! either, and is forgotten.
 use crate::absent::{ASK_AGAIN, Absent};
 use crate::answering::{Answer, Asked, Session};
 use crate::closed::Closed;
-use crate::groups::{KnownGroup, MOST_MEMBERS};
+use crate::groups::KnownGroup;
 use crate::replies::{join_reply, leave_reply};
 use kx_group_gateway::{
     GroupCode, generation_in, group_of, heartbeat_frame, join_frame, leave_frame,
@@ -16,7 +18,8 @@ use kx_kafka::{
     HeartbeatRequest, JoinGroupMember, JoinGroupRequest, LeaveGroupRequest, SyncGroupRequest,
 };
 use kx_membership::{
-    Assignment, Assignments, GroupFault, JoinAsk, Joined, Protocol, Protocols, member_id, number_in,
+    Assignment, Assignments, GroupFault, JoinAsk, Joined, MOST_MEMBERS, Protocol, Protocols,
+    member_id, number_in,
 };
 use kx_message::{Bytes, Caller, ClientId, ErrorCode, GroupId, Join, Leave, Message};
 use kx_notices::Shortage;
@@ -28,7 +31,7 @@ use std::time::Clock;
 // How many protocols of a member are looked at. Stock clients have two or three.
 const MOST_PROTOCOLS: usize = 16;
 
-// The messages by which the core is told of a member: each has a number of its own.
+// The messages by which the core is told of a guest: each has a number of its own.
 const JOINS: u32 = 0;
 
 const LEAVES: u32 = 1;
@@ -59,7 +62,7 @@ impl<'a, L: Readable, J: Naming, R: Wait + Clock + Drop> Session<'a, L, J, R> {
         reply
     }
 
-    // Tells the core that a member leaves. One that the core doesn't count has left before.
+    // Tells the core that a guest leaves. One that the core doesn't count has left before.
     fn tell_leave(&self, group: GroupId, member: ClientId) -> Result<(), Closed> {
         let caller = Caller {
             client: member,
@@ -73,7 +76,7 @@ impl<'a, L: Readable, J: Naming, R: Wait + Clock + Drop> Session<'a, L, J, R> {
         }
     }
 
-    // Tells the core that a member joins, and returns the group's generation. None if the core refuses
+    // Tells the core that a guest joins, and returns the group's generation. None if the core refuses
     // it, as it does a number that left the group before.
     fn tell_join(&self, group: GroupId, member: ClientId) -> Result<Option<i32>, Closed> {
         let caller = Caller {
@@ -88,30 +91,13 @@ impl<'a, L: Readable, J: Naming, R: Wait + Clock + Drop> Session<'a, L, J, R> {
         }
     }
 
-    // Tells the core of each that leaves.
-    fn tell_gone(&self, id: GroupId, known: &mut KnownGroup) -> Result<(), Closed> {
-        for gone in known.group.gone() {
-            let member = *gone;
-            self.tell_leave(id, member)?;
-        }
+    // The guest leaves, if one is there.
+    fn dismiss_guest(&self, id: GroupId, known: &mut KnownGroup) -> Result<(), Closed> {
         if let Some(guest) = known.guest {
             self.tell_leave(id, guest)?;
             known.guest = None;
         }
         Ok(())
-    }
-
-    // Tells the core of each new member, and returns those that it refuses.
-    fn tell_new(&self, id: GroupId, known: &KnownGroup) -> Result<Vec<ClientId>, Closed> {
-        let mut refused = Vec::new(self.alloc);
-        for place in 0..MOST_MEMBERS {
-            if let Some(member) = known.group.new_at(place)
-                && self.tell_join(id, member)?.is_none()
-            {
-                refused.push(member)?;
-            }
-        }
-        Ok(refused)
     }
 
     // A guest joins, and what it is answered is the group's generation.
@@ -137,23 +123,17 @@ impl<'a, L: Readable, J: Naming, R: Wait + Clock + Drop> Session<'a, L, J, R> {
         }
     }
 
-    // Tells the core who is a member after a rebalance. A member that it refuses is gone, alone. If
-    // nobody is left, there is no guest either.
-    fn tell_members(&self, id: GroupId, known: &mut KnownGroup) -> Result<(), Closed> {
-        self.tell_gone(id, known)?;
-        let now = self.now()?;
-        for refused in self.tell_new(id, known)? {
-            // It is a member, since nobody else changes the group meanwhile.
-            let _ = known.group.leave(refused, now);
-        }
+    // Begins the next generation at the core. If nobody is left, there is no guest either.
+    fn begin_generation(&self, id: GroupId, known: &mut KnownGroup) -> Result<(), Closed> {
+        self.dismiss_guest(id, known)?;
         if known.has_members() {
             self.invite_guest(id, known)?;
         }
         Ok(())
     }
 
-    /// Does what is due: members that are late are gone, and a rebalance that is complete is told to
-    /// the core and settled. Sessions are over that ended by the time at which the request was read,
+    /// Does what is due: members that are late are gone, and after a rebalance that is complete the next
+    /// generation begins. Sessions are over that ended by the time at which the request was read,
     /// so that nobody's ends while it waits for the group.
     pub(crate) fn move_on(
         &self,
@@ -165,7 +145,7 @@ impl<'a, L: Readable, J: Naming, R: Wait + Clock + Drop> Session<'a, L, J, R> {
         if !known.group.due(self.now()?) {
             return Ok(());
         }
-        self.tell_members(id, known)?;
+        self.begin_generation(id, known)?;
         known
             .group
             .settle(self.alloc, known.generation, self.now()?)?;
@@ -351,7 +331,7 @@ impl<'a, L: Readable, J: Naming, R: Wait + Clock + Drop> Session<'a, L, J, R> {
         let mut known = known.lock(self.rt);
         self.move_on(id, &mut known, read)?;
         if !known.has_members() {
-            self.tell_gone(id, &mut known)?;
+            self.dismiss_guest(id, &mut known)?;
         }
         Ok(())
     }

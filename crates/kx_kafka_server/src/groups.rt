@@ -3,7 +3,7 @@ use crate::absent::Absent;
 use crate::places::Places;
 use crate::users::Users;
 use indexmap::IndexMap;
-use kx_membership::Group;
+use kx_membership::{Group, MOST_MEMBERS};
 use kx_message::{ClientId, GroupId, Held};
 use std::alloc::{AllocError, Global};
 use std::mem;
@@ -107,7 +107,7 @@ impl KnownGroup {
         self.group.number_at(0).is_some()
     }
 
-    // Whether the server need not know the group: it has no member, and the core counts none.
+    // Whether the server need not know the group: it has no member, and the core counts no guest.
     fn is_idle(&self) -> bool {
         !self.has_members() && self.guest.is_none() && self.group.gone().is_empty()
     }
@@ -137,9 +137,6 @@ fn is_member(group: &Group, number: ClientId) -> bool {
     }
     false
 }
-
-/// How many members a group has at most.
-pub(crate) const MOST_MEMBERS: usize = 15;
 
 // A group, to be shared.
 fn shared(alloc: Global, group: KnownGroup) -> Result<Arc<Mutex<KnownGroup>>, AllocError> {

@@ -82,7 +82,7 @@ refusal_of g number ask =
     else (if fits g number ask then None else Some fault.InconsistentProtocol)
 
 abbrev pub most_members : ℕ
-most_members = 15
+most_members = 100
 
 -- the number is a member's, or one that is gone and that the core still counts
 abbrev pub is_taken : ℕ → RosterState → Bool
@@ -265,6 +265,29 @@ synced_by g number None =
 
 abbrev pub synced_of : Group → ℕ → ℤ → Option (Result (List ℕ) GroupFault)
 synced_of g number generation = synced_by g number (fence g number generation)
+
+------ offsets
+
+-- offsets outside a transaction wait for what is assigned
+abbrev pub commit_phase_fault : Phase → Bool → Option GroupFault
+commit_phase_fault phase.Completing false = Some fault.RebalanceInProgress
+commit_phase_fault phase.Completing true = None
+commit_phase_fault phase.Empty in_transaction = None
+commit_phase_fault (phase.Preparing until) in_transaction = None
+commit_phase_fault phase.Stable in_transaction = None
+
+-- the first that fits; while members join again those of the present generation go on
+abbrev pub commit_fault : Group → ℕ → ℤ → Bool → Option GroupFault
+commit_fault g number generation in_transaction =
+    if not (has number g.roster.members) then Some fault.UnknownMember
+    else (if int_eq g.generation generation then commit_phase_fault g.phase in_transaction
+    else Some fault.IllegalGeneration)
+
+-- a member that commits is there
+abbrev pub after_commit : Group → ℕ → ℤ → Bool → ℕ → Group
+after_commit g number generation in_transaction now =
+    if is_some (commit_fault g number generation in_transaction) then g
+    else after_heartbeat g number generation now
 
 ------ the end of a connection
 

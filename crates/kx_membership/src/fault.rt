@@ -32,8 +32,8 @@ pub enum GroupFault {
     /// Members are joining: the client has to join again.
     #[error("members are joining")]
     RebalanceInProgress = 27,
-    /// The group has 15 members.
-    #[error("the group has 15 members")]
+    /// The group has 100 members.
+    #[error("the group has 100 members")]
     GroupFull = 81,
 }
 

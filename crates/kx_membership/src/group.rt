@@ -4,8 +4,9 @@ ghost use Rattle.std.specs.Prelude.{MatchResult};
 ghost use Rattle.std.specs.Option.{option_copied, option_map};
 ghost use Rattle.std.specs.List.{find, slice_get};
 ghost use Rattle.kx_membership.specs.Roster.{has, is_numbered};
-ghost use Rattle.kx_membership.specs.Group.{Refuses, after_due, after_end, after_heartbeat};
-ghost use Rattle.kx_membership.specs.Group.{after_join_again, after_join_new, after_leave};
+ghost use Rattle.kx_membership.specs.Group.{Refuses, after_commit, after_due, after_end};
+ghost use Rattle.kx_membership.specs.Group.{after_heartbeat, after_join_again, after_join_new};
+ghost use Rattle.kx_membership.specs.Group.{after_leave, commit_fault};
 ghost use Rattle.kx_membership.specs.Group.{after_settle, after_sync, after_tick, again_refusal, asks};
 ghost use Rattle.kx_membership.specs.Group.{due_time, fence, fits, is_lost, is_past, is_ready};
 ghost use Rattle.kx_membership.specs.Group.{joined_of, leads, left};
@@ -21,8 +22,8 @@ use crate::votes::{chosen_by, common_of};
 use kx_message::{Bytes, ClientId};
 use std::alloc::{AllocError, Global};
 
-// The most members of a group: one of the core's sixteen is left for a guest.
-const MOST_MEMBERS: usize = 15;
+/// How many members a group has at most.
+pub const MOST_MEMBERS: usize = 100;
 
 // The longest session timeout, half an hour.
 const LONGEST_SESSION: i32 = 1_800_000;
@@ -178,7 +179,7 @@ impl Group {
     /// The first that fits, and then nothing changes: [`GroupFault::UnknownMember`] if the
     /// number is that of a member or of one gone that the core still counts;
     /// [`GroupFault::InvalidSessionTimeout`]; [`GroupFault::InconsistentProtocol`];
-    /// [`GroupFault::GroupFull`] with 15 members; [`GroupFault::Memory`].
+    /// [`GroupFault::GroupFull`] with [`MOST_MEMBERS`] members; [`GroupFault::Memory`].
     pub fn join_new(&mut self, number: ClientId, ask: JoinAsk, now: u64) -> Result<(), GroupFault>
         ensures { MatchResult result
             (λ done. (new_refusal self.old number ask ≡ None)
@@ -496,6 +497,39 @@ impl Group {
             Phase::Stable => Some(Ok(self.assignments.of(number))),
             Phase::Empty | Phase::Preparing(_) | Phase::Completing => None,
         }
+    }
+
+    /// A member of this generation commits offsets, in a transaction or outside: its session begins
+    /// anew. While the members join again, those of the present generation may go on.
+    ///
+    /// # Errors
+    ///
+    /// The first that fits, and then nothing changes: [`GroupFault::UnknownMember`];
+    /// [`GroupFault::IllegalGeneration`]; [`GroupFault::RebalanceInProgress`] outside a transaction
+    /// until the leader has assigned.
+    pub fn commit(
+        &mut self,
+        number: ClientId,
+        generation: i32,
+        in_transaction: bool,
+        now: u64,
+    ) -> Result<(), GroupFault>
+        ensures answered { MatchResult result
+            (λ done. commit_fault self.old number generation in_transaction ≡ None)
+            (λ fault. commit_fault self.old number generation in_transaction ≡ Some fault) }
+        ensures noted { self.new ≡ after_commit self.old number generation in_transaction now }
+    {
+        if !has(self.roster.members(), number) {
+            return Err(GroupFault::UnknownMember);
+        }
+        if generation != self.generation {
+            return Err(GroupFault::IllegalGeneration);
+        }
+        if let (Phase::Completing, false) = (self.phase, in_transaction) {
+            return Err(GroupFault::RebalanceInProgress);
+        }
+        self.roster.hear(number, now);
+        Ok(())
     }
 
     /// The connection over which a member's JoinGroup or SyncGroup waits has ended: the member waits

@@ -72,7 +72,7 @@ pub fn preparing_ends()
         ⊎ (((after_due g now).phase ≡ Phase.Empty) × ((after_due g now).roster.gone ≡ [])) }
 {}
 
-/// A law: a group has at most 15 members, and its members' numbers and those that are owed to the
+/// A law: a group has at most 100 members, and its members' numbers and those that are owed to the
 /// core are all different; it is empty exactly if it has no members; while all have joined no join
 /// waits, and a member leads. A JoinGroup is answered exactly once it doesn't wait (`answered`).
 pub fn groups_are_sound()

@@ -18,7 +18,7 @@ mod votes;
 
 pub use ask::{Assignment, Assignments, JoinAsk, Protocol, Protocols};
 pub use fault::GroupFault;
-pub use group::{Group, Joined};
+pub use group::{Group, Joined, MOST_MEMBERS};
 pub use ids::{member_id, number_in};
 pub use laws::{
     assignments_are_the_leaders, generations_are_settled, groups_are_sound, member_ids_say_numbers,
