@@ -151,6 +151,55 @@ def dead_connections():
         trial.look("members of the group then", len(again["members"] or new["members"]), 2)
 
 
+class Member(threading.Thread):
+    """A member that joins, and joins again whenever its group does."""
+
+    def __init__(self, server):
+        super().__init__(daemon=True)
+        self.server, self.generation, self.assigned, self.ends = server, None, None, False
+
+    def run(self):
+        peer, member = Peer(self.server), ""
+        while not self.ends:
+            peer.joins(member=member, session=30000)
+            joined = peer.read()
+            member = joined["member"]
+            everybody = [it["member"] for it in joined["members"]]
+            peer.syncs(joined, [(it, it.encode()) for it in everybody])
+            synced = peer.read()
+            if code(joined) == 0 and code(synced) == 0:
+                self.generation, self.assigned = joined["generation"], synced["assignment"] == member.encode()
+                while not self.ends:
+                    peer.beats(joined)
+                    if code(peer.read()):
+                        self.generation = None
+                        break
+                    time.sleep(0.2)
+        peer.close()
+
+
+def many_members():
+    """Sixty members join at once, and settle in one generation."""
+    with Server(program(), "--topics", "t:1") as server:
+        members = [Member(server) for _ in range(60)]
+        begun = time.time()
+        for it in members:
+            it.start()
+        while time.time() < begun + 60:
+            found = {it.generation for it in members}
+            if len(found) == 1 and None not in found:
+                break
+            time.sleep(0.05)
+        took = time.time() - begun
+        trial.look("sixty members are in one generation", len(found) == 1 and None not in found, True)
+        trial.look("each was assigned what its leader gave it", all(it.assigned for it in members), True)
+        print(f"   after {took:.1f} s")
+        for it in members:
+            it.ends = True
+        for it in members:
+            it.join(10)
+
+
 def offsets_while_members_join():
     """A transaction commits offsets without a member's id while a group rebalances again and again."""
     with Server(program(), "--topics", "t:1") as server:
@@ -280,7 +329,7 @@ def ids_of_another_server():
             trial.look("with which a transaction commits", transaction(peer, held, txn), 0)
 
 
-for schedule in (slow_leader, dead_member, dead_connections, offsets_while_members_join, stalled_disk,
+for schedule in (slow_leader, dead_member, dead_connections, many_members, offsets_while_members_join, stalled_disk,
         kills_after_a_listing, ids_of_another_server):
     try:
         schedule()
