@@ -27,6 +27,7 @@ pub trait ServerFiles {
 }
 
 /// A server's folders in the file system, of whose files no contract knows anything.
+#[derive(Drop)]
 pub struct ServerFolders<'a, R> {
     rt: &'a R,
     traces: &'a str,
