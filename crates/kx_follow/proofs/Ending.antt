@@ -1,21 +1,26 @@
 -- What all steps that were made are: joined traces, and so an open schedule.
-use Rattle.std.proofs.Common.{◌≡◌, ℕ, All, Bool, true, false, cond, List, [], ◌∷◌, Some, refl}
+use Rattle.std.proofs.Common.{◌≡◌, ◌++◌, ⊎_elim, ℕ, All, Bool, true, false, cond, List, [], ◌∷◌, Some, refl}
 use Rattle.std.proofs.Common.{sym, ap, ◌∙◌, subst}
 use Rattle.std.specs.Prelude.{slice_get}
-use Rattle.std.proofs.lemmas.List.Elements.{All-cons, All-head, All-tail}
-use Rattle.kx_audit.specs.Joined.{AreJoined, IsWay, Passed, at_node, led_to, steps_in}
+use Rattle.std.proofs.lemmas.List.Elements.{All-append, All-cons, All-head, All-tail}
+use Rattle.kx_audit.specs.Joined.{AreJoined, GoesOn, IsWay, Passed, TakesInOrder, at_node, led_to}
+use Rattle.kx_audit.specs.Joined.{steps_in}
 use Rattle.kx_audit.specs.Making.{NodeMaking, Trail, named, node_of}
 use Rattle.kx_audit.specs.Nodes.{same_node}
 use Rattle.kx_audit.specs.Run.{IsOpenSchedule}
-use Rattle.kx_audit.specs.Schedule.{AllFit, Fits, IsStep}
+use Rattle.kx_audit.specs.Schedule.{AllFit, Fits, IsNodeMaking, IsStep}
 use Rattle.kx_audit.proofs.Places.{from_map, to_map}
-use Rattle.kx_follow.specs.Following.{Followed, Following, HasMade, arrived_in, name_of, trail_in}
-use Rattle.kx_follow.specs.Following.{trails_in}
+use Rattle.kx_follow.specs.Beginning.{AreLedBy}
+use Rattle.kx_follow.specs.Following.{AreApart, Followed, Following, HasMade, IsOf, arrived_in}
+use Rattle.kx_follow.specs.Following.{name_of, trail_in, trails_in}
 use Rattle.kx_follow.specs.Whole.{IsWholeRun}
 use Rattle.kx_machine.specs.Meaning.{NodeState}
 use Rattle.kx_message.specs.declared.message.Message.{Message}
 use Rattle.kx_message.specs.declared.message.NodeId.{NodeId}
 use Rattle.kx_outside.specs.Requests.{IsRequest}
+use Rattle.kx_follow.proofs.History.{arrived_both, at_both, goes_both, led_both, order_both}
+use Rattle.kx_follow.proofs.History.{steps_both}
+use Rattle.kx_follow.proofs.Lists.{get_both}
 use Rattle.kx_system.specs.System.{System}
 
 -- the steps at a node are of those of all
@@ -33,8 +38,65 @@ steps_fit (p ∷ history) name fits =
         (All-head IsStep p.step (steps_in history) fits) rest
     by false rest = rest
 
+-- the node's steps lead, from the node as it was made, to one for which its machine stands
+pub record IsLedAll {B M : Type 0} (making : B → NodeMaking) (stands : NodeState → M → Type 0)
+    (history : List Passed) (n : Followed B M) : Type 0 where
+  pub fits : IsNodeMaking (making n.made)
+  pub goes : GoesOn (node_of (making n.made)) (at_node (name_of making n) history)
+  pub stands_so : stands (led_to (node_of (making n.made)) (at_node (name_of making n) history)) n.machine
+
+-- these are all steps of the nodes since they were made
+pub record HasMadeAll {B M : Type 0} (making : B → NodeMaking) (stands : NodeState → M → Type 0)
+    (history : List Passed) (f : Following B M) : Type 0 where
+  pub apart : AreApart making f.nodes
+  pub led : (k : ℕ) (n : Followed B M) → slice_get f.nodes k ≡ Some n
+      → IsLedAll making stands history n
+  pub no_others : (j : ℕ) (p : Passed) → slice_get history j ≡ Some p → IsOf making f.nodes p
+  pub in_order : TakesInOrder (arrived_in history) history
+  pub requests : All IsRequest (arrived_in history)
+  pub fits : All IsStep (steps_in history)
+
 module _ {B M : Type 0} (making : B → NodeMaking) (stands : NodeState → M → Type 0)
-    (history : List Passed) (f : Following B M) (made : HasMade making stands history f) where
+    (starts : List NodeState) (before history : List Passed) (f : Following B M)
+    (made : HasMade making stands starts history f) (led : AreLedBy making before starts f.nodes)
+  where
+    led_all : (k : ℕ) (n : Followed B M) → slice_get f.nodes k ≡ Some n
+        → IsLedAll making stands (before ++ history) n
+    led_all k n at =
+        let own = made.led k n at in
+        let first = led.each k n own.start at own.begins in
+        let begin = node_of (making n.made) in
+        let name = name_of making n in
+        let one = at_node name before in
+        let two = at_node name history in
+        record {
+          fits = own.fits;
+          goes = subst (GoesOn begin) (sym (at_both name before history))
+              (goes_both begin one two first.goes
+              (subst (λ (s : NodeState). GoesOn s two) (sym first.leads) own.goes));
+          stands_so = subst (λ (ps : List Passed). stands (led_to begin ps) n.machine)
+              (sym (at_both name before history))
+              (subst (λ (s : NodeState). stands s n.machine)
+              (sym (led_both begin one two ∙ ap (λ (s : NodeState). led_to s two) first.leads))
+              own.stands_so);
+        }
+
+    pub made_all : HasMadeAll making stands (before ++ history) f
+    made_all = record {
+      apart = made.apart;
+      led = led_all;
+      no_others = λ j p at.
+          ⊎_elim (λ a. led.no_others j p a) (λ a. made.no_others a.0 p a.1)
+          (get_both before history j p at);
+      in_order = order_both before history led.in_order made.in_order;
+      requests = subst (All IsRequest) (sym (arrived_both before history))
+          (All-append IsRequest (arrived_in before) (arrived_in history) led.requests made.requests);
+      fits = subst (All IsStep) (sym (steps_both before history))
+          (All-append IsStep (steps_in before) (steps_in history) led.fits made.fits);
+    }
+
+module _ {B M : Type 0} (making : B → NodeMaking) (stands : NodeState → M → Type 0)
+    (history : List Passed) (f : Following B M) (made : HasMadeAll making stands history f) where
   abbrev trails : List Trail
   trails = trails_in making history f.nodes
 

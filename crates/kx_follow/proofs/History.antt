@@ -7,11 +7,13 @@ use Rattle.std.proofs.lemmas.List.{append_assoc}
 use Rattle.std.proofs.lemmas.List.Elements.{Contains-append_cases, Contains-append_left}
 use Rattle.std.proofs.lemmas.List.Elements.{Contains-append_right, filter-append}
 use Rattle.kx_audit.specs.Arrivals.{requested, requests_in}
-use Rattle.kx_audit.specs.Joined.{Passed, TakesInOrder, WasHandedOut, at_node, handed_out, steps_in}
+use Rattle.kx_audit.specs.Joined.{GoesOn, Passed, TakesInOrder, WasHandedOut, at_node, handed_out}
+use Rattle.kx_audit.specs.Joined.{led_to, steps_in}
 use Rattle.kx_audit.specs.Nodes.{same_node}
 use Rattle.kx_audit.proofs.Names.{apart, same_self}
 use Rattle.kx_audit.proofs.Ways.{steps_push}
 use Rattle.kx_follow.specs.Following.{arrived_in}
+use Rattle.kx_machine.specs.Meaning.{NodeState}
 use Rattle.kx_machine.specs.declared.input.Input.{Input}
 use Rattle.kx_machine.specs.declared.input.Input.TheVariants as input
 use Rattle.kx_message.specs.declared.message.Message.{Message}
@@ -37,7 +39,33 @@ at_push_other name history p other =
     at_push name history p false (apart p.node name (λ h. other (sym h)))
     ∙ append-nil (at_node name history)
 
+-- those of one history, and then of another
+pub at_both : (name : NodeId) (before history : List Passed)
+    → at_node name (before ++ history) ≡ at_node name before ++ at_node name history
+at_both name before history =
+    filter-append (λ (q : Passed). same_node q.node name) before history
+
+pub led_both : (start : NodeState) (a b : List Passed)
+    → led_to start (a ++ b) ≡ led_to (led_to start a) b
+led_both start [] b = refl
+led_both start (p ∷ a) b = led_both p.after a b
+
+pub goes_both : (start : NodeState) (a b : List Passed) → GoesOn start a
+    → GoesOn (led_to start a) b → GoesOn start (a ++ b)
+goes_both start [] b goes more = more
+goes_both start (p ∷ a) b goes more = (goes.0, goes_both p.after a b goes.1 more)
+
+pub steps_both : (a b : List Passed) → steps_in (a ++ b) ≡ steps_in a ++ steps_in b
+steps_both [] b = refl
+steps_both (p ∷ a) b = ap (λ (steps : List Step). p.step ∷ steps) (steps_both a b)
+
 ------ messages
+
+pub arrived_both : (before history : List Passed)
+    → arrived_in (before ++ history) ≡ arrived_in before ++ arrived_in history
+arrived_both before history =
+    ap (λ (steps : List Step). requests_in steps) (steps_both before history)
+    ∙ flat_map-append (λ (step : Step). requested step.input) (steps_in before) (steps_in history)
 
 pub arrived_push : (history : List Passed) (p : Passed)
     → arrived_in (history ++ p ∷ []) ≡ arrived_in history ++ requested p.step.input
@@ -111,6 +139,31 @@ order_push history p order was =
     (λ t. Contains-append_left (arrived ++ now) sent m (Contains-append_right arrived now m t))
     (λ t. Contains-append_right (arrived ++ now) sent m t)
     (Contains-append_cases now sent m has)) was))
+
+order_more_both : (more first sent : List Message) (before history : List Passed)
+    → Covers more first → Covers more sent → TakesInOrder first before → TakesInOrder sent history
+    → TakesInOrder more (before ++ history)
+order_more_both more first sent [] history covers also order then =
+    order_more sent more history also then
+order_more_both more first sent (p ∷ before) history covers also order then = (
+  was_more first more p.step.input covers order.0,
+  order_more_both (more ++ p.taken.messages) (first ++ p.taken.messages) sent before history
+      (covers_both first more p.taken.messages covers)
+      (λ m has. Contains-append_left more p.taken.messages m (also m has)) order.1 then,
+)
+
+-- one history, and then another
+pub order_both : (before history : List Passed) → TakesInOrder (arrived_in before) before
+    → TakesInOrder (arrived_in history) history
+    → TakesInOrder (arrived_in (before ++ history)) (before ++ history)
+order_both before history order then =
+    let first = arrived_in before in
+    let sent = arrived_in history in
+    subst (λ (ms : List Message). TakesInOrder ms (before ++ history))
+    (sym (arrived_both before history))
+    (order_more_both (first ++ sent) first sent before history
+    (λ m has. Contains-append_left first sent m has)
+    (λ m has. Contains-append_right first sent m has) order then)
 
 pub was_sent : (i : Input) (sent : List Message)
     → ((m : Message) → i ≡ input.Deliver m → Contains sent m)

@@ -48,6 +48,13 @@ get_push (z ∷ xs) y zero x e = inl e
 get_push (z ∷ xs) y (suc k) x e =
     ⊎_elim (λ t. inl t) (λ t. inr (ap suc t.0, t.1)) (get_push xs y k x e)
 
+-- one of the first, or one of those after them
+pub get_both : {A : Type 0} (xs ys : List A) (k : ℕ) (x : A) → slice_get (xs ++ ys) k ≡ Some x
+    → (slice_get xs k ≡ Some x) ⊎ ((j : ℕ) × (slice_get ys j ≡ Some x))
+get_both [] ys k x e = inr (k, e)
+get_both (z ∷ xs) ys zero x e = inl e
+get_both (z ∷ xs) ys (suc k) x e = get_both xs ys k x e
+
 -- if an element was, the changed one is
 pub set_here : {A : Type 0} (xs : List A) (k : ℕ) (y x : A) → slice_get xs k ≡ Some x
     → slice_get (slice_set xs k y) k ≡ Some y

@@ -11,8 +11,8 @@ use Rattle.std.proofs.lemmas.List.Elements.{Contains-append_left, Contains-push}
 use Rattle.std.proofs.lemmas.List.Sorted.{list_any-IsPermutation}
 use Rattle.std.proofs.lemmas.Slice.Eq.{bytes_eq-Decides}
 use Rattle.kx_audit.specs.Sent.{IsRead}
-use Rattle.kx_follow.specs.Internal.{HasFrame, frames_of}
-use Rattle.kx_follow.specs.Pending.{AreSent, IsAmong}
+use Rattle.kx_follow.specs.Internal.{HasFrame, waiting_of}
+use Rattle.kx_follow.specs.Pending.{AreSent, IsAmong, Waiting}
 use Rattle.kx_message.specs.Fields.{frame_text}
 use Rattle.kx_message.specs.declared.message.Message.{Message}
 use Rattle.kx_wire.specs.Frames.{Whole, frame_at}
@@ -38,25 +38,25 @@ last_frame sent m frame read is other fits also e =
     subst (λ (x : Message). Contains (sent ++ m ∷ []) x)
     (same_frame m other read also (sym is ∙ sym e)) (Contains-push sent m)
 
-pub sent_more : (sent more : List Message) (frames : List (List ℕ)) → AreSent sent frames
-    → AreSent (sent ++ more) frames
-sent_more sent more frames are m fits read among =
+pub sent_more : (sent more : List Message) (waiting : Waiting) → AreSent sent waiting
+    → AreSent (sent ++ more) waiting
+sent_more sent more waiting are m fits read among =
     Contains-append_left sent more m (are m fits read among)
 
 ------ the frames of a map
 
 module _ {K : Type 0} (bytes : K → List ℕ) where
-  abbrev frames : List (K × ℕ) → List (List ℕ)
-  frames entries = frames_of bytes entries
+  abbrev frames : List (K × ℕ) → Waiting
+  frames entries = waiting_of bytes entries
 
   abbrev has : Message → K × ℕ → Bool
   has m e = bytes_eq (frame_text m) (bytes e.0)
 
   among_is : (m : Message) (entries : List (K × ℕ))
-      → list_any (λ frame. bytes_eq (frame_text m) frame) (frames entries)
-      ≡ list_any (has m) entries
+      → list_any (λ w. bytes_eq (frame_text m) w.0) (frames entries) ≡ list_any (has m) entries
   among_is m entries =
-      any_map (λ e. bytes e.0) (λ frame. bytes_eq (frame_text m) frame) entries
+      any_map (λ (e : K × ℕ). (bytes e.0, e.1)) (λ (w : List ℕ × ℕ). bytes_eq (frame_text m) w.0)
+      entries
 
   shuffled : (sent : List Message) (a b : List (K × ℕ)) → IsPermutation a b
       → AreSent sent (frames a) → AreSent sent (frames b)
@@ -71,18 +71,19 @@ module _ {K : Type 0} (bytes : K → List ℕ) where
       ⊎_elim (λ t. was m fits read ((bytes_eq-Decides (frame_text m) (bytes k)).0 t))
       (λ t. are m fits read t)
       (or_cases (bytes_eq (frame_text m) (bytes k))
-      (list_any (λ frame. bytes_eq (frame_text m) frame) (frames entries)) among)
+      (list_any (λ w. bytes_eq (frame_text m) w.0) (frames entries)) among)
 
-  set_frames : (test : K → Bool) (entries : List (K × ℕ)) (v : ℕ)
-      → frames (set_value test entries v) ≡ frames entries
-  set_frames test [] v = refl
-  set_frames test (e ∷ entries) v = by (test e.0) (set_frames test entries v)
+  -- another value changes no key
+  set_any : (test : K → Bool) (m : Message) (entries : List (K × ℕ)) (v : ℕ)
+      → list_any (has m) (set_value test entries v) ≡ list_any (has m) entries
+  set_any test m [] v = refl
+  set_any test m (e ∷ entries) v = by (test e.0) (set_any test m entries v)
     where
-      by : (b : Bool) → frames (set_value test entries v) ≡ frames entries
-          → frames (cond b ((e.0, v) ∷ entries) (e ∷ set_value test entries v))
-          ≡ frames (e ∷ entries)
+      by : (b : Bool) → list_any (has m) (set_value test entries v) ≡ list_any (has m) entries
+          → list_any (has m) (cond b ((e.0, v) ∷ entries) (e ∷ set_value test entries v))
+          ≡ list_any (has m) (e ∷ entries)
       by true rest = refl
-      by false rest = ap (λ (l : List (List ℕ)). bytes e.0 ∷ l) rest
+      by false rest = ap (λ (b : Bool). has m e || b) rest
 
   -- a key is put, or is there and has another value
   pub put : (sent : List Message) (old new : List (K × ℕ)) (k : K) (v : ℕ) (o : Option ℕ)
@@ -92,7 +93,9 @@ module _ {K : Type 0} (bytes : K → List ℕ) where
   put sent old new k v None test is are was =
       shuffled sent ((k, v) ∷ old) new is (one_more sent old k v are was)
   put sent old new k v (Some w) test is are was =
-      subst (AreSent sent) (sym (ap frames is ∙ set_frames test old v)) are
+      subst (λ (es : List (K × ℕ)). AreSent sent (frames es)) (sym is) (λ m fits read among.
+      are m fits read (among_is m old ∙ sym (set_any test m old v)
+      ∙ sym (among_is m (set_value test old v)) ∙ among))
 
   fewer : (test : K → Bool) (p : K × ℕ → Bool) (entries : List (K × ℕ))
       → list_any p (remove_entry test entries) ≡ true → list_any p entries ≡ true

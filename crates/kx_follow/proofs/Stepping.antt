@@ -7,26 +7,25 @@ use Rattle.std.proofs.lemmas.Option.{same_Some}
 use Rattle.kx_audit.specs.Arrivals.{requested}
 use Rattle.kx_audit.specs.Joined.{GoesOn, Passed, WasHandedOut, at_node, handed_out, led_to}
 use Rattle.kx_audit.specs.Joined.{steps_in}
-use Rattle.kx_audit.specs.Making.{NodeMaking, node_of}
+use Rattle.kx_audit.specs.Making.{NodeMaking}
 use Rattle.kx_audit.specs.Schedule.{IsNodeMaking, IsStep}
 use Rattle.kx_audit.proofs.Places.{get_more}
 use Rattle.kx_audit.proofs.Ways.{goes_push, led_push, steps_push}
-use Rattle.kx_follow.specs.Beginning.{AreLedBy, AreNodes, IsNewName}
-use Rattle.kx_follow.specs.Following.{AreApart, Followed, Following, HasMade, IsLed, IsOf}
+use Rattle.kx_follow.specs.Beginning.{AreAt, AreNodes, IsNewName}
+use Rattle.kx_follow.specs.Following.{Followed, Following, HasMade, IsLed, IsOf}
 use Rattle.kx_follow.specs.Following.{MakesOneMore}
-use Rattle.kx_follow.specs.Following.{arrived_in, makings_of, name_of}
+use Rattle.kx_follow.specs.Following.{arrived_in, makings_of, name_of, state_after}
 use Rattle.kx_follow.specs.Internal.{Steps}
-use Rattle.kx_follow.specs.Pending.{AreSent}
+use Rattle.kx_follow.specs.Pending.{AreLeft, Waiting}
 use Rattle.kx_machine.specs.Meaning.{NodeState}
 use Rattle.kx_machine.specs.declared.input.Input.{Input}
 use Rattle.kx_machine.specs.declared.machine.StoreMode.{StoreMode}
 use Rattle.kx_machine.specs.declared.taken.Taken.{Taken}
-use Rattle.kx_message.specs.declared.message.Message.{Message}
 use Rattle.kx_message.specs.declared.message.NodeId.{NodeId}
 use Rattle.kx_nodes.specs.Replay.{mark_of}
 use Rattle.kx_outside.specs.Requests.{IsRequest}
-use Rattle.kx_follow.proofs.History.{arrived_push, at_push_other, at_push_own, handed_push}
-use Rattle.kx_follow.proofs.History.{order_push}
+use Rattle.kx_follow.proofs.Counting.{left_none}
+use Rattle.kx_follow.proofs.History.{arrived_push, at_push_other, at_push_own, order_push}
 use Rattle.kx_follow.proofs.Lists.{get_push, get_set, map_set, set_here, set_there}
 
 -- one more of them, under a name of its own
@@ -61,54 +60,37 @@ module _ {B M : Type 0} (making : B → NodeMaking) (stands : NodeState → M �
   abbrev name : Followed B M → NodeId
   name n = name_of making n
 
-  -- earlier steps led to them, and nothing that those sent waits
-  pub led_made : (before : List Passed) (nodes : List (Followed B M)) → AreNodes making nodes
-      → AreLedBy making stands before nodes
-      → HasMade making stands before (record { nodes = nodes; pending = [] })
-  led_made before nodes are led = record {
+  -- no step was made, and nothing waits
+  pub begins : (starts : List NodeState) (nodes : List (Followed B M)) → AreNodes making nodes
+      → AreAt making stands starts nodes
+      → HasMade making stands starts [] (record { nodes = nodes; pending = [] })
+  begins starts nodes are led = record {
     apart = are.apart;
-    led = λ k n at. record {
-      fits = are.fit k n at;
-      goes = (led.each k n at).goes;
-      stands_so = (led.each k n at).stands_so;
-    };
-    no_others = led.no_others;
-    in_order = led.in_order;
-    requests = led.requests;
-    fits = led.fits;
-    pending = λ m fits read among. absurd cc;
+    led = λ k n at.
+        let own = led k n at in
+        record {
+          fits = are.fit k n at;
+          start = own.0;
+          begins = own.1;
+          goes = tt;
+          stands_so = own.2;
+        };
+    no_others = λ j p at. absurd cc;
+    in_order = tt;
+    requests = All-nil IsRequest;
+    fits = All-nil IsStep;
+    left = left_none;
   }
 
-  -- nothing was made, and fewer messages wait
-  pub waits : (history : List Passed) (old new : Following B M) → HasMade making stands history old
-      → new.nodes ≡ old.nodes
-      → ((sent : List Message) → AreSent sent old.pending → AreSent sent new.pending)
-      → HasMade making stands history new
-  waits history old new made same left =
-      let nodes = sym same in
-      record {
-        apart = subst (λ (ns : List (Followed B M)). AreApart making ns) nodes made.apart;
-        led = subst (λ (ns : List (Followed B M)). (k : ℕ) (n : Followed B M)
-            → slice_get ns k ≡ Some n → IsLed making stands history n) nodes made.led;
-        no_others = subst (λ (ns : List (Followed B M)). (j : ℕ) (p : Passed)
-            → slice_get history j ≡ Some p → IsOf making ns p) nodes made.no_others;
-        in_order = made.in_order;
-        requests = made.requests;
-        fits = made.fits;
-        pending = left (handed_out history) made.pending;
-      }
-
-  module _ (history : List Passed) (old : Following B M) (k : ℕ) (n : Followed B M)
-      (at : slice_get old.nodes k ≡ Some n) (input : Input) (mode : StoreMode) (taken : Taken)
-      (next : Followed B M)
-      (same : next.made ≡ n.made)
-      (steps : Steps stands (led_to (node_of (making n.made)) (at_node (name n) history)) input
-      mode taken next.machine)
-      (pending : List (List ℕ)) (made : HasMade making stands history old)
+  module _ (starts : List NodeState) (history : List Passed) (old : Following B M) (k : ℕ)
+      (n : Followed B M) (at : slice_get old.nodes k ≡ Some n) (input : Input) (mode : StoreMode)
+      (taken : Taken) (next : Followed B M) (same : next.made ≡ n.made) (pending : Waiting)
+      (made : HasMade making stands starts history old)
+      (steps : Steps stands (state_after making (made.led k n at).start history n) input mode taken
+      next.machine)
       (was : WasHandedOut (requested input ++ handed_out history) input)
-      (requests : All IsRequest (requested input))
-      (sent : AreSent (handed_out history ++ taken.messages) pending) where
-    abbrev p : Passed
+      (requests : All IsRequest (requested input)) where
+    abbrev pub p : Passed
     p = record {
       node = name n;
       step = record { input = input; mark = mark_of taken };
@@ -143,13 +125,16 @@ module _ {B M : Type 0} (making : B → NodeMaking) (stands : NodeState → M �
     name_stays : (j : ℕ) (q : Followed B M) (w : Was j q) → name q ≡ name w.before
     name_stays j q w = ap (λ (b : B). name (record { made = b; machine = q.machine })) w.made_is
 
-    led_own : IsLed making stands (history ++ p ∷ []) (record { made = n.made; machine = next.machine })
+    led_own : IsLed making stands starts (history ++ p ∷ []) k
+        (record { made = n.made; machine = next.machine })
     led_own =
-        let begin = node_of (making n.made) in
-        let way = at_node (name n) history in
         let led = made.led k n at in
+        let begin = led.start in
+        let way = at_node (name n) history in
         record {
           fits = led.fits;
+          start = begin;
+          begins = led.begins;
           goes = subst (GoesOn begin) (sym (at_push_own history p))
               (goes_push begin way p led.goes steps.takes);
           stands_so = subst (λ (ps : List Passed). stands (led_to begin ps) next.machine)
@@ -159,26 +144,29 @@ module _ {B M : Type 0} (making : B → NodeMaking) (stands : NodeState → M �
         }
 
     led_other : (q : Followed B M) (j : ℕ) → slice_get old.nodes j ≡ Some q → j ≢ k
-        → IsLed making stands (history ++ p ∷ []) q
+        → IsLed making stands starts (history ++ p ∷ []) j q
     led_other q j there other =
         let led = made.led j q there in
         let e = at_push_other (name q) history p (λ h. other (made.apart j k q n there at h)) in
-        let begin = node_of (making q.made) in
+        let begin = led.start in
         record {
           fits = led.fits;
+          start = begin;
+          begins = led.begins;
           goes = subst (GoesOn begin) (sym e) led.goes;
           stands_so = subst (λ (ps : List Passed). stands (led_to begin ps) q.machine) (sym e)
               led.stands_so;
         }
 
     led_then : (j : ℕ) (q : Followed B M) → slice_get then_nodes j ≡ Some q
-        → IsLed making stands (history ++ p ∷ []) q
+        → IsLed making stands starts (history ++ p ∷ []) j q
     led_then j q there =
         ⊎_elim
         (λ (t : (j ≡ k) × (next ≡ q)).
-        subst (λ (x : Followed B M). IsLed making stands (history ++ p ∷ []) x) t.1
-        (subst (λ (b : B). IsLed making stands (history ++ p ∷ [])
-        (record { made = b; machine = next.machine })) (sym same) led_own))
+        subst (λ (i : ℕ). IsLed making stands starts (history ++ p ∷ []) i q) (sym t.0)
+        (subst (λ (x : Followed B M). IsLed making stands starts (history ++ p ∷ []) k x) t.1
+        (subst (λ (b : B). IsLed making stands starts (history ++ p ∷ []) k
+        (record { made = b; machine = next.machine })) (sym same) led_own)))
         (λ (t : (j ≢ k) × (slice_get old.nodes j ≡ Some q)). led_other q j t.1 t.0)
         (get_set old.nodes k next j q there)
 
@@ -221,8 +209,9 @@ module _ {B M : Type 0} (making : B → NodeMaking) (stands : NodeState → M �
         of_old q (⊎_elim (λ before. made.no_others j q before)
         (λ same_step. subst (IsOf making old.nodes) same_step own) (get_more history p j q there))
 
-    made_then : All IsStep (p.step ∷ []) → HasMade making stands (history ++ p ∷ []) then_all
-    made_then fits = record {
+    made_then : All IsStep (p.step ∷ []) → AreLeft (history ++ p ∷ []) pending
+        → HasMade making stands starts (history ++ p ∷ []) then_all
+    made_then fits left = record {
       apart = apart_then;
       led = led_then;
       no_others = no_others_then;
@@ -231,13 +220,16 @@ module _ {B M : Type 0} (making : B → NodeMaking) (stands : NodeState → M �
           (All-append IsRequest (arrived_in history) (requested input) made.requests requests);
       fits = subst (All IsStep) (sym (steps_push history p))
           (All-append IsStep (steps_in history) (p.step ∷ []) made.fits fits);
-      pending = subst (λ (ms : List Message). AreSent ms pending) (sym (handed_push history p)) sent;
+      left = left;
     }
 
-    pub one_more : IsStep p.step → MakesOneMore making stands k input mode taken history old then_all
-    one_more fit = record {
+    pub one_more : IsStep p.step → AreLeft (history ++ p ∷ []) pending
+        → MakesOneMore making stands starts k input mode taken history old then_all
+    one_more fit left = record {
       node = n;
       there = at;
+      start = (made.led k n at).start;
+      begins = (made.led k n at).begins;
       passed = p;
       name_is = refl;
       input_is = refl;
@@ -249,5 +241,5 @@ module _ {B M : Type 0} (making : B → NodeMaking) (stands : NodeState → M �
       there_then = set_here old.nodes k next n at;
       stands_so = steps.stands_so;
       makings = makings_stay;
-      made = made_then (All-push IsStep [] p.step (All-nil IsStep) fit);
+      made = made_then (All-push IsStep [] p.step (All-nil IsStep) fit) left;
     }

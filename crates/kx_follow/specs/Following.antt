@@ -2,11 +2,10 @@
 -- from outside.
 use Rattle.std.specs.Prelude.{◌≡◌, ◌++◌, ℕ, List, [], ◌∷◌, All, map, slice_get, Some}
 use Rattle.kx_audit.specs.Arrivals.{requests_in}
-use Rattle.kx_audit.specs.Joined.{GoesOn, Passed, TakesInOrder, at_node, handed_out, led_to}
-use Rattle.kx_audit.specs.Joined.{steps_in}
-use Rattle.kx_audit.specs.Making.{NodeMaking, Trail, named, node_of}
+use Rattle.kx_audit.specs.Joined.{GoesOn, Passed, TakesInOrder, at_node, led_to, steps_in}
+use Rattle.kx_audit.specs.Making.{NodeMaking, Trail, named}
 use Rattle.kx_audit.specs.Schedule.{IsNodeMaking, IsStep}
-use Rattle.kx_follow.specs.Pending.{AreSent}
+use Rattle.kx_follow.specs.Pending.{AreLeft, Waiting}
 use Rattle.kx_machine.specs.Meaning.{NodeState}
 use Rattle.kx_machine.specs.declared.input.Input.{Input}
 use Rattle.kx_machine.specs.declared.machine.StoreMode.{StoreMode}
@@ -25,7 +24,7 @@ pub record Followed (B M : Type 0) : Type 0 where
 -- the nodes, and the frames of what was sent and not taken yet
 pub record Following (B M : Type 0) : Type 0 where
   pub nodes : List (Followed B M)
-  pub pending : List (List ℕ)
+  pub pending : Waiting
 
 -- the requests that these steps take in
 abbrev pub arrived_in : List Passed → List Message
@@ -58,44 +57,51 @@ module _ {B M : Type 0} (making : B → NodeMaking) where
   abbrev pub trails_in : List Passed → List (Followed B M) → List Trail
   trails_in history nodes = map (trail_in history) nodes
 
-  module _ (stands : NodeState → M → Type 0) where
-    -- the node's steps lead to one for which its machine stands
-    pub record IsLed (history : List Passed) (n : Followed B M) : Type 0 where
-      pub fits : IsNodeMaking (making n.made)
-      pub goes : GoesOn (node_of (making n.made)) (at_node (name_of n) history)
-      pub stands_so : stands (led_to (node_of (making n.made)) (at_node (name_of n) history))
-          n.machine
+  -- where the node's steps in this history lead that was there before them
+  abbrev pub state_after : NodeState → List Passed → Followed B M → NodeState
+  state_after start history n = led_to start (at_node (name_of n) history)
 
-    -- these steps were made, one after the other: each takes in a request of a client, or what one
-    -- before it sent
-    pub record HasMade (history : List Passed) (f : Following B M) : Type 0 where
+  module _ (stands : NodeState → M → Type 0) where
+    -- the node's steps lead, from where it was in the beginning, to one for which its machine stands
+    pub record IsLed (starts : List NodeState) (history : List Passed) (k : ℕ) (n : Followed B M)
+        : Type 0 where
+      pub fits : IsNodeMaking (making n.made)
+      pub start : NodeState
+      pub begins : slice_get starts k ≡ Some start
+      pub goes : GoesOn start (at_node (name_of n) history)
+      pub stands_so : stands (state_after start history n) n.machine
+
+    -- these steps were made, one after the other, by nodes that were there in the beginning: each
+    -- takes in a request of a client, or what one before it sent; and what else was sent waits
+    pub record HasMade (starts : List NodeState) (history : List Passed) (f : Following B M)
+        : Type 0 where
       pub apart : AreApart f.nodes
-      pub led : (k : ℕ) (n : Followed B M) → slice_get f.nodes k ≡ Some n → IsLed history n
+      pub led : (k : ℕ) (n : Followed B M) → slice_get f.nodes k ≡ Some n
+          → IsLed starts history k n
       pub no_others : (j : ℕ) (p : Passed) → slice_get history j ≡ Some p → IsOf f.nodes p
       pub in_order : TakesInOrder (arrived_in history) history
       pub requests : All IsRequest (arrived_in history)
       pub fits : All IsStep (steps_in history)
-      pub pending : AreSent (handed_out history) f.pending
-
-    -- where the node's steps in this history lead
-    abbrev pub state_after : List Passed → Followed B M → NodeState
-    state_after history n = led_to (node_of (making n.made)) (at_node (name_of n) history)
+      pub left : AreLeft history f.pending
 
     -- the node of this number makes one more step: it takes this input, with a store that may meet
     -- the mode, gives this answer, and comes to one for which its machine then stands
-    pub record MakesOneMore (number : ℕ) (input : Input) (mode : StoreMode) (taken : Taken)
-        (history : List Passed) (old new : Following B M) : Type 0 where
+    pub record MakesOneMore (starts : List NodeState) (number : ℕ) (input : Input)
+        (mode : StoreMode) (taken : Taken) (history : List Passed) (old new : Following B M)
+        : Type 0 where
       pub node : Followed B M
       pub there : slice_get old.nodes number ≡ Some node
+      pub start : NodeState
+      pub begins : slice_get starts number ≡ Some start
       pub passed : Passed
       pub name_is : passed.node ≡ name_of node
       pub input_is : passed.step.input ≡ input
       pub mark_is : passed.step.mark ≡ mark_of taken
       pub taken_is : passed.taken ≡ taken
-      pub takes : Takes (state_after history node) passed.step passed.taken passed.after
-      pub meets : MayMeet (state_after history node) mode takes.store
+      pub takes : Takes (state_after start history node) passed.step passed.taken passed.after
+      pub meets : MayMeet (state_after start history node) mode takes.store
       pub next : Followed B M
       pub there_then : slice_get new.nodes number ≡ Some next
       pub stands_so : stands passed.after next.machine
       pub makings : makings_of new.nodes ≡ makings_of old.nodes
-      pub made : HasMade (history ++ passed ∷ []) new
+      pub made : HasMade starts (history ++ passed ∷ []) new

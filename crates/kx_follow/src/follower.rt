@@ -1,12 +1,15 @@
 //! Nodes of a server whose steps are made again.
-ghost use Rattle.std.specs.Prelude.{◌≡◌, ◌≤◌, ◌⊎◌, ◌++◌, All, IfNone, IfOk, IsFalse, IsTrue};
-ghost use Rattle.std.specs.Prelude.{List, MatchOption, None, OnOk, Some, length, map, slice_get};
+ghost use Rattle.std.specs.Prelude.{◌≡◌, ◌+◌, ◌≤◌, ◌⊎◌, ◌++◌, ℕ, [], All, IfErr, IfNone, IfOk};
+ghost use Rattle.std.specs.Prelude.{IsFalse, IsTrue, List, MatchOption, MatchResult, None, OnOk, Some};
+ghost use Rattle.std.specs.Prelude.{if◌then◌else◌, length, map, slice_get};
 ghost use Rattle.kx_audit.specs.Arrivals.{requested};
 ghost use Rattle.kx_audit.specs.Joined.{Passed, WasHandedOut};
-ghost use Rattle.kx_follow.specs.Beginning.{AreLedBy, AreNodes, IsNewName};
-ghost use Rattle.kx_follow.specs.Following.{Followed, HasMade, MakesOneMore};
-ghost use Rattle.kx_follow.specs.Pending.{AreSent, MustWait};
+ghost use Rattle.kx_follow.specs.Beginning.{AreAt, AreLedBy, AreNodes, IsNewName};
+ghost use Rattle.kx_follow.specs.Following.{AreApart, Followed, HasMade, MakesOneMore};
+ghost use Rattle.kx_follow.specs.Pending.{AreSent, IsUnsent, MustWait, takes_sent, times};
 ghost use Rattle.kx_follow.specs.Whole.{IsWholeRun};
+ghost use Rattle.kx_follow.specs.declared.fault.FollowFault.TheVariants as fault;
+ghost use Rattle.kx_machine.specs.Meaning.{NodeState};
 ghost use Rattle.kx_message.specs.declared.message.Message.{Message};
 ghost use Rattle.kx_outside.specs.Requests.{IsRequest};
 ghost use Rattle.kx_system.specs.System.{System};
@@ -38,7 +41,8 @@ impl<B: Remade> Model for Follower<B> {
 
 // Whether one of these nodes has this name.
 fn has_name<B: Remade>(nodes: &[FollowedNode<B>], name: NodeId) -> bool
-    ensures { IsFalse result → IsNewName B.making name nodes.now }
+    ensures new { IsFalse result → IsNewName B.making name nodes.now }
+    ensures there { IsTrue result → IsNewName B.making name nodes.now → ⊥ }
 {
     for node in nodes {
         if node.name() == name {
@@ -50,7 +54,8 @@ fn has_name<B: Remade>(nodes: &[FollowedNode<B>], name: NodeId) -> bool
 
 // Sees that no two of these nodes have one name.
 fn check_names<B: Remade>(nodes: &[FollowedNode<B>]) -> Result<(), FollowFault>
-    ensures { OnOk result (AreNodes B.making nodes.now) }
+    ensures { MatchResult result (λ done. AreNodes B.making nodes.now)
+        (λ why. (why ≡ fault.DuplicateNode) × (AreApart B.making nodes.now → ⊥)) }
 {
     for number in 0..nodes.len() {
         if has_name(&nodes[..number], nodes[number].name()) {
@@ -72,17 +77,18 @@ fn machines_of<B: Remade>(nodes: Vec<FollowedNode<B>>) -> Result<Vec<B::Machine>
 }
 
 impl<B: Remade> Follower<B> {
-    /// Nodes of which no step was made again. Whatever steps led to them before, those that are
-    /// made again follow them.
+    /// Nodes of which no step was made again, as they are in the beginning.
     ///
     /// # Errors
     ///
     /// `DuplicateNode` if two of them have one name.
     pub fn new(alloc: Global, nodes: Vec<FollowedNode<B>>) -> Result<Follower<B>, FollowFault>
         ensures nodes { IfOk result (λ f. f.nodes ≡ nodes.items) }
-        ensures made { IfOk result (λ f. (before : List Passed)
-            → AreLedBy B.making B.Machine.stands before f.nodes
-            → HasMade B.making B.Machine.stands before f) }
+        ensures made { IfOk result (λ f. (starts : List NodeState)
+            → AreAt B.making B.Machine.stands starts f.nodes
+            → HasMade B.making B.Machine.stands starts [] f) }
+        ensures err { IfErr result (λ why. (why ≡ fault.DuplicateNode)
+            × (AreApart B.making nodes.items → ⊥)) }
     {
         check_names(nodes.as_slice())?;
         Ok(Follower {
@@ -101,6 +107,9 @@ impl<B: Remade> Follower<B> {
         ensures comes { IfOk result (λ may. IsTrue may → (sent : List Message)
             → AreSent sent self.old.pending
             → WasHandedOut (requested input.now ++ sent) input.now) }
+        ensures times { IfOk result (λ may. IsTrue may → (text : List ℕ)
+            → times text self.new.pending + (if takes_sent text input.now then 1 else 0)
+            ≡ times text self.old.pending) }
         ensures stays { IfOk result (λ may. IsFalse may → self.new ≡ self.old) }
         ensures waits { IfOk result (λ may. IsFalse may
             → MustWait self.old.pending input.now) }
@@ -131,13 +140,11 @@ impl<B: Remade> Follower<B> {
         mode: StoreMode,
     ) -> Result<Option<Taken>, AllocError>
         ensures stays { IfOk result (λ o. IfNone o (self.new ≡ self.old)) }
-        ensures waits { IfOk result (λ o. IfNone o ((length self.old.nodes ≤ node)
-            ⊎ MustWait self.old.pending input.now)) }
-        ensures made { (history : List Passed) → HasMade B.making B.Machine.stands history self.old
-            → IfOk result (λ o. MatchOption o
-            (HasMade B.making B.Machine.stands history self.new)
-            (λ taken. MakesOneMore B.making B.Machine.stands node input.now mode taken history
-            self.old self.new)) }
+        ensures made { (starts : List NodeState) (history : List Passed)
+            → HasMade B.making B.Machine.stands starts history self.old → IfOk result (λ o.
+            MatchOption o ((length self.old.nodes ≤ node) ⊎ IsUnsent history input.now)
+            (λ taken. MakesOneMore B.making B.Machine.stands starts node input.now mode taken
+            history self.old self.new)) }
     {
         input_fits(input);
         if node >= self.nodes.len() {
@@ -171,13 +178,15 @@ impl<B: Remade> Follower<B> {
         machines_of(self.nodes)
     }
 
-    /// What the steps that were made are: an open schedule of the whole system, in which each
-    /// request of a client that a step took in had arrived from outside. It keeps the promises that
-    /// need no trust in clients, and leads to the nodes for which the machines stand. This does
-    /// nothing when it runs.
+    /// What the steps that were made are, after whatever steps may have led to the nodes in the
+    /// beginning: an open schedule of the whole system, in which each request of a client that a
+    /// step took in had arrived from outside. It keeps the promises that need no trust in clients,
+    /// and leads to the nodes for which the machines stand. This does nothing when it runs.
     pub fn steps_are_an_open_schedule(&self)
-        ensures { (history : List Passed) → HasMade B.making B.Machine.stands history self.now
-            → (s : System) × IsWholeRun B.making B.Machine.stands history self.now s }
+        ensures { (starts : List NodeState) (history before : List Passed)
+            → HasMade B.making B.Machine.stands starts history self.now
+            → AreLedBy B.making before starts self.now.nodes → (s : System)
+            × IsWholeRun B.making B.Machine.stands (before ++ history) self.now s }
     {
         joined_traces_are_an_open_schedule();
     }

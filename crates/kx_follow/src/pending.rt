@@ -1,7 +1,10 @@
 //! The messages that were sent to nodes and not taken yet.
-ghost use Rattle.std.specs.Prelude.{◌≡◌, ◌++◌, ◌∷◌, [], Contains, IfOk, IsFalse, IsTrue, List, OnOk};
-ghost use Rattle.kx_follow.specs.Internal.{HasFrame};
-ghost use Rattle.kx_follow.specs.Pending.{AreSent, IsAmong};
+ghost use Rattle.std.specs.Prelude.{◌≡◌, ◌+◌, ◌++◌, ◌∷◌, ℕ, [], Contains, IfOk, IsFalse, IsTrue};
+ghost use Rattle.std.specs.Prelude.{List, OnOk, if◌then◌else◌};
+ghost use Rattle.std.specs.Str.{bytes_eq};
+ghost use Rattle.kx_follow.specs.Internal.{HasFrame, first_times};
+ghost use Rattle.kx_follow.specs.Pending.{AreSent, IsAmong, is_for_server, sent_among, times};
+ghost use Rattle.kx_message.specs.Fields.{frame_text};
 ghost use Rattle.kx_message.specs.Sizes.{FitsFrame};
 ghost use Rattle.kx_message.specs.declared.message.Message.{Message};
 
@@ -11,21 +14,31 @@ use std::alloc::{AllocError, Global};
 use std::collections::HashMap;
 use std::marker::Model;
 
-/// How often each message was sent and not taken yet, by its frame. It is seen as the list of the
-/// frames.
+/// The messages that were sent and not taken yet, by their frames; each with how often more than
+/// once.
 #[derive(Drop)]
 pub(crate) struct Pending {
     alloc: Global,
-    counts: HashMap<Vec<u8>, u64>,
+    further: HashMap<Vec<u8>, u64>,
 }
 
 impl Model for Pending {
-    ghost use Rattle.std.specs.Prelude.{ℕ, List};
-    ghost use Rattle.kx_follow.specs.Internal.{frames_of};
+    ghost use Rattle.kx_follow.specs.Internal.{waiting_of};
+    ghost use Rattle.kx_follow.specs.Pending.{Waiting};
 
-    ghost Value = { List (List ℕ) };
+    ghost Value = { Waiting };
 
-    ghost view = { λ p. frames_of (λ frame. frame.items) p.counts.entries };
+    ghost view = { λ p. waiting_of (λ frame. frame.items) p.further.entries };
+}
+
+// Whether a node of the server can take the message: it goes to no client, and fits a frame.
+fn is_for_server(message: &Message) -> bool
+    ensures { result ≡ is_for_server message.now }
+{
+    match message.receiver() {
+        NodeId::Client(_) => false,
+        _ => message.fits(),
+    }
 }
 
 impl Pending {
@@ -35,51 +48,72 @@ impl Pending {
     {
         Pending {
             alloc,
-            counts: HashMap::new(alloc),
+            further: HashMap::new(alloc),
         }
     }
 
-    // Counts a frame this often.
-    fn set(&mut self, frame: Vec<u8>, count: u64) -> Result<(), AllocError>
-        ensures { OnOk result ((sent : List Message) → AreSent sent self.old
-            → HasFrame sent frame.items → AreSent sent self.new) }
+    // How often more than once a frame waits that is sent once more. If that is 2^64 times it gives up,
+    // as if memory ran out.
+    fn once_more(&self, frame: &Vec<u8>) -> Result<u64, AllocError>
+        ensures { IfOk result (λ further. further ≡ first_times frame.now.items self.now) }
     {
-        let _before = self.counts.insert(frame, count)?;
+        let Some(further) = self.further.get(frame).copied() else {
+            return Ok(0);
+        };
+        match further.checked_add(1) {
+            Some(more) => Ok(more),
+            None => Err(AllocError),
+        }
+    }
+
+    // A frame waits once, and this often more.
+    fn set(&mut self, frame: Vec<u8>, further: u64) -> Result<(), AllocError>
+        ensures sent { OnOk result ((sent : List Message) → AreSent sent self.old
+            → HasFrame sent frame.items → AreSent sent self.new) }
+        ensures times { OnOk result ((text : List ℕ) → times text self.new
+            + (if bytes_eq text frame.items then first_times frame.items self.old else 0)
+            ≡ times text self.old + (if bytes_eq text frame.items then further + 1 else 0)) }
+    {
+        let _before = self.further.insert(frame, further)?;
         Ok(())
     }
 
-    // One that fits a frame.
+    // A message that a node of the server can take.
     fn add_short(&mut self, message: &Message) -> Result<(), AllocError>
         requires { FitsFrame message.now }
-        ensures { OnOk result ((sent : List Message) → AreSent sent self.old
+        ensures sent { OnOk result ((sent : List Message) → AreSent sent self.old
             → AreSent (sent ++ message.now ∷ []) self.new) }
+        ensures times { OnOk result ((text : List ℕ) → times text self.new
+            ≡ times text self.old + (if bytes_eq text (frame_text message.now) then 1 else 0)) }
     {
         let frame = frame_of(self.alloc, message)?;
-        let before = self.counts.get(&frame).copied().unwrap_or(0);
-        self.set(frame, before.saturating_add(1))?;
+        let further = self.once_more(&frame)?;
+        self.set(frame, further)
+    }
+
+    // A message that was sent, if a node of the server can take it.
+    fn add(&mut self, message: &Message) -> Result<(), AllocError>
+        ensures sent { OnOk result ((sent : List Message) → AreSent sent self.old
+            → AreSent (sent ++ message.now ∷ []) self.new) }
+        ensures times { OnOk result ((text : List ℕ) → times text self.new
+            ≡ times text self.old + sent_among text (message.now ∷ [])) }
+    {
+        if is_for_server(message) {
+            self.add_short(message)?;
+        }
         Ok(())
     }
 
-    // A message that was sent. No node takes what goes to a client, or what is too long for a frame.
-    fn add(&mut self, message: &Message) -> Result<(), AllocError>
-        ensures { OnOk result ((sent : List Message) → AreSent sent self.old
-            → AreSent (sent ++ message.now ∷ []) self.new) }
-    {
-        match message.receiver() {
-            NodeId::Client(_) => Ok(()),
-            _ if message.fits() => self.add_short(message),
-            _ => Ok(()),
-        }
-    }
-
-    /// Adds messages that were sent.
+    /// Adds messages that were sent: those that a node of the server can take.
     ///
     /// # Errors
     ///
-    /// Only if memory runs out; some of them are added then.
+    /// If memory runs out, or one waits 2^64 times; some of them are added then.
     pub(crate) fn add_all(&mut self, messages: &[Message]) -> Result<(), AllocError>
-        ensures { OnOk result ((sent : List Message) → AreSent sent self.old
+        ensures sent { OnOk result ((sent : List Message) → AreSent sent self.old
             → AreSent (sent ++ messages.now) self.new) }
+        ensures times { OnOk result ((text : List ℕ) → times text self.new
+            ≡ times text self.old + sent_among text messages.now) }
     {
         for message in messages {
             self.add(message)?;
@@ -97,6 +131,9 @@ impl Pending {
             → AreSent sent self.new) }
         ensures was_sent { IfOk result (λ found. IsTrue found → (sent : List Message)
             → AreSent sent self.old → Contains sent message.now) }
+        ensures times { IfOk result (λ found. IsTrue found → (text : List ℕ)
+            → times text self.new + (if bytes_eq text (frame_text message.now) then 1 else 0)
+            ≡ times text self.old) }
         ensures stays { IfOk result (λ found. IsFalse found → self.new ≡ self.old) }
         ensures none { IfOk result (λ found. IsFalse found → FitsFrame message.now
             → IsAmong self.old message.now → ⊥) }
@@ -105,13 +142,13 @@ impl Pending {
             return Ok(false);
         }
         let frame = frame_of(self.alloc, message)?;
-        let Some(count) = self.counts.get(&frame).copied() else {
+        let Some(further) = self.further.get(&frame).copied() else {
             return Ok(false);
         };
-        if count > 1 {
-            self.set(frame, count - 1)?;
+        if further > 0 {
+            self.set(frame, further - 1)?;
         } else {
-            let _last = self.counts.remove(&frame);
+            let _last = self.further.remove(&frame);
         }
         Ok(true)
     }

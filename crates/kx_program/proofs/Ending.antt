@@ -9,6 +9,7 @@ use Rattle.kx_demo.specs.declared.fault.DemoFault.{DemoFault}
 use Rattle.kx_program.specs.Program.{Audits, DumpsBytes, DumpsFile, Plays, ServesStock}
 use Rattle.kx_serve.specs.declared.fault.ServeFault.{ServeFault}
 use Rattle.kx_server.specs.Lines.{Listens}
+use Rattle.kx_server_audit.specs.Contents.{unknown}
 use Rattle.kx_server_audit.specs.Telling as audit
 use Rattle.kx_server_audit.specs.declared.fault.AuditFault.{AuditFault}
 use Rattle.kx_text.specs.Statuses.{ending_of}
@@ -47,8 +48,8 @@ tells_kept old mid new _ kept (GaveUp printed) = GaveUp (Appends-kept old mid ne
 tells_kept old mid new _ kept (Fails why other) = Fails why other
 
 audit_kept : (compares : Bool) (old mid new : Option (List ℕ))
-    (audited : Result Bool AuditFault) → Keeps mid new → audit.Tells compares old mid audited
-    → audit.Tells compares old new audited
+    (audited : Result Bool AuditFault) → Keeps mid new
+    → audit.Tells unknown compares old mid audited → audit.Tells unknown compares old new audited
 audit_kept compares old mid new _ kept (audit.TellsYes f words none says printed) =
     audit.TellsYes f words none says (Appends-kept old mid new _ printed kept)
 audit_kept compares old mid new _ kept (audit.TellsNo f words denial some why printed) =

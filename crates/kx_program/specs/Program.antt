@@ -19,6 +19,7 @@ use Rattle.kx_program.specs.declared.task.Task.TheVariants as task
 use Rattle.kx_script.specs.Script.{EndsFlushed}
 use Rattle.kx_server.specs.Lines.{Listens, Prints}
 use Rattle.kx_serve.specs.declared.fault.ServeFault.{ServeFault}
+use Rattle.kx_server_audit.specs.Contents.{unknown}
 use Rattle.kx_server_audit.specs.Telling as audit
 use Rattle.kx_server_audit.specs.declared.fault.AuditFault.{AuditFault}
 use Rattle.kx_text.specs.Dump.{DumpsFlushed}
@@ -89,7 +90,7 @@ Plays old new how = (how ≡ ending.Failed) ⊎ ((played : Result Bool DemoFault
 -- failed
 abbrev pub Audits : Bool → Option (List ℕ) → Option (List ℕ) → Ending → Type 0
 Audits compares old new how = (how ≡ ending.Failed) ⊎ ((audited : Result Bool AuditFault)
-    × audit.Tells compares old new audited × (how ≡ ending_of_audit audited))
+    × audit.Tells unknown compares old new audited × (how ≡ ending_of_audit audited))
 
 -- what was asked for was done
 abbrev pub Performs : Option (List ℕ) → Option (List ℕ) → Option (List ℕ) → Task → Ending → Type 0
@@ -98,7 +99,7 @@ Performs input old new (task.Dump path) how = DumpsFile old new how
 Performs input old new (task.Serve options) how = ServesAll options.connections old new how
 Performs input old new (task.Kafka asked) how = ServesStock old new how
 Performs input old new (task.Demo asked) how = Plays old new how
-Performs input old new (task.Audit asked) how = Audits (is_some asked.options.logs) old new how
+Performs input old new (task.Audit asked) how = Audits (is_some asked.logs) old new how
 
 -- where the words can't be had: one that isn't text is wrong
 abbrev pub IsWithoutWords : IoKind → Ending → Type 0

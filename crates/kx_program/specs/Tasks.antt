@@ -113,9 +113,9 @@ pub record IsSim (rows : List Row) (asked : Pictures) : Type 0 where
 
 -- the options of `audit`
 pub record IsAudit (rows : List Row) (is_watched : Bool) (asked : Auditing) : Type 0 where
-  pub traces : first_of (codes "DIR") rows ≡ Some asked.options.traces.now
-  pub logs : option_map (λ d. d.now) asked.options.logs ≡ first_of (codes "dir") rows
-  pub tells : asked.options.tells_progress ≡ is_watched
+  pub traces : first_of (codes "DIR") rows ≡ Some asked.traces.now
+  pub logs : option_map (λ d. d.now) asked.logs ≡ first_of (codes "dir") rows
+  pub tells : asked.tells_progress ≡ is_watched
   pub page : option_map (λ p. p.now) asked.page ≡ first_of (codes "page") rows
 
 -- the subcommand of this name asks for this, with these options

@@ -7,9 +7,9 @@ ghost use Rattle.kx_watch.specs.Steps.{AddsSteps};
 ghost use Rattle.kx_text.specs.declared.program.Ending.TheVariants as ending;
 
 use crate::streams::{failed, sim};
-use crate::task::Pictures;
+use crate::task::{Auditing, Pictures};
 use kx_page::{Run, diagram, page};
-use kx_server_audit::{AuditOptions, end_steps, server_steps};
+use kx_server_audit::{ServerFolders, end_steps, server_steps};
 use kx_text::{Ending, ScriptFault};
 use kx_trace_audit::ToldStep;
 use kx_watch::{Watched, all_partitions, run_of_script};
@@ -142,23 +142,31 @@ fn server_run(alloc: Global, steps: &[ToldStep]) -> Result<Run, AllocError>
     watched.into_run("A server", taken)
 }
 
+/// The folders of the server that is audited.
+pub(crate) fn folders_of<'a, R: Files<File = File>>(
+    rt: &'a R,
+    asked: &Auditing<'a>,
+) -> ServerFolders<'a, R> {
+    ServerFolders::new(rt, asked.traces, asked.logs.unwrap_or(""))
+}
+
 /// Draws the steps of a server into the file at this path, by the traces that it left, and says
 /// whether the page is there. If not, a line on standard error says why.
 pub(crate) fn draw_server<R: Files<File = File> + AllocGlobal + Eprint, E: Write>(
     rt: &R,
-    options: &AuditOptions<'_>,
+    asked: &Auditing<'_>,
     path: &str,
     errors: &mut E,
 ) -> bool {
-    match server_steps(rt, options) {
+    match server_steps(rt, &folders_of(rt, asked), asked.logs.is_some()) {
         Ok(steps) => {
             let run = server_run(rt.alloc(), steps.as_slice());
             end_steps(steps);
-            let asked = Pictures {
+            let pictures = Pictures {
                 page: Some(path),
                 diagram: None,
             };
-            draw(rt, asked, run, errors)
+            draw(rt, pictures, run, errors)
         }
         Err(fault) => {
             let _ = failed(errors, fault);

@@ -7,17 +7,19 @@ ghost use Rattle.kx_program.specs.Asking.{EndsRefused};
 ghost use Rattle.kx_program.specs.Endings.{ending_of_demo};
 ghost use Rattle.kx_program.specs.Program.{Audits, DoesWords, IsWithoutWords, Performs, Plays};
 ghost use Rattle.kx_program.specs.Program.{ServesAll};
+ghost use Rattle.kx_server_audit.specs.Contents.{unknown};
+ghost use Rattle.kx_server_audit.specs.Telling.{Tells};
 ghost use Rattle.kx_text.specs.declared.program.Ending.TheVariants as ending;
 
 use crate::asking::{Refusal, asked};
-use crate::drawing::{draw_server, sim_with};
+use crate::drawing::{draw_server, folders_of, sim_with};
 use crate::kafka::kafka;
 use crate::streams::{dump_read, failed, played_ending, usage_ending};
 use crate::task::{Auditing, Demonstration, Task};
 use crate::telling::{audit_ending, finds_folder, served_ending};
 use kx_demo::DemoFault;
 use kx_serve::{Folders, ServeOptions};
-use kx_server_audit::{AuditOptions, audit_server};
+use kx_server_audit::{AuditFault, AuditOptions, audit_server};
 use kx_text::Ending;
 use std::alloc::Global;
 use std::fs::{File, Files};
@@ -166,21 +168,37 @@ fn flushed<O: Write, E: Write>(how: Ending, out: &mut O, errors: &mut E) -> Endi
     }
 }
 
+// Audits what a server left in its folders.
+fn audit_folders<R: Files<File = File> + AllocGlobal + Eprint, O: Write>(
+    rt: &R,
+    asked: &Auditing<'_>,
+    out: &mut O,
+) -> Result<bool, AuditFault>
+    ensures { Tells unknown (is_some asked.now.logs) (O.contents out.old) (O.contents out.new)
+        result }
+{
+    let options = AuditOptions {
+        compares_logs: asked.logs.is_some(),
+        tells_progress: asked.tells_progress,
+    };
+    audit_server(rt, &folders_of(rt, asked), options, out)
+}
+
 // Audits a server that ran, and draws its steps.
 fn audit_and_draw<R: Files<File = File> + AllocGlobal + Eprint, O: Write, E: Write>(
     rt: &R,
-    options: &AuditOptions<'_>,
+    asked: &Auditing<'_>,
     path: &str,
     out: &mut O,
     errors: &mut E,
 ) -> Ending
-    ensures { Audits (is_some options.now.logs) (O.contents out.old) (O.contents out.new) result }
+    ensures { Audits (is_some asked.now.logs) (O.contents out.old) (O.contents out.new) result }
 {
-    let audited = audit_server(rt, options, out);
-    if audited.is_ok() && !draw_server(rt, options, path, errors) {
+    let audited = audit_folders(rt, asked, out);
+    if audited.is_ok() && !draw_server(rt, asked, path, errors) {
         return Ending::Failed;
     }
-    audit_ending(rt, options, audited, errors)
+    audit_ending(rt, asked, audited, errors)
 }
 
 // Audits a server whose logs are there, if they are to be compared.
@@ -190,14 +208,13 @@ fn audit_left<R: Files<File = File> + AllocGlobal + Eprint, O: Write, E: Write>(
     out: &mut O,
     errors: &mut E,
 ) -> Ending
-    ensures { Audits (is_some asked.now.options.logs) (O.contents out.old) (O.contents out.new)
-        result }
+    ensures { Audits (is_some asked.now.logs) (O.contents out.old) (O.contents out.new) result }
 {
     if let Some(path) = asked.page {
-        return audit_and_draw(rt, &asked.options, path, out, errors);
+        return audit_and_draw(rt, asked, path, out, errors);
     }
-    let audited = audit_server(rt, &asked.options, out);
-    audit_ending(rt, &asked.options, audited, errors)
+    let audited = audit_folders(rt, asked, out);
+    audit_ending(rt, asked, audited, errors)
 }
 
 // Audits a server that ran.
@@ -207,10 +224,9 @@ fn audit<R: Files<File = File> + AllocGlobal + Eprint, O: Write, E: Write>(
     out: &mut O,
     errors: &mut E,
 ) -> Ending
-    ensures { Audits (is_some asked.now.options.logs) (O.contents out.old) (O.contents out.new)
-        result }
+    ensures { Audits (is_some asked.now.logs) (O.contents out.old) (O.contents out.new) result }
 {
-    if let Some(folder) = asked.options.logs {
+    if let Some(folder) = asked.logs {
         if !finds_folder(rt, folder, errors) {
             return Ending::Failed;
         }

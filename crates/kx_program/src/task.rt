@@ -16,7 +16,6 @@ use kx_play::{PlayOptions, Records, WorkerCount};
 use kx_relay::{Holding, Losses};
 use kx_serve::ServeOptions;
 use kx_server::{Connections, Partitions};
-use kx_server_audit::AuditOptions;
 
 /// Which pictures of a run are asked for.
 #[derive(Clone, Copy)]
@@ -41,8 +40,12 @@ pub struct Demonstration<'a> {
 /// What `audit` is asked for.
 #[derive(Clone, Copy)]
 pub struct Auditing<'a> {
-    /// What is audited.
-    pub options: AuditOptions<'a>,
+    /// The folder with the traces.
+    pub traces: &'a str,
+    /// The folder with the logs, if they are to be compared.
+    pub logs: Option<&'a str>,
+    /// Whether it is told on standard error how far a long audit is.
+    pub tells_progress: bool,
     /// The file into which the page of the steps is written, if any.
     pub page: Option<&'a str>,
 }
@@ -235,11 +238,9 @@ fn audit_in<'a>(given: &ArgMatches<'a>, is_watched: bool) -> Option<Auditing<'a>
 {
     match given.get_str("DIR") {
         Some(traces) => Some(Auditing {
-            options: AuditOptions {
-                traces,
-                logs: given.get_str("dir"),
-                tells_progress: is_watched,
-            },
+            traces,
+            logs: given.get_str("dir"),
+            tells_progress: is_watched,
             page: given.get_str("page"),
         }),
         None => None,

@@ -5,9 +5,10 @@ ghost use Rattle.kx_program.specs.Telling.{audit_about, front_of};
 ghost use Rattle.kx_text.specs.Statuses.{ending_of};
 
 use crate::streams::failed;
+use crate::task::Auditing;
 use kx_message::PartitionId;
 use kx_serve::{About, Folders, ServeFault, refusal};
-use kx_server_audit::{AuditFault, AuditFile, AuditOptions};
+use kx_server_audit::{AuditFault, AuditFile};
 use kx_text::Ending;
 use kx_trace::TracedNode;
 use std::alloc::Global;
@@ -135,11 +136,11 @@ fn has_bytes<R: Files<File = File> + AllocGlobal>(rt: &R, folder: &str, file: Au
 // partition in any case, and of a data partition that has a log.
 fn is_traced<R: Files<File = File> + AllocGlobal>(
     rt: &R,
-    options: &AuditOptions<'_>,
+    asked: &Auditing<'_>,
     node: &TracedNode,
 ) -> bool {
     match node {
-        TracedNode::Partition(partition) if partition.is_data() => match options.logs {
+        TracedNode::Partition(partition) if partition.is_data() => match asked.logs {
             Some(folder) => has_bytes(rt, folder, AuditFile::Log(*node)),
             None => false,
         },
@@ -155,10 +156,10 @@ fn trace_of(node: &TracedNode) -> AuditFile {
 // Whether the trace of a node is missing.
 fn is_missing<R: Files<File = File> + AllocGlobal>(
     rt: &R,
-    options: &AuditOptions<'_>,
+    asked: &Auditing<'_>,
     node: &TracedNode,
 ) -> bool {
-    is_traced(rt, options, node) && !has_bytes(rt, options.traces, trace_of(node))
+    is_traced(rt, asked, node) && !has_bytes(rt, asked.traces, trace_of(node))
 }
 
 // Says on standard error that a trace is missing in its folder.
@@ -172,30 +173,30 @@ fn say_missing<E: Write>(folder: &str, trace: &AuditFile, errors: &mut E) {
 // Says on standard error that the trace of a node is missing, if it is.
 fn tell_missing<R: Files<File = File> + AllocGlobal, E: Write>(
     rt: &R,
-    options: &AuditOptions<'_>,
+    asked: &Auditing<'_>,
     node: &TracedNode,
     errors: &mut E,
 ) {
-    if is_missing(rt, options, node) {
-        say_missing(options.traces, &trace_of(node), errors);
+    if is_missing(rt, asked, node) {
+        say_missing(asked.traces, &trace_of(node), errors);
     }
 }
 
 // Says on standard error which traces are missing.
 fn tell_all_missing<R: Files<File = File> + AllocGlobal, E: Write>(
     rt: &R,
-    options: &AuditOptions<'_>,
+    asked: &Auditing<'_>,
     errors: &mut E,
 ) {
-    tell_missing(rt, options, &TracedNode::Coordinator, errors);
+    tell_missing(rt, asked, &TracedNode::Coordinator, errors);
     for number in 0..PartitionId::DATA_COUNT {
         if let Ok(partition) = PartitionId::try_from(number) {
-            tell_missing(rt, options, &TracedNode::Partition(partition), errors);
+            tell_missing(rt, asked, &TracedNode::Partition(partition), errors);
         }
     }
     tell_missing(
         rt,
-        options,
+        asked,
         &TracedNode::Partition(PartitionId::OFFSETS),
         errors,
     );
@@ -215,10 +216,10 @@ fn is_held<R: Files<File = File> + AllocGlobal>(rt: &R, folder: &str) -> bool {
 // Says on standard error that a server still writes the traces, if one does.
 fn tell_held<R: Files<File = File> + AllocGlobal, E: Write>(
     rt: &R,
-    options: &AuditOptions<'_>,
+    asked: &Auditing<'_>,
     errors: &mut E,
 ) {
-    let folder = options.traces;
+    let folder = asked.traces;
     if is_held(rt, folder) {
         let _ = failed(
             errors,
@@ -233,7 +234,7 @@ fn tell_held<R: Files<File = File> + AllocGlobal, E: Write>(
 /// refusal which traces are missing.
 pub(crate) fn audit_ending<R: Files<File = File> + AllocGlobal, E: Write>(
     rt: &R,
-    options: &AuditOptions<'_>,
+    asked: &Auditing<'_>,
     audited: Result<bool, AuditFault>,
     errors: &mut E,
 ) -> Ending
@@ -241,18 +242,18 @@ pub(crate) fn audit_ending<R: Files<File = File> + AllocGlobal, E: Write>(
 {
     match audited {
         Ok(true) => {
-            tell_held(rt, options, errors);
+            tell_held(rt, asked, errors);
             Ending::Done
         }
         Ok(false) => {
-            tell_held(rt, options, errors);
-            tell_all_missing(rt, options, errors);
+            tell_held(rt, asked, errors);
+            tell_all_missing(rt, asked, errors);
             Ending::Failed
         }
         Err(fault) => {
             let folders = Folders {
-                logs: options.logs,
-                traces: Some(options.traces),
+                logs: asked.logs,
+                traces: Some(asked.traces),
             };
             let (folder, parted) = front_of(audit_about(fault), folders);
             let why = because(rt.alloc(), refused_audit(rt, folders, fault));

@@ -1,7 +1,7 @@
 -- An audit that goes on in one trace, and then in another.
 use borrow.Author.Count.{below_more}
-use Rattle.std.proofs.Common.{◌≡◌, ◌≢◌, ◌+◌, ◌<◌, ◌∙◌, ◌++◌, ◌==◌, ◌||◌, ◌⊎◌, ℕ, zero, suc, List, [], ◌∷◌, Option, ap}
-use Rattle.std.proofs.Common.{All, Err, MatchResult, Ok, Result, append-nil, append_assoc, arith, get_or, inl, inr}
+use Rattle.std.proofs.Common.{◌≡◌, ◌+◌, ◌<◌, ◌∙◌, ◌++◌, ◌==◌, ◌||◌, ◌⊎◌, ℕ, zero, suc, List, [], ◌∷◌, Option, ap}
+use Rattle.std.proofs.Common.{All, Err, MatchOption, MatchResult, Ok, Result, append-nil, append_assoc, arith, get_or, inl, inr}
 use Rattle.std.proofs.Common.{Bool, None, Some, false, length, length-append, map, refl, slice_get}
 use Rattle.std.proofs.Common.{slice_set, subst, sym, true}
 use Rattle.std.proofs.lemmas.Bool.{cases_eq, false≢true}
@@ -14,12 +14,12 @@ use Rattle.kx_audit.specs.Joined.{Passed}
 use Rattle.kx_follow.specs.Following.{Followed}
 use Rattle.kx_log.specs.Store.{StoreState}
 use Rattle.kx_machines.specs.declared.broker.BrokerMachine.{BrokerMachine}
-use Rattle.kx_server_audit.specs.Counting.{AreCounts, decided_by, decided_in, in_64_bits}
+use Rattle.kx_server_audit.specs.Counting.{AreCounts, decided_by, decided_in}
 use Rattle.kx_server_audit.specs.Driving.{Advances, AreAudited, AreStuck, Audited, CannotRead, EndsBy}
 use Rattle.kx_server_audit.specs.Driving.{AreTold, EndsIn, GoesNoFurther, GoesOn, HasGoneOn, IsFed}
 use Rattle.kx_server_audit.specs.Driving.{IsStuck, IsTold, IsUnderWay, IsWhole, ItemLeft, ItemRefused}
-use Rattle.kx_server_audit.specs.Driving.{OthersStay, RefusesAt, SaysYes, Stays, making}
-use Rattle.kx_server_audit.specs.Reads.{IsEnded, Start}
+use Rattle.kx_server_audit.specs.Driving.{OthersStay, RefusesAt, RefusesItem, SaysYes, Stays, making}
+use Rattle.kx_server_audit.specs.Reads.{IsEnded, Start, traces_of}
 use Rattle.kx_server_audit.specs.declared.auditing.Ending.{Ending}
 use Rattle.kx_server_audit.specs.declared.auditing.Ending.TheVariants as ending
 use Rattle.kx_server_audit.specs.declared.auditing.ServerAudit.{ServerAudit}
@@ -29,9 +29,11 @@ use Rattle.kx_server_audit.specs.declared.sources.Source.{Source}
 use Rattle.kx_server_audit.proofs.Reading.{all_are_read, all_at, are_parts, count_read, fed-fed}
 use Rattle.kx_server_audit.proofs.Reading.{fed-nil, read_at}
 use Rattle.kx_machines.specs.Brokers.{broker_stands}
-use Rattle.kx_trace_audit.specs.Auditing.{IsFirstLeft, IsRefused, IsYes, fed}
-use Rattle.kx_trace_audit.specs.Readings.{Reading, fed_on}
+use Rattle.kx_machine.specs.Meaning.{NodeState}
+use Rattle.kx_trace_audit.specs.Auditing.{HasAudited, IsFirstLeft, IsRefused, IsYes, fed}
+use Rattle.kx_trace_audit.specs.Readings.{Reading, fed_on, in_64_bits}
 use Rattle.kx_trace_audit.specs.declared.refusal.TraceRefusal.{TraceRefusal}
+use Rattle.kx_trace_audit.specs.declared.servers.TraceOf.{TraceOf}
 use Rattle.kx_trace_audit.specs.declared.refusal.TraceRefusal.TheVariants as refusal
 
 -- one more step is counted
@@ -66,6 +68,14 @@ get_other (x ∷ xs) (suc i) (suc j) y apart =
 or_true : (b : Bool) → (b || true) ≡ true
 or_true true = refl
 or_true false = refl
+
+-- how many items are done with, of the trace that is there
+items_of : (o : Option Reading) (items : ℕ) (r : Reading) → o ≡ Some r
+    → MatchOption o (items ≡ 0) (λ q. items ≡ q.items) → items ≡ r.items
+items_of None items r is counted = absurd cc
+items_of (Some q) items r is counted =
+    let same : q ≡ r = cc in
+    counted ∙ ap (λ (x : Reading). x.items) same
 
 ------ of the traces that are audited
 
@@ -138,21 +148,21 @@ element [] k h = absurd (omega arith)
 element (x ∷ xs) zero h = (x, refl)
 element (x ∷ xs) (suc k) h = element xs k (omega arith)
 
-no_further : (history : List Passed) (k : ℕ) (a : Audited) (P Q : Type 0) → (P → Q)
-    → GoesNoFurther history k a P → GoesNoFurther history k a Q
-no_further history k a P Q f (inl waits) = inl waits
-no_further history k a P Q f (inr needs) = inr (needs.0, f needs.1)
+no_further : (start : Start) (history : List Passed) (k : ℕ) (a : Audited) (P Q : Type 0)
+    → (P → Q) → GoesNoFurther start history k a P → GoesNoFurther start history k a Q
+no_further start history k a P Q f (inl waits) = inl waits
+no_further start history k a P Q f (inr needs) = inr (needs.0, f needs.1)
 
 module _ {I : Type 0} (remaining : I → Option (List ℕ)) where
   -- nothing was read, and these steps were made
-  pub makes : (texts : List (List ℕ)) (history more : List Passed) (k : ℕ) (old new : ServerAudit)
+  pub makes : (start : Start) (texts : List (List ℕ)) (history more : List Passed) (k : ℕ) (old new : ServerAudit)
       (from to : Source I) → to.reader ≡ from.reader → to.is_ended ≡ from.is_ended
       → (IsTold k old from → IsTold k new to) → OthersStay k old.audit new.audit
       → ((done : List Passed) → AreCounts done old.counts
       → AreCounts (done ++ more) new.counts)
-      → AreAudited texts (history ++ more) new.audit
-      → Advances remaining texts history k old new from to
-  makes texts history more k old new from to reader ended told others counted audited = record {
+      → AreAudited start texts (history ++ more) new.audit
+      → Advances remaining start texts history k old new from to
+  makes start texts history more k old new from to reader ended told others counted audited = record {
     read = [];
     more = more;
     consumed = subst (λ (r : I). Consumes (remaining from.reader) (remaining r) []) (sym reader)
@@ -161,32 +171,32 @@ module _ {I : Type 0} (remaining : I → Option (List ℕ)) where
         (before (sym ended ∙ now));
     told = told;
     others = others;
-    audited = subst (λ (ts : List (List ℕ)). AreAudited ts (history ++ more) new.audit)
+    audited = subst (λ (ts : List (List ℕ)). AreAudited start ts (history ++ more) new.audit)
         (sym (fed-nil texts k)) audited;
     counted = counted;
   }
 
   -- nothing was read, and no step was made
-  pub stays : (texts : List (List ℕ)) (history : List Passed) (k : ℕ) (old new : ServerAudit)
+  pub stays : (start : Start) (texts : List (List ℕ)) (history : List Passed) (k : ℕ) (old new : ServerAudit)
       (from to : Source I) → to.reader ≡ from.reader → to.is_ended ≡ from.is_ended
       → (IsTold k old from → IsTold k new to) → OthersStay k old.audit new.audit
-      → new.counts ≡ old.counts → AreAudited texts history new.audit
-      → Advances remaining texts history k old new from to
-  stays texts history k old new from to reader ended told others counts audited =
+      → new.counts ≡ old.counts → AreAudited start texts history new.audit
+      → Advances remaining start texts history k old new from to
+  stays start texts history k old new from to reader ended told others counts audited =
       let none = append-nil history in
-      makes texts history [] k old new from to reader ended told others
+      makes start texts history [] k old new from to reader ended told others
       (λ done counted. subst (λ (h : List Passed). AreCounts h new.counts)
       (sym (append-nil done)) (subst (AreCounts done) (sym counts) counted))
-      (subst (λ (h : List Passed). AreAudited texts h new.audit) (sym none) audited)
+      (subst (λ (h : List Passed). AreAudited start texts h new.audit) (sym none) audited)
 
   -- these bytes were read, and no step was made
-  pub reads : (texts : List (List ℕ)) (history : List Passed) (k : ℕ) (old new : ServerAudit)
+  pub reads : (start : Start) (texts : List (List ℕ)) (history : List Passed) (k : ℕ) (old new : ServerAudit)
       (from to : Source I) (bytes : List ℕ)
       → Consumes (remaining from.reader) (remaining to.reader) bytes → IsEnded remaining to
       → (to.is_ended ≡ true → bytes ≡ []) → IsFed k bytes old.audit new.audit
-      → new.counts ≡ old.counts → AreAudited (fed texts k bytes) history new.audit
-      → Advances remaining texts history k old new from to
-  reads texts history k old new from to bytes consumed ended none_left is_fed counts audited =
+      → new.counts ≡ old.counts → AreAudited start (fed texts k bytes) history new.audit
+      → Advances remaining start texts history k old new from to
+  reads start texts history k old new from to bytes consumed ended none_left is_fed counts audited =
       let none = append-nil history in
       record {
         read = bytes;
@@ -195,19 +205,19 @@ module _ {I : Type 0} (remaining : I → Option (List ℕ)) where
         ended = λ before. ended;
         told = λ before r there at_end. is_fed.ends r there (none_left at_end);
         others = is_fed.others;
-        audited = subst (λ (h : List Passed). AreAudited (fed texts k bytes) h new.audit)
+        audited = subst (λ (h : List Passed). AreAudited start (fed texts k bytes) h new.audit)
             (sym none) audited;
         counted = λ done counted. subst (λ (h : List Passed). AreCounts h new.counts)
             (sym (append-nil done)) (subst (AreCounts done) (sym counts) counted);
       }
 
   -- it goes on twice
-  pub Advances-trans : (texts : List (List ℕ)) (history : List Passed) (k : ℕ)
+  pub Advances-trans : (start : Start) (texts : List (List ℕ)) (history : List Passed) (k : ℕ)
       (old mid new : ServerAudit) (from via to : Source I)
-      (a : Advances remaining texts history k old mid from via)
-      → Advances remaining (fed texts k a.read) (history ++ a.more) k mid new via to
-      → Advances remaining texts history k old new from to
-  Advances-trans texts history k old mid new from via to a b =
+      (a : Advances remaining start texts history k old mid from via)
+      → Advances remaining start (fed texts k a.read) (history ++ a.more) k mid new via to
+      → Advances remaining start texts history k old new from to
+  Advances-trans start texts history k old mid new from via to a b =
       let joined = append_assoc history a.more b.more in
       record {
         read = a.read ++ b.read;
@@ -217,33 +227,33 @@ module _ {I : Type 0} (remaining : I → Option (List ℕ)) where
         ended = λ e. b.ended (a.ended e);
         told = λ t. b.told (a.told t);
         others = λ j apart. b.others j apart ∙ a.others j apart;
-        audited = subst (λ (ts : List (List ℕ)). AreAudited ts (history ++ (a.more ++ b.more)) new.audit)
+        audited = subst (λ (ts : List (List ℕ)). AreAudited start ts (history ++ (a.more ++ b.more)) new.audit)
             (fed-fed texts k a.read b.read)
-            (subst (λ (h : List Passed). AreAudited (fed (fed texts k a.read) k b.read) h new.audit) joined b.audited);
+            (subst (λ (h : List Passed). AreAudited start (fed (fed texts k a.read) k b.read) h new.audit) joined b.audited);
         counted = λ done c. subst (λ (h : List Passed). AreCounts h new.counts)
             (append_assoc done a.more b.more) (b.counted (done ++ a.more) (a.counted done c));
       }
 
   pub goes_nowhere : (k : ℕ) (a : ServerAudit) (s : Source I) → GoesOn remaining k a a s s
-  goes_nowhere k a s = λ texts history has.
-      stays texts history k a a s s refl refl (λ told. told) (λ j apart. refl) refl has
+  goes_nowhere k a s = λ start texts history has.
+      stays start texts history k a a s s refl refl (λ told. told) (λ j apart. refl) refl has
 
   pub goes_on : (k : ℕ) (old mid new : ServerAudit) (from via to : Source I)
       → GoesOn remaining k old mid from via → GoesOn remaining k mid new via to
       → GoesOn remaining k old new from to
-  goes_on k old mid new from via to a b = λ texts history has.
-      let first = a texts history has in
-      Advances-trans texts history k old mid new from via to first
-      (b (fed texts k first.read) (history ++ first.more) first.audited)
+  goes_on k old mid new from via to a b = λ start texts history has.
+      let first = a start texts history has in
+      Advances-trans start texts history k old mid new from via to first
+      (b start (fed texts k first.read) (history ++ first.more) first.audited)
 
   pub has_gone : (k : ℕ) (old new : ServerAudit) (from to : Source I) (went_on : Bool)
       → HasGoneOn remaining k old new from to went_on → GoesOn remaining k old new from to
   has_gone k old new from to true h = h
-  has_gone k old new from to false h = λ texts history has.
-      let s = h texts history has in
-      subst (λ (a : ServerAudit). Advances remaining texts history k old a from to) (sym s.audit_is)
-      (subst (λ (t : Source I). Advances remaining texts history k old old from t) (sym s.source_is)
-      (goes_nowhere k old from texts history has))
+  has_gone k old new from to false h = λ start texts history has.
+      let s = h start texts history has in
+      subst (λ (a : ServerAudit). Advances remaining start texts history k old a from to) (sym s.audit_is)
+      (subst (λ (t : Source I). Advances remaining start texts history k old old from t) (sym s.source_is)
+      (goes_nowhere k old from start texts history has))
 
   -- it has gone on in one of the traces
   pub one_goes : (start : Start) (k : ℕ) (old new : ServerAudit) (from to : Source I)
@@ -251,12 +261,11 @@ module _ {I : Type 0} (remaining : I → Option (List ℕ)) where
       → IsUnderWay remaining start old sources
       → IsUnderWay remaining start new (slice_set sources k to)
   one_goes start k old new from to sources e goes w =
-      let a = goes w.texts (start.before ++ w.more) w.audited in
+      let a = goes start w.texts w.more w.audited in
       record {
         texts = fed w.texts k a.read;
         more = w.more ++ a.more;
-        audited = subst (λ (h : List Passed). AreAudited (fed w.texts k a.read) h new.audit)
-            (append_assoc start.before w.more a.more) a.audited;
+        audited = a.audited;
         read = read_at remaining start.origins w.texts sources k from to a.read e a.consumed a.ended w.read;
         told = λ j s there. told_at k j old new from to s sources e a.told a.others w.told there
             (cases_eq j k);
@@ -272,9 +281,8 @@ module _ {I : Type 0} (remaining : I → Option (List ℕ)) where
     to = h.to;
     goes = goes_on k old mid h.before from via h.to goes h.goes;
     trace_is = h.trace_is;
-    known = h.known;
     counts_are = h.counts_are;
-    refused = h.refused;
+    refuses = h.refuses;
   }
   ends_later k old mid new from via (ending.Read trace) goes h = h
   ends_later k old mid new from via ending.Memory goes h = tt
@@ -286,24 +294,35 @@ module _ {I : Type 0} (remaining : I → Option (List ℕ)) where
   ends_unread k old new from ending.Memory h = tt
 
   -- its next item was refused
-  pub ends_refused : (k : ℕ) (old new : ServerAudit) (from : Source I) (why : TraceRefusal) (e : Ending)
-      → new.counts ≡ old.counts
-      → ((texts : List (List ℕ)) (history : List Passed) → AreAudited texts history old.audit
-      → IsRefused making broker_stands history k old.audit new.audit why)
-      → RefusesAt k why e → EndsIn remaining k old new from e
-  ends_refused k old new from why (ending.Refused r) counts refused h = record {
+  pub ends_refused : (k : ℕ) (old new : ServerAudit) (from : Source I) (items : ℕ)
+      (why : TraceRefusal) (e : Ending) → new.counts ≡ old.counts
+      → MatchOption (slice_get new.audit.traces k) (items ≡ 0) (λ r. items ≡ r.items)
+      → ((of : List TraceOf) (starts : List NodeState) (texts : List (List ℕ))
+      (history : List Passed) → HasAudited making broker_stands of starts texts history old.audit
+      → IsRefused making broker_stands of starts history k old.audit new.audit why)
+      → RefusesAt k items why e → EndsIn remaining k old new from e
+  ends_refused k old new from items why (ending.Refused r) counts counted refused h = record {
     before = old;
     to = from;
     goes = goes_nowhere k old from;
     trace_is = h.0;
-    known = subst (λ (w : TraceRefusal). w ≢ refusal.Memory) (sym h.1) h.2;
     counts_are = counts;
-    refused = λ texts history has. subst
-        (λ (w : TraceRefusal). IsRefused making broker_stands history k old.audit new.audit w)
-        (sym h.1) (refused texts history has);
+    refuses = λ start texts history has.
+        let of = traces_of start.origins in
+        let is = refused of start.starts texts history has in
+        let there = ap (λ (rs : List Reading). slice_get rs k) is.traces_are ∙ is.there in
+        let items_are = items_of (slice_get new.audit.traces k) items is.reading there counted in
+        subst (λ (w : TraceRefusal). RefusesItem start history old.audit new.audit
+        (record { trace = r.trace; item = r.item; why = w })) (sym h.2)
+        (subst (λ (n : ℕ). RefusesItem start history old.audit new.audit
+        (record { trace = n; item = r.item; why = why })) (sym h.0) (record {
+          known = h.3;
+          refused = is;
+          item_is = h.1 ∙ ap (λ (n : ℕ). in_64_bits (n + 1)) items_are;
+        }));
   }
-  ends_refused k old new from why (ending.Read trace) counts refused h = absurd h
-  ends_refused k old new from why ending.Memory counts refused h = tt
+  ends_refused k old new from items why (ending.Read trace) counts counted refused h = absurd h
+  ends_refused k old new from items why ending.Memory counts counted refused h = tt
 
   -- going on in one of the traces ended the audit
   pub one_ends : (start : Start) (k : ℕ) (old new : ServerAudit) (from : Source I)
@@ -314,15 +333,12 @@ module _ {I : Type 0} (remaining : I → Option (List ℕ)) where
       let u = one_goes start k old h.before from h.to sources is h.goes w in
       ItemRefused (record {
         texts = u.texts;
-        more = u.more;
+        history = u.more;
         before = h.before.audit;
         parts = are_parts remaining start.origins u.texts (slice_set sources k h.to) u.read;
         audited = u.audited;
         counted = subst (AreCounts u.more) (sym h.counts_are) u.counted;
-        known = h.known;
-        refused = subst (λ (n : ℕ). IsRefused making broker_stands (start.before ++ u.more) n
-            h.before.audit new.audit r.why) (sym h.trace_is)
-            (h.refused u.texts (start.before ++ u.more) u.audited);
+        refuses = h.refuses start u.texts u.more u.audited;
       })
   one_ends start k old new from sources (ending.Read trace) is within h w =
       let count = count_read remaining start.origins w.texts sources w.read in
@@ -342,36 +358,42 @@ module _ {I : Type 0} (remaining : I → Option (List ℕ)) where
   -- all was read, and the audit says yes
   pub says_yes : (start : Start) (a : ServerAudit)
       (shown sources : List (Source I)) → shown ≡ sources → All (λ s. s.is_ended ≡ true) shown
-      → ((texts : List (List ℕ)) (history : List Passed) → AreAudited texts history a.audit
-      → IsYes making broker_stands texts history a.audit)
+      → ((of : List TraceOf) (starts : List NodeState) (texts : List (List ℕ))
+      (history : List Passed) → HasAudited making broker_stands of starts texts history a.audit
+      → IsYes making broker_stands of starts texts history a.audit)
       → IsUnderWay remaining start a sources → SaysYes start a
   says_yes start a shown sources e ended says w = record {
     texts = w.texts;
-    more = w.more;
+    history = w.more;
     whole = all_are_read remaining start.origins w.texts sources
         (subst (All (λ (s : Source I). s.is_ended ≡ true)) e ended) w.read;
-    audited = w.audited;
     counted = w.counted;
-    says = says w.texts (start.before ++ w.more) w.audited;
+    says = says (traces_of start.origins) start.starts w.texts w.more w.audited;
   }
 
-  left_at : (start : Start) (a : ServerAudit) (sources : List (Source I)) (k : ℕ)
-      (e : Ending) → AreStuck a sources → IsFirstLeft a.audit.traces k
-      → RefusesAt k refusal.Unsent e → IsUnderWay remaining start a sources → EndsBy start a e
-  left_at start a sources k (ending.Refused r) stuck first h w =
+  -- each trace is stuck, and an item is left
+  left_at : (start : Start) (a : ServerAudit) (sources : List (Source I)) (k items : ℕ)
+      (e : Ending) → AreStuck a sources → (first : IsFirstLeft a.audit.traces k)
+      → items ≡ first.reading.items → RefusesAt k items refusal.Unsent e
+      → IsUnderWay remaining start a sources → EndsBy start a e
+  left_at start a sources k items (ending.Refused r) stuck first items_are h w =
       let count = count_read remaining start.origins w.texts sources w.read in
+      let left = subst (λ (n : ℕ). (f : IsFirstLeft a.audit.traces n)
+      × (r.item ≡ in_64_bits (f.reading.items + 1))) (sym h.0)
+      (first, h.1 ∙ ap (λ (n : ℕ). in_64_bits (n + 1)) items_are) in
       ItemLeft (record {
         texts = w.texts;
-        more = w.more;
+        history = w.more;
         parts = are_parts remaining start.origins w.texts sources w.read;
         audited = w.audited;
         counted = w.counted;
-        why_is = h.1;
-        first = subst (IsFirstLeft a.audit.traces) (sym h.0) first;
+        why_is = h.2;
+        first = left.0;
+        item_is = left.1;
         stuck = λ j below.
             let at = element sources j (omega (arith, count.0, count.1, w.audited.count)) in
             let reading = element a.audit.traces j below in
-            no_further (start.before ++ w.more) j a.audit (at.0.is_ended ≡ true)
+            no_further start w.more j a.audit (at.0.is_ended ≡ true)
             (IsWhole start.origins w.texts j a.audit)
             (λ ended. record {
               all = all_at remaining start.origins w.texts sources j at.0 at.1 ended w.read;
@@ -379,24 +401,23 @@ module _ {I : Type 0} (remaining : I → Option (List ℕ)) where
               there = reading.1;
               is_end = w.told j at.0 at.1 reading.0 reading.1 ended;
             })
-            (stuck j at.0 at.1 w.texts (start.before ++ w.more) w.audited);
+            (stuck j at.0 at.1 start w.texts w.more w.audited);
       })
-  left_at start a sources k (ending.Read trace) stuck first h w = absurd h
-  left_at start a sources k ending.Memory stuck first h w = tt
+  left_at start a sources k items (ending.Read trace) stuck first items_are h w = absurd h
+  left_at start a sources k items ending.Memory stuck first items_are h w = tt
 
-  -- each trace is stuck, and an item is left
-  pub says_left : (start : Start) (a : ServerAudit) (sources : List (Source I)) (k : ℕ)
+  pub says_left : (start : Start) (a : ServerAudit) (sources : List (Source I)) (k items : ℕ)
       (e : Ending) → AreStuck a sources
-      → ((texts : List (List ℕ)) (history : List Passed) → AreAudited texts history a.audit
+      → MatchOption (slice_get a.audit.traces k) (items ≡ 0) (λ r. items ≡ r.items)
+      → ((of : List TraceOf) (starts : List NodeState) (texts : List (List ℕ))
+      (history : List Passed) → HasAudited making broker_stands of starts texts history a.audit
       → IsFirstLeft a.audit.traces k)
-      → (k < length sources → RefusesAt k refusal.Unsent e)
+      → RefusesAt k items refusal.Unsent e
       → IsUnderWay remaining start a sources → EndsBy start a e
-  says_left start a sources k e stuck left refuses w =
-      let first = left w.texts (start.before ++ w.more) w.audited in
-      let count = count_read remaining start.origins w.texts sources w.read in
-      let within = slice_get_within a.audit.traces k first.reading first.there in
-      left_at start a sources k e stuck first
-      (refuses (omega (arith, count.0, count.1, w.audited.count, within))) w
+  says_left start a sources k items e stuck counted left refuses w =
+      let first = left (traces_of start.origins) start.starts w.texts w.more w.audited in
+      left_at start a sources k items e stuck first
+      (items_of (slice_get a.audit.traces k) items first.reading first.there counted) refuses w
 
 ------ traces that are stuck
 
@@ -406,15 +427,15 @@ AreStuckBelow {I} n a sources =
     (k : ℕ) → k < n → (s : Source I) → slice_get sources k ≡ Some s → IsStuck k a s
 
 -- this one is stuck too
-pub stuck_next : {I : Type 0} (texts : List (List ℕ)) (history : List Passed) (n : ℕ)
-    (old new : ServerAudit) (from to : Source I) (sources : List (Source I))
-    → from ≡ get_or sources n from → AreAudited texts history old.audit
-    → ((ts : List (List ℕ)) (h : List Passed) → AreAudited ts h old.audit
-    → Stays h n old new from to)
+pub stuck_next : {I : Type 0} (start : Start) (texts : List (List ℕ)) (history : List Passed)
+    (n : ℕ) (old new : ServerAudit) (from to : Source I) (sources : List (Source I))
+    → from ≡ get_or sources n from → AreAudited start texts history old.audit
+    → ((s : Start) (ts : List (List ℕ)) (h : List Passed) → AreAudited s ts h old.audit
+    → Stays s h n old new from to)
     → AreStuckBelow n old sources → AreStuckBelow (n + 1) new (slice_set sources n to)
-stuck_next {I} texts history n old new from to sources is has stays below =
-    let now = stays texts history has in
-    let stuck : IsStuck n old from = λ ts h at. (stays ts h at).stuck in
+stuck_next {I} start texts history n old new from to sources is has stays below =
+    let now = stays start texts history has in
+    let stuck : IsStuck n old from = λ s ts h at. (stays s ts h at).stuck in
     let here : (s : Source I) → slice_get sources n ≡ Some s → IsStuck n old s = λ s there.
     subst (λ (t : Source I). IsStuck n old t) (is ∙ get_or_from_slice_get sources n s from there) stuck in
     let all = below_more (λ (k : ℕ). (s : Source I) → slice_get sources k ≡ Some s → IsStuck k old s)
@@ -449,7 +470,7 @@ next_trace remaining start n old new from to sources true false is gone w = (
 next_trace remaining start n old new from to sources false false is gone w = (
   one_goes remaining start n old new from to sources is
       (has_gone remaining n old new from to false gone) w.0,
-  λ none. stuck_next w.0.texts (start.before ++ w.0.more) n old new from to sources is w.0.audited gone
+  λ none. stuck_next start w.0.texts w.0.more n old new from to sources is w.0.audited gone
       (w.1 refl),
 )
 
@@ -458,8 +479,9 @@ pub ended : {I T : Type 0} (remaining : I → Option (List ℕ)) (start : Start)
     (a : ServerAudit) (shown sources : List (Source I)) (r : Result T Ending) → shown ≡ sources
     → MatchResult r (λ done. All (λ s. s.is_ended ≡ true) shown)
     (λ e. (k : ℕ) × (k < length shown) × CannotRead k e)
-    → ((texts : List (List ℕ)) (history : List Passed) → AreAudited texts history a.audit
-    → IsYes making broker_stands texts history a.audit)
+    → ((of : List TraceOf) (starts : List NodeState) (texts : List (List ℕ))
+    (history : List Passed) → HasAudited making broker_stands of starts texts history a.audit
+    → IsYes making broker_stands of starts texts history a.audit)
     → IsUnderWay remaining start a sources
     → MatchResult r (λ done. SaysYes start a) (EndsBy start a)
 ended remaining start a shown sources (Ok done) e all says w =

@@ -1,4 +1,5 @@
 pub mod Advancing
+pub mod Finding
 pub mod Comparing
 pub mod OnLogs
 pub mod Reading

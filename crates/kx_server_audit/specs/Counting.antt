@@ -1,6 +1,5 @@
 -- What an audit counts.
-use Rattle.std.specs.Prelude.{◌≡◌, ◌-◌, ◌^◌, ℕ, Bool, true, false, List, [], ◌∷◌, count_by, length}
-use Rattle.std.specs.Prelude.{min, sum_by}
+use Rattle.std.specs.Prelude.{◌≡◌, ℕ, Bool, true, false, List, [], ◌∷◌, count_by, length, sum_by}
 use Rattle.kx_audit.specs.Joined.{Passed}
 use Rattle.kx_log.specs.Store.{StoreState}
 use Rattle.kx_machines.specs.declared.broker.BrokerMachine.{BrokerMachine}
@@ -8,10 +7,7 @@ use Rattle.kx_machines.specs.declared.broker.BrokerMachine.TheVariants as broker
 use Rattle.kx_model.specs.Coordinator.{TxnEntry, CoordinatorEpoch, Allot, Written, State, Empty}
 use Rattle.kx_model.specs.Coordinator.{Ongoing, Prepare, Complete}
 use Rattle.kx_server_audit.specs.declared.counts.Counts.{Counts}
-
--- as far as 64 bits can say it
-abbrev pub in_64_bits : ℕ → ℕ
-in_64_bits n = min n (2 ^ 64 - 1)
+use Rattle.kx_trace_audit.specs.Readings.{in_64_bits}
 
 abbrev pub sent_in : List Passed → ℕ
 sent_in history = sum_by (λ p. length p.taken.messages) history

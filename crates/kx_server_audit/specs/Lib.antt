@@ -1,9 +1,11 @@
+pub mod Contents
 pub mod Counting
 pub mod Denials
 pub mod Driving
 pub mod Faults
 pub mod Files
 pub mod Finding
+pub mod Internal
 pub mod Lines
 pub mod Logs
 pub mod Reads

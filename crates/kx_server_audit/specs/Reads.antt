@@ -1,10 +1,9 @@
 -- What was read of the sources of traces.
 use Rattle.std.specs.Prelude.{◌≡◌, ◌++◌, ℕ, List, [], ◌∷◌, true, IfSome, Option, Some, map, slice_get}
 use Rattle.std.specs.Io.KnownBytes.{Consumes, IsAtEnd}
-use Rattle.kx_audit.specs.Joined.{Passed}
+use Rattle.kx_machine.specs.Meaning.{NodeState}
 use Rattle.kx_server_audit.specs.declared.sources.Source.{Source}
 use Rattle.kx_trace.specs.declared.node.TracedNode.{TracedNode}
-use Rattle.kx_trace_audit.specs.Beginnings.{CameBefore}
 use Rattle.kx_trace_audit.specs.declared.servers.TraceOf.{TraceOf}
 use Rattle.kx_trace_files.specs.Beginning.{begun_text}
 
@@ -86,15 +85,7 @@ pub record IsOfNode (origins : List Origin) (k : ℕ) (node : TracedNode) : Type
   pub there : slice_get origins k ≡ Some origin
   pub node_is : origin.trace.node ≡ node
 
------- what came before
-
--- traces, and the steps that came before those that they tell
+-- traces, and the nodes at which they begin
 pub record Start : Type 0 where
   pub origins : List Origin
-  pub before : List Passed
-
--- this holds of the traces, whatever steps came before those that they tell: none came, if all of
--- their nodes were made with empty logs
-abbrev pub WhateverCame : List Origin → (Start → Type 0) → Type 0
-WhateverCame origins P = (before : List Passed) → CameBefore before (traces_of origins)
-    → P (record { origins = origins; before = before })
+  pub starts : List NodeState

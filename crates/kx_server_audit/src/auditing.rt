@@ -2,17 +2,18 @@
 ghost use Rattle.std.specs.Prelude.{◌≡◌, ◌<◌, ◌++◌, ℕ, [], All, IfOk, IsFalse, List};
 ghost use Rattle.std.specs.Prelude.{MatchResult, OnOk, length, true};
 ghost use Rattle.kx_audit.specs.Joined.{Passed};
+ghost use Rattle.kx_machine.specs.Meaning.{NodeState};
+ghost use Rattle.kx_machines.specs.Brokers.{broker_stands};
 ghost use Rattle.kx_server_audit.specs.Counting.{AreCounts, decided_in};
 ghost use Rattle.kx_server_audit.specs.Driving.{AreAudited, AreStuck, CannotRead, EndsBy, EndsIn};
 ghost use Rattle.kx_server_audit.specs.Driving.{GoesOn, HasGoneOn, IsFed, IsUnderWay, RefusesAt};
-ghost use Rattle.kx_server_audit.specs.Driving.{SaysYes};
+ghost use Rattle.kx_server_audit.specs.Driving.{SaysYes, making};
 ghost use Rattle.kx_server_audit.specs.Finding.{AreBegun};
-ghost use Rattle.kx_server_audit.specs.Reads.{Start, WhateverCame, origins_of};
+ghost use Rattle.kx_server_audit.specs.Reads.{Start, origins_of};
 ghost use Rattle.kx_server_audit.specs.Telling.{machines_in};
 ghost use Rattle.kx_server_audit.specs.declared.auditing.Ending.TheVariants.{Memory};
-ghost use Rattle.kx_trace_audit.specs.Auditing.{fed};
-ghost use Rattle.kx_trace_audit.specs.Beginnings.{CameBefore, heads_of};
-ghost use Rattle.kx_trace_audit.specs.declared.refusal.TraceRefusal.TheVariants.{Unsent};
+ghost use Rattle.kx_trace_audit.specs.Auditing.{HasAudited, fed};
+ghost use Rattle.kx_trace_audit.specs.Beginnings.{heads_of};
 
 use crate::counts::{Counts, transactions};
 use crate::server_node::ServerNode;
@@ -64,31 +65,17 @@ pub(crate) struct ServerAudit {
     tells_progress: bool,
 }
 
-/// How an audit ends that refuses at a trace.
-pub(crate) fn refused_at<I: Read + Drop>(
-    trace: usize,
-    source: &Source<I>,
-    why: TraceRefusal,
-) -> Ending
-    ensures { RefusesAt trace why result }
+/// How an audit ends that refuses at a trace, of which this many items were gone through.
+pub(crate) fn refused_at(trace: usize, items: u64, why: TraceRefusal) -> Ending
+    ensures { RefusesAt trace items why result }
 {
     match why {
         TraceRefusal::Memory => Ending::Memory,
         why => Ending::Refused(Refused {
             trace,
-            item: source.items.saturating_add(1),
+            item: items.saturating_add(1),
             why,
         }),
-    }
-}
-
-// How an audit ends that has an item of this trace left, whose step takes what no step sent.
-fn unsent<I: Read + Drop>(trace: usize, sources: &[Source<I>]) -> Ending
-    ensures { trace < length sources.now → RefusesAt trace Unsent result }
-{
-    match sources.get(trace) {
-        Some(source) => refused_at(trace, source, TraceRefusal::Unsent),
-        None => Ending::Read(trace),
     }
 }
 
@@ -105,9 +92,9 @@ fn all_ended<I: Read + Drop>(sources: &[Source<I>]) -> Result<(), Ending>
 
 // Feeds the next bytes of a trace to the audit; no bytes where it has no more.
 fn feed(audit: &mut TraceAudit<ServerNode>, trace: usize, bytes: &[u8]) -> Result<(), AllocError>
-    ensures audited { (texts : List (List ℕ)) (history : List Passed)
-        → AreAudited texts history audit.old
-        → OnOk result (AreAudited (fed texts trace bytes.now) history audit.new) }
+    ensures audited { (start : Start) (texts : List (List ℕ)) (history : List Passed)
+        → AreAudited start texts history audit.old
+        → OnOk result (AreAudited start (fed texts trace bytes.now) history audit.new) }
     ensures fed { OnOk result (IsFed trace bytes.now audit.old audit.new) }
 {
     audit.feed(trace, bytes)
@@ -124,9 +111,8 @@ impl ServerAudit {
         traces: &[TraceOf],
         tells_progress: bool,
     ) -> Result<ServerAudit, TraceRefusal>
-        ensures audited { IfOk result (λ a. (before : List Passed)
-            → CameBefore before traces.now
-            → AreAudited (heads_of traces.now) before a.audit) }
+        ensures audited { IfOk result (λ a. (starts : List NodeState)
+            × HasAudited making broker_stands traces.now starts (heads_of traces.now) [] a.audit) }
         ensures counted { IfOk result (λ a. AreCounts [] a.counts) }
     {
         Ok(ServerAudit {
@@ -228,7 +214,7 @@ impl ServerAudit {
                 self.read_on(trace, source)?;
                 Ok(true)
             }
-            Err(why) => Err(refused_at(trace, source, why)),
+            Err(why) => Err(refused_at(trace, self.audit.items(trace), why)),
         }
     }
 
@@ -318,17 +304,18 @@ impl ServerAudit {
     {
         self.go_all(rt, sources)?;
         match self.audit.left_over() {
-            Some(trace) => Err(unsent(trace, sources.as_slice())),
+            Some(trace) => Err(refused_at(trace, self.audit.items(trace), TraceRefusal::Unsent)),
             None => all_ended(sources.as_slice()),
         }
     }
 }
 
 /// Audits traces, of which nothing was read after the heads, as far as their sources give them; the
-/// source of each trace is at its number. Answers the audit, and how it ended: Ok is a yes. Then what
-/// the heads and all bytes of the sources tell, after whatever steps came before it, is an open
-/// schedule, which keeps the promises that need no trust in clients. A refusal has its reason: the
-/// item of its trace, or that items are left and no trace goes on any more.
+/// source of each trace is at its number. Answers the audit, and how it ended: Ok is a yes. Then the
+/// heads and all bytes of the sources tell one history, from the nodes at which the traces begin;
+/// after whatever steps may have come before, it is an open schedule, which keeps the promises that
+/// need no trust in clients. A refusal has its reason: the item of its trace, or that items are left
+/// and no trace goes on any more.
 ///
 /// # Errors
 ///
@@ -342,7 +329,8 @@ pub(crate) fn audit_traces<R: Eprint, I: Read + Drop>(
 ) -> Result<(ServerAudit, Result<(), Ending>), TraceRefusal>
     requires { AreBegun traces.now sources.old.items }
     ensures { let origins = origins_of I.remaining traces.now sources.old.items in
-        IfOk result (λ x. WhateverCame origins (λ start.
+        IfOk result (λ x. (starts : List NodeState)
+        × (let start : Start = record { origins = origins; starts = starts } in
         MatchResult x.1 (λ done. SaysYes start x.0) (EndsBy start x.0))) }
 {
     let mut audit = ServerAudit::new(alloc, traces, tells_progress)?;

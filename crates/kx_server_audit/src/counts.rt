@@ -1,6 +1,7 @@
 //! What an audit counts.
 ghost use Rattle.std.specs.Prelude.{◌≡◌, ◌+◌, count_by, map};
-ghost use Rattle.kx_server_audit.specs.Counting.{decided_by, decides, in_64_bits};
+ghost use Rattle.kx_server_audit.specs.Counting.{decided_by, decides};
+ghost use Rattle.kx_trace_audit.specs.Readings.{in_64_bits};
 ghost use Rattle.kx_txnlog.specs.Entry.{note_of};
 
 use kx_machines::{BrokerMachine, LocalStore};

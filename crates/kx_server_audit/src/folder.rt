@@ -1,46 +1,69 @@
-//! The logs that a server left in a folder.
-ghost use Rattle.std.specs.Prelude.{◌≡◌, ◌∷◌, [], All, IfErr, OnOk, drop, length, true};
+//! The logs that a server left.
+ghost use Rattle.std.specs.Prelude.{◌≡◌, ◌≢◌, ◌∷◌, ◌<◌, [], All, IfErr, IfOk, IfSome, MatchOption, OnOk};
+ghost use Rattle.std.specs.Prelude.{Some, drop, map, slice_get};
 ghost use Rattle.kx_machine.specs.Meaning.{NodeState};
 ghost use Rattle.kx_machines.specs.Brokers.{broker_stands};
-ghost use Rattle.kx_server_audit.specs.Denials.{IfNo, IsBadLog, IsLogDenied, IsNoAtOnce, IsOther};
-ghost use Rattle.kx_server_audit.specs.Denials.{IsOtherLogOf};
+ghost use Rattle.kx_server_audit.specs.Contents.{CanBeLog};
+ghost use Rattle.kx_server_audit.specs.Denials.{IfNo, IsLogDenied, IsOther, IsOtherLogOf};
+ghost use Rattle.kx_server_audit.specs.Finding.{AreSeen, HasTrace};
+ghost use Rattle.kx_server_audit.specs.Internal.{AreBad, HasBadLog, Notes, head_in};
 ghost use Rattle.kx_server_audit.specs.Logs.{LogIs};
-ghost use Rattle.kx_server_audit.specs.Telling.{HasLog};
+ghost use Rattle.kx_server_audit.specs.Telling.{HasLog, HaveLogs};
 ghost use Rattle.kx_server_audit.specs.declared.denial.Denial.TheVariants.{OtherLog};
+ghost use Rattle.kx_server_audit.specs.declared.file.AuditFile.TheVariants as file;
+ghost use Rattle.kx_trace_audit.specs.declared.servers.TraceOf.{TraceOf};
 
 use crate::denial::{Denial, Stop};
 use crate::fault::AuditFault;
 use crate::file::AuditFile;
+use crate::left::{ServerFiles, read_fault};
 use crate::logs::{log_is, whole_len};
-use crate::traces::read_fault;
 use kx_machines::{BrokerMachine, LocalStore};
 use kx_trace::TracedNode;
 use kx_trace_audit::TraceOf;
 use std::alloc::Global;
-use std::fs;
-use std::fs::Files;
-use std::io::ErrorKind;
+use std::io::Read;
+
+// All that a file has left.
+fn bytes_of<I: Read + Drop>(
+    alloc: Global,
+    mut reader: I,
+    file: AuditFile,
+) -> Result<Vec<u8>, AuditFault>
+    ensures { IfOk result (λ bytes. IfSome (I.remaining reader) (λ all. bytes.items ≡ all)) }
+{
+    let mut bytes = Vec::new(alloc);
+    match reader.read_to_end(&mut bytes) {
+        Ok(_) => Ok(bytes),
+        Err(error) => Err(read_fault(file, error.kind())),
+    }
+}
 
 // The bytes of a node's log; none if there is no file.
-fn log_bytes<R: Files + AllocGlobal>(
-    rt: &R,
-    folder: &str,
-    node: TracedNode,
-) -> Result<Vec<u8>, AuditFault> {
-    let file = AuditFile::Log(node);
-    let path = file.path_in(rt.alloc(), folder)?;
-    match fs::read(rt, path.as_str()) {
-        Ok(bytes) => Ok(bytes),
-        Err(error) => match error.kind() {
-            ErrorKind::NotFound => Ok(Vec::new(rt.alloc())),
-            kind => Err(read_fault(file, kind)),
-        },
+fn log_bytes<F: ServerFiles>(
+    files: &F,
+    alloc: Global,
+    node: &TracedNode,
+) -> Result<Vec<u8>, AuditFault>
+    ensures { IfOk result (λ bytes. CanBeLog (F.left files.now (file.Log node.now)) bytes.items) }
+{
+    match files.open(alloc, AuditFile::Log(*node))? {
+        Some(opened) => bytes_of(alloc, opened, AuditFile::Log(*node)),
+        None => Ok(Vec::new(alloc)),
     }
 }
 
 // The number of the trace of a node.
-fn trace_of(of: &[TraceOf], node: &TracedNode) -> Option<usize> {
-    of.iter().position(|one| one.node == *node)
+fn trace_of(of: &[TraceOf], node: &TracedNode) -> Option<usize>
+    ensures { MatchOption result (HasTrace of.now node.now → ⊥)
+        (λ k. (t : TraceOf) × (slice_get of.now k ≡ Some t) × (t.node ≡ node.now)) }
+{
+    for number in 0..of.len() {
+        if of[number].node == *node {
+            return Some(number);
+        }
+    }
+    None
 }
 
 // Notes how long the log of a node is whose bytes these are. A log with no trace beside it is empty.
@@ -50,11 +73,9 @@ fn note_log(
     node: &TracedNode,
     bytes: Vec<u8>,
 ) -> Result<(), Stop>
-    ensures count { length of.new.items ≡ length of.old.items }
+    ensures noted { OnOk result (Notes node.now bytes.items of.old.items of.new.items) }
     ensures no { IfErr result (λ stop. IfNo stop (λ d.
-        (d ≡ OtherLog node.now) × IsBadLog node.now bytes.items)) }
-    // Such a no is one before the audit.
-    ensures at_once { IfErr result (λ stop. IfNo stop (IsNoAtOnce true)) }
+        (d ≡ OtherLog node.now) × AreBad of.old.items node.now bytes.items)) }
 {
     let Some(trace) = trace_of(of.as_slice(), node) else {
         if bytes.is_empty() {
@@ -64,9 +85,7 @@ fn note_log(
     };
     match whole_len(alloc, *node, bytes)? {
         Some(len) => {
-            if trace < of.len() {
-                of[trace].log_len = Some(len);
-            }
+            of[trace].log_len = Some(len);
             Ok(())
         }
         None => Err(Stop::No(Denial::OtherLog(*node))),
@@ -74,18 +93,20 @@ fn note_log(
 }
 
 /// Notes how long the logs of these nodes are.
-pub(crate) fn note_logs<R: Files + AllocGlobal>(
-    rt: &R,
+pub(crate) fn note_logs<F: ServerFiles>(
+    files: &F,
+    alloc: Global,
     nodes: &[TracedNode],
-    folder: &str,
     of: &mut Vec<TraceOf>,
 ) -> Result<(), Stop>
-    ensures count { length of.new.items ≡ length of.old.items }
-    ensures no { IfErr result (λ stop. IfNo stop (IsNoAtOnce true)) }
+    ensures heads { OnOk result (map head_in of.new.items ≡ map head_in of.old.items) }
+    ensures seen { OnOk result (AreSeen (F.left files.now) of.new.items nodes.now) }
+    ensures no { IfErr result (λ stop. IfNo stop
+        (HasBadLog (F.left files.now) nodes.now of.old.items)) }
 {
     for node in nodes {
-        let bytes = log_bytes(rt, folder, *node)?;
-        note_log(rt.alloc(), of, node, bytes)?;
+        let bytes = log_bytes(files, alloc, node)?;
+        note_log(alloc, of, node, bytes)?;
     }
     Ok(())
 }
@@ -110,48 +131,51 @@ fn compare_bytes(
 }
 
 // Compares a node's log with that of the machine to which its trace led.
-fn compare_log<R: Files + AllocGlobal>(
-    rt: &R,
+fn compare_log<F: ServerFiles>(
+    files: &F,
+    alloc: Global,
     machine: &mut BrokerMachine<LocalStore>,
     node: &TracedNode,
-    folder: &str,
 ) -> Result<(), Stop>
-    ensures ok { OnOk result (HasLog machine.old) }
-    ensures no { IfErr result (λ stop. IfNo stop (IsOtherLogOf machine.old node.now)) }
+    ensures ok { OnOk result (HasLog (F.left files.now) node.now machine.old) }
+    ensures no { IfErr result (λ stop. IfNo stop
+        (IsOtherLogOf (F.left files.now) machine.old node.now)) }
 {
-    let bytes = log_bytes(rt, folder, *node)?;
-    compare_bytes(rt.alloc(), machine, *node, bytes)
+    let bytes = log_bytes(files, alloc, node)?;
+    compare_bytes(alloc, machine, *node, bytes)
 }
 
 // Compares the log of a machine's node, whose trace is the first of these.
-fn compare_first<R: Files + AllocGlobal>(
-    rt: &R,
+fn compare_first<F: ServerFiles>(
+    files: &F,
+    alloc: Global,
     machine: &mut BrokerMachine<LocalStore>,
     of: &[TraceOf],
-    folder: &str,
 ) -> Result<(), Stop>
-    ensures ok { OnOk result (HasLog machine.old) }
-    ensures no { IfErr result (λ stop. IfNo stop (IsLogDenied (machine.old ∷ []) of.now)) }
+    ensures ok { OnOk result (HaveLogs (F.left files.now) of.now (machine.old ∷ [])) }
+    ensures no { IfErr result (λ stop. IfNo stop
+        (IsLogDenied (F.left files.now) (machine.old ∷ []) of.now)) }
 {
     match of.first() {
-        Some(one) => compare_log(rt, machine, &one.node, folder),
+        Some(one) => compare_log(files, alloc, machine, &one.node),
         None => Err(Stop::Fault(AuditFault::NoTraces)),
     }
 }
 
 // Compares the log of the first machine. Machines are dropped by a call, since each place where one
 // is dropped is proved anew.
-fn compare_next<R: Files + AllocGlobal>(
-    rt: &R,
+fn compare_next<F: ServerFiles>(
+    files: &F,
+    alloc: Global,
     machine: BrokerMachine<LocalStore>,
     of: &[TraceOf],
-    folder: &str,
 ) -> Result<(), Stop>
-    ensures ok { OnOk result (HasLog machine) }
-    ensures no { IfErr result (λ stop. IfNo stop (IsLogDenied (machine ∷ []) of.now)) }
+    ensures ok { OnOk result (HaveLogs (F.left files.now) of.now (machine ∷ [])) }
+    ensures no { IfErr result (λ stop. IfNo stop
+        (IsLogDenied (F.left files.now) (machine ∷ []) of.now)) }
 {
     let mut machine = machine;
-    let compared = compare_first(rt, &mut machine, of, folder);
+    let compared = compare_first(files, alloc, &mut machine, of);
     drop(machine);
     compared
 }
@@ -164,18 +188,19 @@ fn after_first(of: &[TraceOf]) -> &[TraceOf]
 }
 
 /// Compares the logs of all nodes with those of the machines to which their traces led.
-pub(crate) fn compare_logs<R: Files + AllocGlobal>(
-    rt: &R,
+pub(crate) fn compare_logs<F: ServerFiles>(
+    files: &F,
+    alloc: Global,
     machines: Vec<BrokerMachine<LocalStore>>,
     of: &[TraceOf],
-    folder: &str,
 ) -> Result<(), Stop>
-    ensures ok { OnOk result (All HasLog machines.items) }
-    ensures no { IfErr result (λ stop. IfNo stop (IsLogDenied machines.items of.now)) }
+    ensures ok { OnOk result (HaveLogs (F.left files.now) of.now machines.items) }
+    ensures no { IfErr result (λ stop. IfNo stop
+        (IsLogDenied (F.left files.now) machines.items of.now)) }
 {
     let mut left = of;
     for machine in machines {
-        compare_next(rt, machine, left, folder)?;
+        compare_next(files, alloc, machine, left)?;
         left = after_first(left);
     }
     Ok(())

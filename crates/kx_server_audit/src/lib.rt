@@ -3,10 +3,10 @@
 //! compared with those to which its traces lead.
 //!
 //! `batches` and `entries` read and compare logs of one kind, `lengths` and `logs` those of machines;
-//! `sources` are traces that are read in pieces, which `auditing` audits; `traces` and `folder` have
-//! what a server left in its folders, `opened` the nodes whose traces begin with a log; `server`
-//! audits it all, and `report` prints what was found. `steps` has the steps that the traces tell of,
-//! for a page.
+//! `sources` are traces that are read in pieces, which `auditing` audits; `left` is what a server left
+//! by its files, of which `traces` finds the traces and `folder` the logs; `opened` has the nodes whose
+//! traces begin with a log; `server` audits it all, and `report` prints what was found. `steps` has the
+//! steps that the traces tell of, for a page.
 //!
 //! In `proofs/`: `Texts` (texts of batches and of entries, by which logs are compared), `Restarting`
 //! (a log before and after a restart), `OnLogs` (nodes that were opened on logs), `Reading` (sources are
@@ -22,6 +22,7 @@ mod fault;
 mod file;
 mod findings;
 mod folder;
+mod left;
 mod lengths;
 mod logs;
 mod opened;
@@ -34,5 +35,6 @@ mod traces;
 
 pub use fault::AuditFault;
 pub use file::AuditFile;
+pub use left::{ServerFiles, ServerFolders};
 pub use server::{AuditOptions, audit_server};
 pub use steps::{end_steps, server_steps};

@@ -1,10 +1,8 @@
 //! Nodes that are opened on the logs with which their traces begin.
-ghost use Rattle.std.specs.Prelude.{◌≡◌, ◌==◌, IfOk, false};
-ghost use Rattle.kx_machine.specs.Meaning.{NodeState};
-ghost use Rattle.kx_machines.specs.Brokers.{broker_stands};
+ghost use Rattle.std.specs.Prelude.{◌≡◌, ◌==◌, IfErr, IfOk, false};
 ghost use Rattle.kx_message.specs.Ranges.{offsets_partition};
+ghost use Rattle.kx_server_audit.specs.Internal.{IsOpenedSo, OpenRefused};
 ghost use Rattle.kx_trace.specs.declared.node.TracedNode.TheVariants as traced;
-ghost use Rattle.kx_trace_audit.specs.Beginnings.{IsOpenedOn};
 
 use kx_broker::{OffsetsMachine, PartitionMachine};
 use kx_coord_node::CoordinatorMachine;
@@ -25,7 +23,9 @@ fn store_of(alloc: Global, log: &[u8]) -> Result<LocalStore, AllocError>
 }
 
 // Why a trace is refused whose log can't be opened.
-fn refusal_of(fault: OpenFault) -> TraceRefusal {
+fn refusal_of(fault: OpenFault) -> TraceRefusal
+    ensures { OpenRefused result }
+{
     match fault {
         OpenFault::Memory => TraceRefusal::Memory,
         _ => TraceRefusal::Bytes,
@@ -37,9 +37,9 @@ fn coordinator_on(
     alloc: Global,
     opened: &OpenedOn,
 ) -> Result<BrokerMachine<LocalStore>, TraceRefusal>
-    ensures { IfOk result (λ machine. (state : NodeState)
-        → IsOpenedOn traced.Coordinator opened.now.time opened.now.log.items state
-        → broker_stands state machine) }
+    ensures ok { IfOk result
+        (IsOpenedSo traced.Coordinator opened.now.time opened.now.log.items) }
+    ensures err { IfErr result OpenRefused }
 {
     let store = store_of(alloc, opened.log.as_slice())?;
     match CoordinatorMachine::open(alloc, store, opened.time) {
@@ -60,9 +60,9 @@ fn partition_on(
     number: PartitionId,
     opened: &OpenedOn,
 ) -> Result<BrokerMachine<LocalStore>, TraceRefusal>
-    ensures { (number == offsets_partition) ≡ false → IfOk result (λ machine. (state : NodeState)
-        → IsOpenedOn (traced.Partition number) opened.now.time opened.now.log.items state
-        → broker_stands state machine) }
+    ensures ok { (number == offsets_partition) ≡ false → IfOk result
+        (IsOpenedSo (traced.Partition number) opened.now.time opened.now.log.items) }
+    ensures err { IfErr result OpenRefused }
 {
     let store = store_of(alloc, opened.log.as_slice())?;
     match PartitionMachine::new(alloc, number, store) {
@@ -76,9 +76,9 @@ fn partition_on(
 
 // The server of the offsets partition with this log.
 fn offsets_on(alloc: Global, opened: &OpenedOn) -> Result<BrokerMachine<LocalStore>, TraceRefusal>
-    ensures { IfOk result (λ machine. (state : NodeState)
-        → IsOpenedOn (traced.Partition offsets_partition) opened.now.time opened.now.log.items state
-        → broker_stands state machine) }
+    ensures ok { IfOk result (IsOpenedSo (traced.Partition offsets_partition) opened.now.time
+        opened.now.log.items) }
+    ensures err { IfErr result OpenRefused }
 {
     let store = store_of(alloc, opened.log.as_slice())?;
     match OffsetsMachine::new(alloc, store) {
@@ -100,9 +100,8 @@ pub(crate) fn node_on(
     node: TracedNode,
     opened: &OpenedOn,
 ) -> Result<BrokerMachine<LocalStore>, TraceRefusal>
-    ensures { IfOk result (λ machine. (state : NodeState)
-        → IsOpenedOn node opened.now.time opened.now.log.items state
-        → broker_stands state machine) }
+    ensures ok { IfOk result (IsOpenedSo node opened.now.time opened.now.log.items) }
+    ensures err { IfErr result OpenRefused }
 {
     match node {
         TracedNode::Coordinator => coordinator_on(alloc, opened),

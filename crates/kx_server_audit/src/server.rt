@@ -1,8 +1,9 @@
-//! The audit of a server that ran, by what it left in its folders.
-ghost use Rattle.std.specs.Prelude.{All, Bool, IfErr, IfOk, IsTrue, OnOk, is_some};
+//! The audit of a server that ran, by what it left.
+ghost use Rattle.std.specs.Prelude.{Bool, IfErr, IfOk, IsTrue, OnOk};
+ghost use Rattle.kx_server_audit.specs.Contents.{Left};
 ghost use Rattle.kx_server_audit.specs.Denials.{IfNo, IsItemOf, IsLogDenied, IsNoAtOnce, IsStopped};
-ghost use Rattle.kx_server_audit.specs.Finding.{AreBegun};
-ghost use Rattle.kx_server_audit.specs.Telling.{AreFindings, HasLog, Tells, machines_in};
+ghost use Rattle.kx_server_audit.specs.Finding.{IsFound};
+ghost use Rattle.kx_server_audit.specs.Telling.{AreFindings, HaveLogs, Tells, machines_in};
 
 use crate::auditing::{Ending, ServerAudit, audit_traces};
 use crate::denial::{Denial, Stop};
@@ -10,20 +11,18 @@ use crate::fault::AuditFault;
 use crate::file::AuditFile;
 use crate::findings::Findings;
 use crate::folder::{compare_logs, note_logs};
+use crate::left::ServerFiles;
 use crate::report::write_findings;
-use crate::traces::{Traces, server_nodes, traces_in};
+use crate::traces::{Traces, server_nodes, traces_of};
 use kx_trace_audit::TraceOf;
 use std::alloc::Global;
-use std::fs::{File, Files};
 use std::io::Write;
 
-/// What is audited.
+/// How a server is audited.
 #[derive(Clone, Copy, Debug)]
-pub struct AuditOptions<'a> {
-    /// The folder with the traces.
-    pub traces: &'a str,
-    /// The folder with the logs, if they are to be compared.
-    pub logs: Option<&'a str>,
+pub struct AuditOptions {
+    /// Whether the logs are compared with those to which the traces lead.
+    pub compares_logs: bool,
     /// Whether it is told on standard error how far a long audit is.
     pub tells_progress: bool,
 }
@@ -50,42 +49,44 @@ pub(crate) fn stop_at(of: &[TraceOf], ending: Ending) -> Stop
 }
 
 // Compares the logs, if they are to be compared.
-fn compare<R: Files + AllocGlobal>(
-    rt: &R,
-    options: &AuditOptions<'_>,
+fn compare<F: ServerFiles>(
+    files: &F,
+    alloc: Global,
+    compares_logs: bool,
     audit: ServerAudit,
     of: &[TraceOf],
 ) -> Result<(), Stop>
-    ensures ok { OnOk result (IsTrue (is_some options.now.logs) → All HasLog (machines_in audit)) }
-    ensures no { IfErr result (λ stop. IfNo stop (λ d. IsTrue (is_some options.now.logs)
-        × IsLogDenied (machines_in audit) of.now d)) }
+    ensures ok { OnOk result (IsTrue compares_logs
+        → HaveLogs (F.left files.now) of.now (machines_in audit)) }
+    ensures no { IfErr result (λ stop. IfNo stop (λ d. IsTrue compares_logs
+        × IsLogDenied (F.left files.now) (machines_in audit) of.now d)) }
 {
-    match options.logs {
-        Some(folder) => {
-            let machines = audit.into_machines()?;
-            compare_logs(rt, machines, of, folder)
-        }
-        None => {
-            drop(audit);
-            Ok(())
-        }
+    if compares_logs {
+        let machines = audit.into_machines()?;
+        compare_logs(files, alloc, machines, of)
+    } else {
+        drop(audit);
+        Ok(())
     }
 }
 
-/// Finds the traces, and how long the logs are, if they are to be compared.
-pub(crate) fn find<R: Files<File = File> + AllocGlobal>(
-    rt: &R,
-    options: &AuditOptions<'_>,
-) -> Result<Traces<File>, Stop>
-    ensures begun { IfOk result (λ traces. AreBegun traces.of.items traces.sources.items) }
-    ensures no { IfErr result (λ stop. IfNo stop (IsNoAtOnce (is_some options.now.logs))) }
+/// Finds all traces, and how long the logs are, if they are to be compared.
+pub(crate) fn find<F: ServerFiles>(
+    files: &F,
+    alloc: Global,
+    compares_logs: bool,
+) -> Result<Traces<F::File>, Stop>
+    ensures found { IfOk result (λ traces. IsFound F.File.remaining (F.left files.now)
+        compares_logs traces.of.items traces.sources.items) }
+    ensures no { IfErr result (λ stop. IfNo stop
+        (IsNoAtOnce (F.left files.now) compares_logs)) }
 {
-    let nodes = server_nodes(rt.alloc())?;
-    let mut traces = traces_in(rt, rt.alloc(), nodes.as_slice(), options.traces)?;
-    let Some(folder) = options.logs else {
+    let nodes = server_nodes(alloc)?;
+    let mut traces = traces_of(files, alloc, nodes.as_slice())?;
+    if !compares_logs {
         return Ok(traces);
-    };
-    match note_logs(rt, nodes.as_slice(), folder, &mut traces.of) {
+    }
+    match note_logs(files, alloc, nodes.as_slice(), &mut traces.of) {
         Ok(()) => Ok(traces),
         Err(stop) => {
             drop(traces);
@@ -119,13 +120,15 @@ fn tell_of_later<R: Eprint>(rt: &R, of: &[TraceOf]) {
 }
 
 // Audits traces that were found.
-fn audit_in<R: Files<File = File> + AllocGlobal + Eprint>(
+fn audit_in<R: AllocGlobal + Eprint, F: ServerFiles>(
     rt: &R,
-    options: &AuditOptions<'_>,
-    traces: &mut Traces<File>,
+    files: &F,
+    options: AuditOptions,
+    traces: &mut Traces<F::File>,
 ) -> Result<Findings, AuditFault>
-    requires { AreBegun traces.old.of.items traces.old.sources.items }
-    ensures { IfOk result (AreFindings (is_some options.now.logs)) }
+    requires { IsFound F.File.remaining (F.left files.now) options.compares_logs
+        traces.old.of.items traces.old.sources.items }
+    ensures { IfOk result (AreFindings (F.left files.now) options.compares_logs) }
 {
     let of = traces.of.as_slice();
     tell_of_later(rt, of);
@@ -143,7 +146,7 @@ fn audit_in<R: Files<File = File> + AllocGlobal + Eprint>(
         drop(audit);
         return stopped(found, stop_at(of, ending));
     }
-    match compare(rt, options, audit, of) {
+    match compare(files, rt.alloc(), options.compares_logs, audit, of) {
         Ok(()) => Ok(found),
         Err(stop) => stopped(found, stop),
     }
@@ -151,37 +154,50 @@ fn audit_in<R: Files<File = File> + AllocGlobal + Eprint>(
 
 // Audits what was found. Traces are dropped by a call, since each place where they are dropped is
 // proved anew.
-fn audit_found<R: Files<File = File> + AllocGlobal + Eprint>(
+fn audit_found<R: AllocGlobal + Eprint, F: ServerFiles>(
     rt: &R,
-    options: &AuditOptions<'_>,
-    mut traces: Traces<File>,
+    files: &F,
+    options: AuditOptions,
+    mut traces: Traces<F::File>,
 ) -> Result<Findings, AuditFault>
-    requires { AreBegun traces.of.items traces.sources.items }
-    ensures { IfOk result (AreFindings (is_some options.now.logs)) }
+    requires { IsFound F.File.remaining (F.left files.now) options.compares_logs traces.of.items
+        traces.sources.items }
+    ensures { IfOk result (AreFindings (F.left files.now) options.compares_logs) }
 {
-    let found = audit_in(rt, options, &mut traces);
+    let found = audit_in(rt, files, options, &mut traces);
     drop(traces);
     found
 }
 
-// What an audit of what is found in the folders finds.
-fn findings_of<R: Files<File = File> + AllocGlobal + Eprint>(
-    rt: &R,
-    options: &AuditOptions<'_>,
-) -> Result<Findings, AuditFault>
-    ensures { IfOk result (AreFindings (is_some options.now.logs)) }
+// What is found by an audit that was stopped before it began.
+fn stopped_at_once(stop: Stop) -> Result<Findings, AuditFault>
+    ensures { (left : Left) (compares : Bool) → IfNo stop (IsNoAtOnce left compares)
+        → IfOk result (AreFindings left compares) }
 {
-    match find(rt, options) {
-        Ok(traces) => audit_found(rt, options, traces),
-        Err(Stop::No(denial)) => Ok(Findings::at_once(denial)),
-        Err(Stop::Fault(fault)) => Err(fault),
+    match stop {
+        Stop::No(denial) => Ok(Findings::at_once(denial)),
+        Stop::Fault(fault) => Err(fault),
+    }
+}
+
+// What an audit of what a server left finds.
+fn findings_of<R: AllocGlobal + Eprint, F: ServerFiles>(
+    rt: &R,
+    files: &F,
+    options: AuditOptions,
+) -> Result<Findings, AuditFault>
+    ensures { IfOk result (AreFindings (F.left files.now) options.compares_logs) }
+{
+    match find(files, rt.alloc(), options.compares_logs) {
+        Ok(traces) => audit_found(rt, files, options, traces),
+        Err(stop) => stopped_at_once(stop),
     }
 }
 
 // Writes what an audit found, and says whether it said yes.
 fn tell<W: Write>(alloc: Global, out: &mut W, findings: Findings) -> Result<bool, AuditFault>
-    ensures { (compares : Bool) → AreFindings compares findings
-        → Tells compares (W.contents out.old) (W.contents out.new) result }
+    ensures { (left : Left) (compares : Bool) → AreFindings left compares findings
+        → Tells left compares (W.contents out.old) (W.contents out.new) result }
 {
     match write_findings(alloc, out, &findings) {
         Ok(()) => match findings.denial {
@@ -192,23 +208,25 @@ fn tell<W: Write>(alloc: Global, out: &mut W, findings: Findings) -> Result<bool
     }
 }
 
-/// Audits the traces that a server left in a folder, and compares its logs with the logs to which
-/// they lead, if that is asked for. It prints `steps`, `messages` and `transactions`, each with how
-/// many of them there were, and `audit yes`; or else `audit no` and a number, and a line that says
-/// where and why. Says whether the audit said yes.
+/// Audits all traces that a server left, and compares its logs with those to which they lead, if
+/// that is asked for. It prints `steps`, `messages` and `transactions`, each with how many of them
+/// there were, and `audit yes`; or else `audit no` and a number, and a line that says where and
+/// why. Says whether the audit said yes.
 ///
 /// # Errors
 ///
 /// As [`AuditFault`] has them.
-pub fn audit_server<R: Files<File = File> + AllocGlobal + Eprint, W: Write>(
+pub fn audit_server<R: AllocGlobal + Eprint, F: ServerFiles, W: Write>(
     rt: &R,
-    options: &AuditOptions<'_>,
+    files: &F,
+    options: AuditOptions,
     out: &mut W,
 ) -> Result<bool, AuditFault>
-    // What it printed: of a yes, what was counted in an audit whose yes is an open schedule.
-    ensures { Tells (is_some options.now.logs) (W.contents out.old) (W.contents out.new) result }
+    // What it printed is so of these files: of a yes, what was counted in the audit of all of them.
+    ensures { Tells (F.left files.now) options.compares_logs (W.contents out.old)
+        (W.contents out.new) result }
 {
-    match findings_of(rt, options) {
+    match findings_of(rt, files, options) {
         Ok(findings) => tell(rt.alloc(), out, findings),
         Err(fault) => Err(fault),
     }

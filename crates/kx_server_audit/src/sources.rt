@@ -20,8 +20,6 @@ pub(crate) struct Source<I: Read + Drop> {
     pub(crate) is_ended: bool,
     /// How many bytes it is asked for next, if that is more than a piece.
     pub(crate) ask: usize,
-    /// How many of its items were gone through.
-    pub(crate) items: u64,
 }
 
 /// Why no more of a source is read.
@@ -72,22 +70,19 @@ impl<I: Read + Drop> Source<I> {
     pub(crate) fn new(reader: I) -> Source<I>
         ensures reader { result.reader ≡ reader }
         ensures unread { result.is_ended ≡ false }
-        ensures items { result.items ≡ 0 }
     {
         Source {
             reader,
             is_ended: false,
             ask: 0,
-            items: 0,
         }
     }
 
-    /// Notes that one more item was gone through.
+    /// Notes that one more item was gone through, so that it asks for a piece again.
     pub(crate) fn pass(&mut self)
         ensures reader { self.new.reader ≡ self.old.reader }
         ensures ended { self.new.is_ended ≡ self.old.is_ended }
     {
-        self.items = self.items.saturating_add(1);
         self.ask = 0;
     }
 

@@ -3,12 +3,12 @@ use crate::auditing::{Ending, ServerAudit, refused_at};
 use crate::denial::Stop;
 use crate::fault::AuditFault;
 use crate::file::AuditFile;
-use crate::server::{AuditOptions, find, stop_at};
+use crate::left::ServerFiles;
+use crate::server::{find, stop_at};
 use crate::sources::Source;
 use crate::traces::Traces;
 use kx_trace_audit::{ToldStep, TraceOf};
 use std::alloc::{AllocError, Global};
-use std::fs::{File, Files};
 use std::io::Read;
 
 /// Drops steps. A crate that ends them by this call, and not by dropping them, need not prove the drop
@@ -36,7 +36,7 @@ fn go_on<R: Eprint, I: Read + Drop>(
 ) -> Result<bool, Ending> {
     let told = match audit.audit.next(trace) {
         Ok(told) => told,
-        Err(why) => return Err(refused_at(trace, source, why)),
+        Err(why) => return Err(refused_at(trace, audit.audit.items(trace), why)),
     };
     let went_on = audit.go_on(rt, trace, source);
     if matches!(went_on, Ok(true)) {
@@ -77,10 +77,10 @@ fn check_all_told(of: &[TraceOf]) -> Result<(), AuditFault> {
 }
 
 // The steps of traces that were found.
-fn steps_in<R: Eprint>(
+fn steps_in<R: Eprint, I: Read + Drop>(
     rt: &R,
     alloc: Global,
-    traces: &mut Traces<File>,
+    traces: &mut Traces<I>,
 ) -> Result<Vec<ToldStep>, AuditFault> {
     check_all_told(traces.of.as_slice())?;
     let Ok(mut audit) = ServerAudit::new(alloc, traces.of.as_slice(), false) else {
@@ -98,17 +98,18 @@ fn steps_in<R: Eprint>(
     Ok(steps)
 }
 
-/// The steps of a server by the traces that it left in a folder, in an order in which an audit makes
-/// them again, up to where it refuses or no trace goes on.
+/// The steps of a server by the traces that it left, in an order in which an audit makes them again,
+/// up to where it refuses or no trace goes on. `compares_logs` says whether the logs are looked at.
 ///
 /// # Errors
 ///
 /// As [`AuditFault`] has them: `Later` if a trace was begun on a log that was there before.
-pub fn server_steps<R: Files<File = File> + AllocGlobal + Eprint>(
+pub fn server_steps<R: AllocGlobal + Eprint, F: ServerFiles>(
     rt: &R,
-    options: &AuditOptions<'_>,
+    files: &F,
+    compares_logs: bool,
 ) -> Result<Vec<ToldStep>, AuditFault> {
-    match find(rt, options) {
+    match find(files, rt.alloc(), compares_logs) {
         Ok(mut traces) => {
             let steps = steps_in(rt, rt.alloc(), &mut traces);
             drop(traces);

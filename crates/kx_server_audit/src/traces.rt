@@ -1,14 +1,15 @@
 //! The traces that a server left in a folder.
-ghost use Rattle.std.specs.Prelude.{◌≡◌, ◌≤◌, ◌+◌, ◌++◌, ◌∷◌, [], IfErr, IfOk, OnOk, false, length};
-ghost use Rattle.std.specs.Prelude.{map};
+ghost use Rattle.std.specs.Prelude.{◌≡◌, [], IfErr, IfOk, OnOk, false};
 ghost use Rattle.std.specs.Io.KnownBytes.{Consumes};
 ghost use Rattle.kx_server_audit.specs.Denials.{IfNo, IsNoAtOnce};
-ghost use Rattle.kx_server_audit.specs.Finding.{AreBegun, all_nodes};
+ghost use Rattle.kx_server_audit.specs.Finding.{AreTraces, all_nodes};
+ghost use Rattle.kx_server_audit.specs.Internal.{AddsTrace, FindsTrace, HasOneMore, IsOtherHead};
 ghost use Rattle.kx_trace_files.specs.Beginning.{begun_text};
 
 use crate::denial::{Denial, Stop};
 use crate::fault::AuditFault;
 use crate::file::AuditFile;
+use crate::left::ServerFiles;
 use crate::server_node::ServerNode;
 use crate::sources::Source;
 use kx_message::PartitionId;
@@ -16,9 +17,7 @@ use kx_trace::{TraceFault, TracedNode};
 use kx_trace_audit::{Server, TraceOf, TraceRefusal};
 use kx_trace_files::{TraceFileFault, TraceHead, read_trace_head};
 use std::alloc::{AllocError, Global};
-use std::fs;
-use std::fs::{File, Files};
-use std::io::{ErrorKind, Read};
+use std::io::Read;
 
 /// Traces of which the heads were read.
 #[derive(Drop)]
@@ -42,14 +41,6 @@ pub(crate) fn server_nodes(alloc: Global) -> Result<Vec<TracedNode>, AllocError>
     Ok(nodes)
 }
 
-/// Why a file can't be read.
-pub(crate) fn read_fault(file: AuditFile, kind: ErrorKind) -> AuditFault {
-    match kind {
-        ErrorKind::OutOfMemory => AuditFault::Memory,
-        _ => AuditFault::Read(file),
-    }
-}
-
 // Why a file has no head of a trace.
 fn head_fault(file: AuditFile, fault: TraceFileFault) -> AuditFault {
     match fault {
@@ -57,24 +48,6 @@ fn head_fault(file: AuditFile, fault: TraceFileFault) -> AuditFault {
         TraceFileFault::Device => AuditFault::Read(file),
         TraceFileFault::Format(TraceFault::Version) => AuditFault::Version(file),
         _ => AuditFault::NoTrace(file),
-    }
-}
-
-// The file of a node's trace, opened; None if there is none.
-fn open_trace<R: Files<File = File>>(
-    rt: &R,
-    alloc: Global,
-    folder: &str,
-    node: TracedNode,
-) -> Result<Option<File>, AuditFault> {
-    let file = AuditFile::Trace(node);
-    let path = file.path_in(alloc, folder)?;
-    match fs::open(rt, path.as_str()) {
-        Ok(opened) => Ok(Some(opened)),
-        Err(error) => match error.kind() {
-            ErrorKind::NotFound => Ok(None),
-            kind => Err(read_fault(file, kind)),
-        },
     }
 }
 
@@ -103,8 +76,8 @@ fn check_log(alloc: Global, of: &TraceOf) -> Result<(), AuditFault> {
 
 // Puts a trace whose head was read after the others.
 fn push<I: Read + Drop>(traces: &mut Traces<I>, one: TraceOf, reader: I) -> Result<(), AllocError>
-    requires { AreBegun traces.old.of.items traces.old.sources.items }
-    ensures { OnOk result (AreBegun traces.new.of.items traces.new.sources.items) }
+    ensures { OnOk result (HasOneMore one reader traces.old.of.items traces.old.sources.items
+        traces.new.of.items traces.new.sources.items) }
 {
     traces.of.push(one)?;
     traces.sources.push(Source::new(reader))?;
@@ -118,9 +91,9 @@ fn add_trace<I: Read + Drop>(
     node: TracedNode,
     mut reader: I,
 ) -> Result<(), Stop>
-    requires { AreBegun traces.old.of.items traces.old.sources.items }
-    ensures begun { OnOk result (AreBegun traces.new.of.items traces.new.sources.items) }
-    ensures no { IfErr result (λ stop. IfNo stop (IsNoAtOnce false)) }
+    ensures added { OnOk result (AddsTrace I.remaining node reader traces.old.of.items
+        traces.old.sources.items traces.new.of.items traces.new.sources.items) }
+    ensures no { IfErr result (λ stop. IfNo stop (IsOtherHead I.remaining node reader)) }
 {
     let head = head_of(alloc, &mut reader, AuditFile::Trace(node))?;
     if head.node != node {
@@ -138,22 +111,39 @@ fn add_trace<I: Read + Drop>(
     Ok(())
 }
 
-// Adds the traces that a folder has, of these nodes; it has one at least.
-fn add_traces<R: Files<File = File>>(
-    rt: &R,
+// Adds the trace of a node, if there is one.
+fn find_trace<F: ServerFiles>(
+    files: &F,
+    alloc: Global,
+    node: &TracedNode,
+    traces: &mut Traces<F::File>,
+) -> Result<(), Stop>
+    ensures found { OnOk result (FindsTrace F.File.remaining (F.left files.now) node.now
+        traces.old.of.items traces.old.sources.items traces.new.of.items
+        traces.new.sources.items) }
+    ensures no { IfErr result (λ stop. IfNo stop (IsNoAtOnce (F.left files.now) false)) }
+{
+    match files.open(alloc, AuditFile::Trace(*node))? {
+        Some(opened) => add_trace(alloc, traces, *node, opened),
+        None => Ok(()),
+    }
+}
+
+// Adds the traces of these nodes; there is one at least.
+fn find_traces<F: ServerFiles>(
+    files: &F,
     alloc: Global,
     nodes: &[TracedNode],
-    folder: &str,
-    traces: &mut Traces<File>,
+    traces: &mut Traces<F::File>,
 ) -> Result<(), Stop>
-    requires { AreBegun traces.old.of.items traces.old.sources.items }
-    ensures begun { OnOk result (AreBegun traces.new.of.items traces.new.sources.items) }
-    ensures no { IfErr result (λ stop. IfNo stop (IsNoAtOnce false)) }
+    requires of { traces.old.of.items ≡ [] }
+    requires sources { traces.old.sources.items ≡ [] }
+    ensures found { OnOk result (AreTraces F.File.remaining (F.left files.now) nodes.now
+        traces.new.of.items traces.new.sources.items) }
+    ensures no { IfErr result (λ stop. IfNo stop (IsNoAtOnce (F.left files.now) false)) }
 {
     for node in nodes {
-        if let Some(opened) = open_trace(rt, alloc, folder, *node)? {
-            add_trace(alloc, traces, *node, opened)?;
-        }
+        find_trace(files, alloc, node, traces)?;
     }
     if traces.of.is_empty() {
         return Err(Stop::Fault(AuditFault::NoTraces));
@@ -161,21 +151,21 @@ fn add_traces<R: Files<File = File>>(
     Ok(())
 }
 
-/// The traces that a folder has, of these nodes.
-pub(crate) fn traces_in<R: Files<File = File>>(
-    rt: &R,
+/// All traces that a server left of these nodes.
+pub(crate) fn traces_of<F: ServerFiles>(
+    files: &F,
     alloc: Global,
     nodes: &[TracedNode],
-    folder: &str,
-) -> Result<Traces<File>, Stop>
-    ensures begun { IfOk result (λ traces. AreBegun traces.of.items traces.sources.items) }
-    ensures no { IfErr result (λ stop. IfNo stop (IsNoAtOnce false)) }
+) -> Result<Traces<F::File>, Stop>
+    ensures found { IfOk result (λ traces. AreTraces F.File.remaining (F.left files.now) nodes.now
+        traces.of.items traces.sources.items) }
+    ensures no { IfErr result (λ stop. IfNo stop (IsNoAtOnce (F.left files.now) false)) }
 {
     let mut traces = Traces {
         of: Vec::new(alloc),
         sources: Vec::new(alloc),
     };
-    match add_traces(rt, alloc, nodes, folder, &mut traces) {
+    match find_traces(files, alloc, nodes, &mut traces) {
         Ok(()) => Ok(traces),
         Err(stop) => {
             drop(traces);

@@ -71,6 +71,7 @@ module _ (bytes : List ℕ) where
   pub alone : (told : Told) (r : Record) (n : ℕ) → told_text told ≡ record_text r
       → Begins bytes r n → BeginsTold bytes told n
   alone told r n same begins = record {
+    some = begins.some;
     within = begins.within;
     text_is = begins.text_is ∙ ap (λ (l : List ℕ). l ++ drop n bytes) (sym same);
   }
@@ -79,6 +80,7 @@ module _ (bytes : List ℕ) where
       → told_text told ≡ record_text r ++ record_text s → Begins bytes r n
       → Begins (drop n bytes) s m → BeginsTold bytes told (n + m)
   both told r s n m same first second = record {
+    some = omega (arith, first.some);
     within = omega (arith, length-drop n bytes, first.within, second.within);
     text_is = first.text_is
         ∙ ap (λ (l : List ℕ). record_text r ++ l)

@@ -4,20 +4,22 @@ use Rattle.std.specs.Prelude.{MatchOption, slice_get, slice_set, Some}
 use Rattle.kx_audit.specs.Joined.{Passed, at_node}
 use Rattle.kx_audit.specs.Making.{NodeMaking}
 use Rattle.kx_follow.specs.Following.{Following, HasMade, makings_of}
-use Rattle.kx_follow.specs.Pending.{MustWait}
+use Rattle.kx_follow.specs.Pending.{IsUnsent}
 use Rattle.kx_follow.specs.Whole.{IsWholeRun}
 use Rattle.kx_machine.specs.Meaning.{NodeState}
 use Rattle.kx_machine.specs.declared.input.Input.{Input}
 use Rattle.kx_system.specs.System.{System}
 use Rattle.kx_trace.specs.Reading.{More, record_at}
+use Rattle.kx_trace_audit.specs.Beginnings.{AreAsMade, AreStarts, CameBefore}
 use Rattle.kx_trace_audit.specs.Items.{BeginsTold}
-use Rattle.kx_trace_audit.specs.Readings.{Reading, advanced, ending_of, fed_on}
+use Rattle.kx_trace_audit.specs.Readings.{Reading, advanced, ending_of, fed_on, in_64_bits}
 use Rattle.kx_trace_audit.specs.Servers.{making_of, name_of}
 use Rattle.kx_trace_audit.specs.Stepping.{HasRefused, NeedsMore}
 use Rattle.kx_trace_audit.specs.Told.{IsStepOf, TellsOf, Told, Untaken, input_in}
 use Rattle.kx_trace_audit.specs.declared.progress.Progress.{Progress}
 use Rattle.kx_trace_audit.specs.declared.progress.Progress.TheVariants as progress
 use Rattle.kx_trace_audit.specs.declared.refusal.TraceRefusal.{TraceRefusal}
+use Rattle.kx_trace_audit.specs.declared.servers.TraceOf.{TraceOf}
 
 -- the nodes that make their steps again, and the traces that are read
 pub record Auditing (B M : Type 0) : Type 0 where
@@ -35,10 +37,13 @@ abbrev pub IsFedAt : {B M : Type 0} → Auditing B M → ℕ → List ℕ → Au
 IsFedAt old k bytes new = MatchOption (slice_get old.traces k) (new ≡ old)
     (λ r. new ≡ record old { traces = slice_set old.traces k (fed_on bytes r) })
 
--- what was read of this trace tells of the node's steps in this history
-abbrev pub TellsOfIts : List Passed → List ℕ → Reading → Type 0
-TellsOfIts history text r =
-    TellsOf r.node text r.unread (at_node (name_of r.node) history)
+-- what was read of this trace tells of the node's steps in this history, by as many items as are done
+-- with
+pub record TellsOfIts (of : TraceOf) (history : List Passed) (text : List ℕ) (r : Reading)
+    : Type 0 where
+  pub told : List Told
+  pub tells : TellsOf of text r.unread told (at_node (name_of of.node) history)
+  pub items_are : r.items ≡ in_64_bits (length told)
 
 -- all of a trace was read, but for a record that was torn off
 abbrev pub IsRead : Reading → Type 0
@@ -51,28 +56,37 @@ pub record IsFirstLeft (traces : List Reading) (k : ℕ) : Type 0 where
   pub left : IsRead reading → ⊥
   pub before : (j : ℕ) (r : Reading) → j < k → slice_get traces j ≡ Some r → IsRead r
 
-module _ {B M : Type 0} (making : B → NodeMaking) (stands : NodeState → M → Type 0) where
-  -- the bytes that were fed of each trace tell of the steps that were made again
+module _ {B M : Type 0} (making : B → NodeMaking) (stands : NodeState → M → Type 0)
+    (of : List TraceOf) (starts : List NodeState) where
+  -- these traces begin at these nodes, and the bytes that were fed of each tell of the steps that were
+  -- made again: steps of those nodes, in one order, each of which takes in a request of a client or
+  -- what one before it sent
   pub record HasAudited (texts : List (List ℕ)) (history : List Passed) (a : Auditing B M)
       : Type 0 where
-    pub made : HasMade making stands history a.following
+    pub begun : AreStarts of starts
+    pub made : HasMade making stands starts history a.following
+    pub of_are : map (λ r. r.node) a.traces ≡ map (λ t. t.node) of
     pub nodes_are : map making (makings_of a.following.nodes)
         ≡ map (λ r. making_of r.node) a.traces
     pub count : length texts ≡ length a.traces
-    pub tells : (k : ℕ) (text : List ℕ) (r : Reading) → slice_get texts k ≡ Some text
-        → slice_get a.traces k ≡ Some r → TellsOfIts history text r
+    pub tells : (k : ℕ) (text : List ℕ) (r : Reading) (t : TraceOf)
+        → slice_get texts k ≡ Some text → slice_get a.traces k ≡ Some r
+        → slice_get of k ≡ Some t → TellsOfIts t history text r
 
   abbrev pub AreRead : List Reading → Type 0
   AreRead traces = (k : ℕ) (r : Reading) → slice_get traces k ≡ Some r → IsRead r
 
-  -- an audit's yes: this history is an open schedule, which keeps the promises that need no trust
-  -- in clients, and leads to the nodes for which the machines stand; and the bytes of each trace, up
-  -- to a record that was torn off, tell of the steps of its node
+  -- an audit's yes: the bytes of each trace, up to a record that was torn off, tell of the steps of its
+  -- node in this history. After whatever steps may have come before, it is an open schedule, which
+  -- keeps the promises that need no trust in clients, and leads to the nodes for which the machines
+  -- stand; it is one alone if the traces tell all steps of their nodes
   pub record IsYes (texts : List (List ℕ)) (history : List Passed) (a : Auditing B M) : Type 0 where
-    pub system : System
     pub audited : HasAudited texts history a
     pub read : AreRead a.traces
-    pub run : IsWholeRun making stands history a.following system
+    pub run : (before : List Passed) → CameBefore before of starts
+        → (s : System) × IsWholeRun making stands (before ++ history) a.following s
+    pub alone : AreAsMade of starts
+        → (s : System) × IsWholeRun making stands history a.following s
 
   ------ one more item of a trace
 
@@ -104,19 +118,19 @@ module _ {B M : Type 0} (making : B → NodeMaking) (stands : NodeState → M �
 
   -- the next step of this trace takes a message that no step sent, or that was taken as often as it
   -- was sent
-  pub record WaitsAt (k : ℕ) (a : Auditing B M) : Type 0 where
+  pub record WaitsAt (history : List Passed) (k : ℕ) (a : Auditing B M) : Type 0 where
     pub reading : Reading
     pub there : slice_get a.traces k ≡ Some reading
     pub told : Told
     pub len : ℕ
     pub begins : BeginsTold reading.unread told len
-    pub must : MustWait a.following.pending (input_in told)
+    pub unsent : IsUnsent history (input_in told)
 
   -- there is no such trace, or more of its bytes are needed
   pub data NeedsBytes (history : List Passed) (k : ℕ) (a : Auditing B M) : Type 0 where
     NoTrace : length a.traces ≤ k → NeedsBytes history k a
     OfTrace : (reading : Reading) → slice_get a.traces k ≡ Some reading
-        → NeedsMore making stands k reading.unread (ending_of reading) history a.following
+        → NeedsMore making stands starts k reading.unread (ending_of reading) history a.following
         → NeedsBytes history k a
 
   -- what became of the next item of this trace
@@ -124,13 +138,14 @@ module _ {B M : Type 0} (making : B → NodeMaking) (stands : NodeState → M �
       → Type 0
   HasGone texts history k old new (progress.Made sent) = MakesNext texts history k sent old new
   HasGone texts history k old new progress.NotTaken = PassesOver texts history k old new
-  HasGone texts history k old new progress.Waits = WaitsAt k old × (new ≡ old)
+  HasGone texts history k old new progress.Waits = WaitsAt history k old × (new ≡ old)
   HasGone texts history k old new progress.NeedsMore = NeedsBytes history k old × (new ≡ old)
 
-  -- why this trace is refused
+  -- why the next item of this trace is refused
   pub record IsRefused (history : List Passed) (k : ℕ) (old new : Auditing B M) (why : TraceRefusal)
       : Type 0 where
     pub reading : Reading
     pub there : slice_get old.traces k ≡ Some reading
-    pub refused : HasRefused making stands k reading.unread history old.following
-        new.following why
+    pub refused : HasRefused making stands starts k reading.unread (ending_of reading) history
+        old.following new.following why
+    pub traces_are : new.traces ≡ old.traces

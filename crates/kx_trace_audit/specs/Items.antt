@@ -48,6 +48,7 @@ told_of (telling.Reopened now log_len) = Reopened now log_len
 
 -- the bytes begin with what is told, which takes the first `len` of them
 pub record BeginsTold (bytes : List ℕ) (told : Told) (len : ℕ) : Type 0 where
+  pub some : 0 < len
   pub within : len ≤ length bytes
   pub text_is : bytes ≡ told_text told ++ drop len bytes
 

@@ -1,5 +1,5 @@
 -- What the bytes of a node's trace tell, and the steps that it tells of.
-use Rattle.std.specs.Prelude.{◌≡◌, ℕ, List, [], ◌∷◌, ◌++◌, Option}
+use Rattle.std.specs.Prelude.{◌≡◌, ℕ, List, [], ◌∷◌, ◌++◌}
 use Rattle.std.specs.List.{flat_map}
 use Rattle.kx_audit.specs.Joined.{Passed}
 use Rattle.kx_machine.specs.declared.input.Input.{Input}
@@ -8,11 +8,9 @@ use Rattle.kx_message.specs.Fields.{frame_text}
 use Rattle.kx_nodes.specs.declared.mark.Mark.{Mark}
 use Rattle.kx_trace.specs.Layout.{record_text}
 use Rattle.kx_trace.specs.Records as spelled
-use Rattle.kx_trace.specs.declared.node.TracedNode.{TracedNode}
-use Rattle.kx_trace_audit.specs.Beginnings.{IsBegun}
 use Rattle.kx_trace_audit.specs.Logs.{HasFound}
+use Rattle.kx_trace_audit.specs.declared.servers.TraceOf.{TraceOf}
 use Rattle.kx_trace_files.specs.Beginning.{begun_text}
-use Rattle.kx_trace_files.specs.declared.reading.OpenedOn.{OpenedOn}
 
 pub data Told : Type 0 where
   -- the node took the input, its store did this, and it sent what has these frames
@@ -55,14 +53,9 @@ pub data AreSteps : List Told → List Passed → Type 0 where
   NotTaken : (told : List Told) (steps : List Passed) (input : Input)
       → AreSteps told steps → AreSteps (told ++ Untaken input ∷ []) steps
 
--- the bytes of the node's trace tell of these steps, but for the first, after which the trace was
--- begun; and the rest follow what was read
-pub record TellsOf (node : TracedNode) (text rest : List ℕ) (steps : List Passed) : Type 0 where
-  pub opened : Option OpenedOn
-  pub earlier : List Passed
-  pub later : List Passed
-  pub told : List Told
-  pub steps_are : steps ≡ earlier ++ later
-  pub begun : IsBegun node opened earlier
-  pub text_is : text ≡ begun_text node opened ++ flat_map told_text told ++ rest
-  pub are : AreSteps told later
+-- by what is told the bytes of this trace, after its head, tell of these steps; and the rest follow
+-- what was read
+pub record TellsOf (of : TraceOf) (text rest : List ℕ) (told : List Told) (steps : List Passed)
+    : Type 0 where
+  pub text_is : text ≡ begun_text of.node of.opened ++ flat_map told_text told ++ rest
+  pub are : AreSteps told steps

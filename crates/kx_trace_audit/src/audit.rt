@@ -1,12 +1,14 @@
 //! The audit of traces.
-ghost use Rattle.std.specs.Prelude.{◌≡◌, ◌↔◌, ◌++◌, ℕ, IfOk, IsTrue, List, MatchOption, MatchResult};
-ghost use Rattle.std.specs.Prelude.{None, OnErr, OnOk, Some, map, slice_get};
+ghost use Rattle.std.specs.Prelude.{◌≡◌, ◌↔◌, ◌++◌, ℕ, [], IfOk, IsTrue, List, MatchOption};
+ghost use Rattle.std.specs.Prelude.{MatchResult, None, OnErr, OnOk, Some, map, slice_get};
 ghost use Rattle.kx_audit.specs.Joined.{Passed};
 ghost use Rattle.kx_follow.specs.Following.{Followed};
+ghost use Rattle.kx_machine.specs.Meaning.{NodeState};
 ghost use Rattle.kx_trace_audit.specs.Auditing.{HasAudited, HasGone, IsFirstLeft, IsRead, IsRefused};
 ghost use Rattle.kx_trace_audit.specs.Auditing.{IsFedAt, IsYes, fed};
-ghost use Rattle.kx_trace_audit.specs.Beginnings.{AreNodesOf, CameBefore, heads_of};
+ghost use Rattle.kx_trace_audit.specs.Beginnings.{AreNodesOf, NotBegun, heads_of};
 ghost use Rattle.kx_trace_audit.specs.Readings.{begun};
+ghost use Rattle.kx_trace_audit.specs.declared.servers.TraceOf.{TraceOf};
 
 use crate::progress::Progress;
 use crate::reading::Reading;
@@ -48,7 +50,9 @@ fn readings(alloc: Global, of: &[TraceOf]) -> Result<Vec<Reading>, AllocError>
 
 // The nodes of these traces, of which no step was made again.
 fn nodes_of<B: Server>(alloc: Global, of: &[TraceOf]) -> Result<Vec<FollowedNode<B>>, TraceRefusal>
-    ensures { IfOk result (λ nodes. AreNodesOf B.making B.Machine.stands of.now nodes.items) }
+    ensures { MatchResult result (λ nodes. (starts : List NodeState)
+        × AreNodesOf B.making B.Machine.stands of.now starts nodes.items)
+        (NotBegun of.now) }
 {
     let mut nodes = Vec::new(alloc);
     for one in of {
@@ -62,17 +66,17 @@ fn nodes_of<B: Server>(alloc: Global, of: &[TraceOf]) -> Result<Vec<FollowedNode
 }
 
 impl<B: Server> TraceAudit<B> {
-    /// The audit of traces of which nothing was read after their heads. Whatever steps came before
-    /// those that the traces tell, it goes on after them: after none, if each node was made with an
-    /// empty log.
+    /// The audit of traces of which nothing was read after their heads. It goes on from the nodes at
+    /// which the traces begin: as they were made, with empty logs, or as they were opened.
     ///
     /// # Errors
     ///
     /// `DuplicateNode` if two traces are of one node; `Bytes` if the log with which a trace
     /// begins can't be opened; `Memory` if memory runs out.
     pub fn new(alloc: Global, traces: &[TraceOf]) -> Result<TraceAudit<B>, TraceRefusal>
-        ensures { IfOk result (λ a. (before : List Passed) → CameBefore before traces.now
-            → HasAudited B.making B.Machine.stands (heads_of traces.now) before a) }
+        ensures { MatchResult result (λ a. (starts : List NodeState)
+            × HasAudited B.making B.Machine.stands traces.now starts (heads_of traces.now) [] a)
+            (NotBegun traces.now) }
     {
         let nodes = nodes_of::<B>(alloc, traces)?;
         let traces = readings(alloc, traces)?;
@@ -95,9 +99,11 @@ impl<B: Server> TraceAudit<B> {
     /// Only if memory runs out; then nothing was fed.
     pub fn feed(&mut self, trace: usize, bytes: &[u8]) -> Result<(), AllocError>
         ensures ok { OnOk result (IsFedAt self.old trace bytes.now self.new) }
-        ensures audited { (texts : List (List ℕ)) (history : List Passed)
-            → HasAudited B.making B.Machine.stands texts history self.old → OnOk result
-            (HasAudited B.making B.Machine.stands (fed texts trace bytes.now) history self.new) }
+        ensures audited { (of : List TraceOf) (starts : List NodeState) (texts : List (List ℕ))
+            (history : List Passed)
+            → HasAudited B.making B.Machine.stands of starts texts history self.old → OnOk result
+            (HasAudited B.making B.Machine.stands of starts (fed texts trace bytes.now) history
+            self.new) }
         ensures err { OnErr result (self.new ≡ self.old) }
     {
         if trace >= self.traces.len() {
@@ -117,10 +123,12 @@ impl<B: Server> TraceAudit<B> {
     /// if a restart finds another log, `Bytes` if no trace goes on with these bytes, `Memory`
     /// if memory runs out. Then the traces can't be audited any further.
     pub fn go(&mut self, trace: usize) -> Result<Progress, TraceRefusal>
-        ensures { (texts : List (List ℕ)) (history : List Passed)
-            → HasAudited B.making B.Machine.stands texts history self.old → MatchResult result
-            (HasGone B.making B.Machine.stands texts history trace self.old self.new)
-            (IsRefused B.making B.Machine.stands history trace self.old self.new) }
+        ensures { (of : List TraceOf) (starts : List NodeState) (texts : List (List ℕ))
+            (history : List Passed)
+            → HasAudited B.making B.Machine.stands of starts texts history self.old
+            → MatchResult result
+            (HasGone B.making B.Machine.stands of starts texts history trace self.old self.new)
+            (IsRefused B.making B.Machine.stands of starts history trace self.old self.new) }
     {
         if trace >= self.traces.len() {
             return Ok(Progress::NeedsMore);
@@ -147,6 +155,18 @@ impl<B: Server> TraceAudit<B> {
         self.follower.into_machines()
     }
 
+    /// How many items of this trace were gone through, at most 2^64 - 1; none if there is no such
+    /// trace.
+    pub fn items(&self, trace: usize) -> u64
+        ensures { MatchOption (slice_get self.now.traces trace) (result ≡ 0)
+            (λ r. result ≡ r.items) }
+    {
+        match self.traces.get(trace) {
+            Some(reading) => reading.items(),
+            None => 0,
+        }
+    }
+
     /// The machine of the node of this trace, borrowed; None if there is no such trace.
     pub fn machine(&self, trace: usize) -> Option<&B::Machine>
         ensures { MatchOption result (slice_get self.now.following.nodes trace ≡ None)
@@ -167,14 +187,17 @@ impl<B: Server> TraceAudit<B> {
     }
 
     /// The first trace of which a record is left that was not made again, by its number. None is the
-    /// audit's yes: all of each trace was made again, but for records that were torn off, and so what
-    /// the bytes of the traces tell, after the steps that came before them, is an open schedule, which
-    /// keeps the promises that need no trust in clients, and leads to the nodes for which the machines
-    /// stand.
+    /// audit's yes: all of each trace was made again, but for records that were torn off. What the
+    /// bytes of the traces tell is one history, from the nodes at which the traces begin, each
+    /// message sent before it is taken in, or a client's request. After whatever steps may have come
+    /// before, it is an open schedule, which keeps the promises that need no trust in clients, and
+    /// leads to the nodes for which the machines stand.
     pub fn left_over(&self) -> Option<usize>
-        ensures { (texts : List (List ℕ)) (history : List Passed)
-            → HasAudited B.making B.Machine.stands texts history self.now → MatchOption result
-            (IsYes B.making B.Machine.stands texts history self.now)
+        ensures { (of : List TraceOf) (starts : List NodeState) (texts : List (List ℕ))
+            (history : List Passed)
+            → HasAudited B.making B.Machine.stands of starts texts history self.now
+            → MatchOption result
+            (IsYes B.making B.Machine.stands of starts texts history self.now)
             (IsFirstLeft self.now.traces) }
     {
         self.follower.steps_are_an_open_schedule();

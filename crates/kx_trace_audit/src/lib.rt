@@ -1,8 +1,9 @@
 //! The audit of traces: what the nodes of a server wrote of their steps is read in pieces, each step
 //! is made again as soon as what it takes was sent, and compared with what its trace tells. A yes is
-//! an open schedule of the definitions, of whose steps the bytes of the traces tell, and so keeps
-//! the promises that need no trust in clients. What is kept is the nodes, what was sent and not
-//! taken yet, and what was read and not made again yet: so traces may be of any length.
+//! one history of the definitions' steps, of which the bytes of the traces tell. After whatever steps
+//! may have come before, it is an open schedule, and so keeps the promises that need no trust in
+//! clients. What is kept is the nodes, what was sent and not taken yet, and what was read and not made
+//! again yet: so traces may be of any length.
 //!
 //! A failed append leaves nothing or its whole entry, and so does one that was never answered: which
 //! of them, the trace tells later, and the audit looks ahead for it (`lookahead`). A wrong guess

@@ -9,14 +9,15 @@ use std::alloc::{AllocError, Global};
 use std::marker::Model;
 
 /// A node's trace, as far as it was read: the bytes that were fed, of which the first `done` are
-/// done with, whether they are all, and how many bytes of whole entries the node's log has at their
-/// end, if that is known.
+/// done with, how many items those told, whether the bytes are all, and how many bytes of whole
+/// entries the node's log has at their end, if that is known.
 #[derive(Drop)]
 pub(crate) struct Reading {
     node: TracedNode,
     log_len: Option<u64>,
     bytes: Vec<u8>,
     done: usize,
+    items: u64,
     is_end: bool,
 }
 
@@ -30,6 +31,7 @@ impl Model for Reading {
       node = r.node;
       log_len = r.log_len;
       unread = drop r.done r.bytes.items;
+      items = r.items;
       is_end = r.is_end;
     } };
 
@@ -59,6 +61,7 @@ impl Reading {
             log_len: of.log_len,
             bytes: Vec::new(alloc),
             done: 0,
+            items: 0,
             is_end: false,
         }
     }
@@ -108,11 +111,19 @@ impl Reading {
         Ok(())
     }
 
-    /// The next `used` bytes are done with.
+    /// How many items are done with, at most 2^64 - 1.
+    pub(crate) fn items(&self) -> u64
+        ensures { result ≡ self.now.items }
+    {
+        self.items
+    }
+
+    /// One more item is done with, which took the next `used` bytes.
     pub(crate) fn advance(&mut self, used: usize)
         requires { used ≤ length self.old.unread }
         ensures { self.new ≡ advanced used self.old }
     {
         self.done += used;
+        self.items = self.items.saturating_add(1);
     }
 }

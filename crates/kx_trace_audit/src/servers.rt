@@ -33,9 +33,9 @@ pub fn node_name(node: TracedNode) -> NodeId
 
 /// How a server's node is made again.
 pub trait Server: Remade {
-    ghost use Rattle.std.specs.Prelude.{◌≡◌, ◌↔◌, IfOk, IsTrue};
+    ghost use Rattle.std.specs.Prelude.{◌≡◌, ◌↔◌, IsTrue, MatchResult};
     ghost use Rattle.kx_machine.specs.Meaning.{NodeState};
-    ghost use Rattle.kx_trace_audit.specs.Beginnings.{StandsAsBegun};
+    ghost use Rattle.kx_trace_audit.specs.Beginnings.{BeginRefused, StandsAsBegun};
     ghost use Rattle.kx_trace_audit.specs.Logs.{HasFound, log_size};
     ghost use Rattle.kx_trace_audit.specs.Servers.{making_of};
 
@@ -50,7 +50,8 @@ pub trait Server: Remade {
     /// `Bytes` if the log with which the trace begins can't be opened; `Memory` if memory runs
     /// out.
     fn begun(alloc: Global, of: &TraceOf) -> Result<Self::Machine, TraceRefusal>
-        ensures { IfOk result (StandsAsBegun Self.Machine.stands of.now) };
+        ensures { MatchResult result (StandsAsBegun Self.Machine.stands of.now)
+            (BeginRefused of.now) };
 
     /// How many bytes the entries of its log have, or `u64::MAX` if they have more.
     fn log_len(machine: &Self::Machine) -> u64

@@ -4,7 +4,7 @@ ghost use Rattle.std.specs.Prelude.{ℕ, drop, length, slice_get, Some};
 ghost use Rattle.std.specs.Bool.{MatchBool};
 ghost use Rattle.std.specs.List.{flat_map};
 ghost use Rattle.kx_audit.specs.Joined.{Passed};
-ghost use Rattle.kx_follow.specs.Following.{Followed, HasMade, state_after};
+ghost use Rattle.kx_follow.specs.Following.{Followed, HasMade};
 ghost use Rattle.kx_machine.specs.Meaning.{NodeState};
 ghost use Rattle.kx_message.specs.Fields.{frame_text};
 ghost use Rattle.kx_nodes.specs.Again.{mode_by};
@@ -166,12 +166,12 @@ fn take_again<B: Server>(
     frames: &[u8],
     mode: StoreMode,
 ) -> Result<Progress, TraceRefusal>
-    ensures { (history : List Passed) → HasMade B.making B.Machine.stands history follower.old
-        → MatchResult result
-        (Becomes B.making B.Machine.stands node (Answered input.now mark frames.now) history
-        follower.old follower.new)
-        (Refuses B.making B.Machine.stands node (Answered input.now mark frames.now) history
-        follower.old follower.new) }
+    ensures { (starts : List NodeState) (history : List Passed)
+        → HasMade B.making B.Machine.stands starts history follower.old → MatchResult result
+        (Becomes B.making B.Machine.stands starts node (Answered input.now mark frames.now)
+        history follower.old follower.new)
+        (Refuses B.making B.Machine.stands starts node (Answered input.now mark frames.now)
+        mode history follower.old follower.new) }
 {
     let Some(taken) = follower.take(node, input, mode)? else {
         return Ok(Progress::Waits);
@@ -190,12 +190,12 @@ fn take_unanswered<B: Server>(
     input: &Input,
     mode: StoreMode,
 ) -> Result<Progress, TraceRefusal>
-    ensures { (history : List Passed) → HasMade B.making B.Machine.stands history follower.old
-        → MatchResult result
-        (Becomes B.making B.Machine.stands node (Unanswered input.now) history
-        follower.old follower.new)
-        (Refuses B.making B.Machine.stands node (Unanswered input.now) history
-        follower.old follower.new) }
+    ensures { (starts : List NodeState) (history : List Passed)
+        → HasMade B.making B.Machine.stands starts history follower.old → MatchResult result
+        (Becomes B.making B.Machine.stands starts node (Unanswered input.now)
+        history follower.old follower.new)
+        (Refuses B.making B.Machine.stands starts node (Unanswered input.now)
+        mode history follower.old follower.new) }
 {
     let Some(taken) = follower.take(node, input, mode)? else {
         return Ok(Progress::Waits);
@@ -225,12 +225,12 @@ fn reopen<B: Server>(
     log_len: u64,
     mode: StoreMode,
 ) -> Result<Progress, TraceRefusal>
-    ensures { (history : List Passed) → HasMade B.making B.Machine.stands history follower.old
-        → MatchResult result
-        (Becomes B.making B.Machine.stands node (Reopened now log_len) history
-        follower.old follower.new)
-        (Refuses B.making B.Machine.stands node (Reopened now log_len) history
-        follower.old follower.new) }
+    ensures { (starts : List NodeState) (history : List Passed)
+        → HasMade B.making B.Machine.stands starts history follower.old → MatchResult result
+        (Becomes B.making B.Machine.stands starts node (Reopened now log_len)
+        history follower.old follower.new)
+        (Refuses B.making B.Machine.stands starts node (Reopened now log_len)
+        mode history follower.old follower.new) }
 {
     let restart = Input::Restart(now);
     let taken = follower.take(node, &restart, mode);
@@ -254,12 +254,12 @@ fn take_told<B: Server>(
     told: &Telling<'_>,
     mode: StoreMode,
 ) -> Result<Progress, TraceRefusal>
-    ensures { (history : List Passed) → HasMade B.making B.Machine.stands history follower.old
-        → MatchResult result
-        (Becomes B.making B.Machine.stands node (told_of told.now) history
-        follower.old follower.new)
-        (Refuses B.making B.Machine.stands node (told_of told.now) history
-        follower.old follower.new) }
+    ensures { (starts : List NodeState) (history : List Passed)
+        → HasMade B.making B.Machine.stands starts history follower.old → MatchResult result
+        (Becomes B.making B.Machine.stands starts node (told_of told.now)
+        history follower.old follower.new)
+        (Refuses B.making B.Machine.stands starts node (told_of told.now)
+        mode history follower.old follower.new) }
 {
     match told {
         Telling::Answered {
@@ -304,12 +304,14 @@ fn take_item<B: Server>(
 ) -> Result<Stepped, TraceRefusal>
     ensures within { IfOk result (λ stepped. stepped.used ≤ item.now.used) }
     ensures steps { (bytes : List ℕ) → IsItem bytes item.now → rest.now ≡ drop item.now.used bytes
-        → (history : List Passed) → HasMade B.making B.Machine.stands history follower.old
+        → (starts : List NodeState) (history : List Passed)
+        → HasMade B.making B.Machine.stands starts history follower.old
         → (n : Followed B B.Machine) → slice_get follower.old.nodes node ≡ Some n
         → MatchResult result
-        (λ stepped. HasStepped B.making B.Machine.stands node bytes ending history follower.old
-        follower.new stepped.progress stepped.used)
-        (HasRefused B.making B.Machine.stands node bytes history follower.old follower.new) }
+        (λ stepped. HasStepped B.making B.Machine.stands starts node bytes ending history
+        follower.old follower.new stepped.progress stepped.used)
+        (HasRefused B.making B.Machine.stands starts node bytes ending history follower.old
+        follower.new) }
 {
     let Some(stood) = has_stood(alloc, follower, node, &item.told, rest, ending)? else {
         return Ok(needs_more());
@@ -337,12 +339,14 @@ pub(crate) fn go_on<B: Server>(
     ending: Ending,
 ) -> Result<Stepped, TraceRefusal>
     ensures within { IfOk result (λ stepped. stepped.used ≤ length unread.now) }
-    ensures steps { (history : List Passed) → HasMade B.making B.Machine.stands history follower.old
+    ensures steps { (starts : List NodeState) (history : List Passed)
+        → HasMade B.making B.Machine.stands starts history follower.old
         → (n : Followed B B.Machine) → slice_get follower.old.nodes node ≡ Some n
         → MatchResult result
-        (λ stepped. HasStepped B.making B.Machine.stands node unread.now ending history follower.old
-        follower.new stepped.progress stepped.used)
-        (HasRefused B.making B.Machine.stands node unread.now history follower.old follower.new) }
+        (λ stepped. HasStepped B.making B.Machine.stands starts node unread.now ending history
+        follower.old follower.new stepped.progress stepped.used)
+        (HasRefused B.making B.Machine.stands starts node unread.now ending history follower.old
+        follower.new) }
 {
     let Some(item) = item_at(alloc, unread, ending)? else {
         return Ok(needs_more());

@@ -21,7 +21,7 @@ loop-number-preserved g c =
     let n = c.index-nodes-number.result in
     let new : IsFalse c.has_name.result = search rules in
     let none = subst (λ (x : NodeId). IsNewName making x (take i nodes)) c.name.ensures.name
-    (c.has_name.ensures new) in
+    (c.has_name.ensures.new new) in
     record {
       first = subst (λ (l : List (Followed _ _)). AreNodes making l)
           (ap (λ (x : Followed _ _). take i nodes ++ x ∷ []) c.index-nodes-number.is

@@ -35,7 +35,7 @@ loop-node-preserved g c =
           (λ e. apart (c.name.ensures.name ∙ e));
     }
 
-pub returns : goal.returns
-returns g c = λ no k n at.
+pub returns-clause-new : goal.returns-clause-new
+returns-clause-new g c = λ no k n at.
     c.loop-node.invariant.new k n
     (omega (arith, slice_get_within c.args.nodes.now k n at, c.loop-node-test.false)) at

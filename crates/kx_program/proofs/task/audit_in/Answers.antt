@@ -16,4 +16,4 @@ pub returns-in-None : goal.returns-in-None
 returns-in-None c = λ asked is.
     let none = sym (first_value-rows (found_of c.args.given.now) (codes "DIR"))
     ∙ sym c.get_str.ensures ∙ ap (option_map (λ s. s.now)) c.in-None.is in
-    let bad : None ≡ Some asked.options.traces.now = sym none ∙ is.traces in absurd cc
+    let bad : None ≡ Some asked.traces.now = sym none ∙ is.traces in absurd cc

@@ -1,6 +1,5 @@
-use Rattle.std.proofs.Common.{All}
 use Rattle.kx_server_audit.specs.Denials.{IsLogDenied}
-use Rattle.kx_server_audit.specs.Telling.{HasLog}
+use Rattle.kx_server_audit.specs.Telling.{HaveLogs}
 use Rattle.kx_server_audit.specs.declared.denial.Denial.{Denial}
 use Rattle.kx_server_audit.proofs.folder.compare_logs.Given as goal
 
@@ -8,7 +7,8 @@ use Rattle.kx_server_audit.proofs.folder.compare_logs.Given as goal
 -- is one of all
 abbrev pub invariant-loop-machine : goal.invariant-loop-machine
 invariant-loop-machine g l = record {
-  found : All HasLog l.machine-iterator.rest.items → All HasLog l.fn.machines.items;
-  denied : (d : Denial) → IsLogDenied l.machine-iterator.rest.items l.left d
-      → IsLogDenied l.fn.machines.items l.fn.of d;
+  found : HaveLogs (g.F.ServerFiles.left l.files) l.left l.machine-iterator.rest.items
+      → HaveLogs (g.F.ServerFiles.left l.files) l.fn.of l.fn.machines.items;
+  denied : (d : Denial) → IsLogDenied (g.F.ServerFiles.left l.files) l.machine-iterator.rest.items l.left d
+      → IsLogDenied (g.F.ServerFiles.left l.files) l.fn.machines.items l.fn.of d;
 }

@@ -1,7 +1,12 @@
-use Rattle.kx_follow.proofs.Ending.{whole}
+use Rattle.std.proofs.Common.{◌++◌}
+use Rattle.kx_follow.proofs.Ending.{made_all, whole}
 use Rattle.kx_follow.proofs.follower.Follower.steps_are_an_open_schedule.Goals as goal
 
 pub returns : goal.returns
-returns g c = λ history made.
-    whole g.B.Tells.making g.B.Machine.Machine.stands history c.args.self.now made
+returns g c = λ starts history before made led.
+    let making = g.B.Tells.making in
+    let stands = g.B.Machine.Machine.stands in
+    let now = c.args.self.now in
+    whole making stands (before ++ history) now
+    (made_all making stands starts before history now made led)
     c.joined_traces_are_an_open_schedule.ensures

@@ -11,12 +11,12 @@ pub returns-in-Some : goal.returns-in-Some
 returns-in-Some g c = λ start before.
     let w = c.in_ok-go_all.ensures start before in
     says_left g.I.Read.remaining start c.go_all.new.self c.go_all.new.sources.items
-    c.in-Some.trace c.unsent.result w.1 c.in-Some.ensures
-    (λ within. c.unsent.ensures (rw c.as_slice.ensures.value within)) w.0
+    c.in-Some.trace c.items.result c.refused_at.result w.1 c.items.ensures c.in-Some.ensures
+    c.refused_at.ensures w.0
 
 pub returns-in-None : goal.returns-in-None
 returns-in-None g c = λ start before.
     let w = c.in_ok-go_all.ensures start before in
     ended g.I.Read.remaining start c.go_all.new.self
-    c.as_slice-in-None.result.now c.go_all.new.sources.items c.all_ended.result
-    c.as_slice-in-None.ensures.value c.all_ended.ensures c.in-None.ensures w.0
+    c.as_slice.result.now c.go_all.new.sources.items c.all_ended.result
+    c.as_slice.ensures.value c.all_ended.ensures c.in-None.ensures w.0

@@ -8,17 +8,17 @@ use Rattle.kx_trace_audit.proofs.Traces.{feeds}
 use Rattle.kx_trace_audit.proofs.audit.TraceAudit.feed.Goals as goal
 
 pub returns-then-trace-len-clause-audited : goal.returns-then-trace-len-clause-audited
-returns-then-trace-len-clause-audited g c = λ texts history has.
+returns-then-trace-len-clause-audited g c = λ of starts texts history has.
     let making = g.B.Tells.making in
     let stands = g.B.Machine.Machine.stands in
     let seen = ap (λ (a : Auditing _ _). length a.traces) c.self.view_is in
     let past : length texts ≤ c.args.trace =
     omega (arith, c.if-trace-len.true, c.len.ensures, seen, has.count) in
-    subst (λ (l : List (List ℕ)). HasAudited making stands l history c.args.self.now)
+    subst (λ (l : List (List ℕ)). HasAudited making stands of starts l history c.args.self.now)
     (sym (nothing_fed texts c.args.trace c.args.bytes.now past)) has
 
 pub returns-clause-audited : goal.returns-clause-audited
-returns-clause-audited g c = λ texts history has.
+returns-clause-audited g c = λ of starts texts history has.
     let making = g.B.Tells.making in
     let stands = g.B.Machine.Machine.stands in
     let k = c.args.trace in
@@ -30,12 +30,12 @@ returns-clause-audited g c = λ texts history has.
     let within : k < length inside.traces = omega (arith, c.if-trace-len.false, c.len.ensures) in
     let at = slice_get_read inside.traces (length inside.traces) k r refl within
     c.index_mut.ensures.value in
-    let old = subst (λ (a : Auditing _ _). HasAudited making stands texts history a)
+    let old = subst (λ (a : Auditing _ _). HasAudited making stands of starts texts history a)
     (sym c.self.view_is) has in
-    subst (λ (q : Reading). HasAudited making stands (fed texts k c.args.bytes.now) history
+    subst (λ (q : Reading). HasAudited making stands of starts (fed texts k c.args.bytes.now) history
     (record { following = inside.following; traces = slice_set inside.traces k q }))
     (sym c.in_ok-feed.ensures.ok)
-    (feeds making stands texts history inside k r old at c.args.bytes.now)
+    (feeds making stands of starts texts history inside k r old at c.args.bytes.now)
 
 pub returns-then-trace-len-clause-ok : goal.returns-then-trace-len-clause-ok
 returns-then-trace-len-clause-ok g c =
