@@ -6,7 +6,7 @@
 A right program has to have the same output in each run. Its runs that differ because of the server are in KNOWN,
 with the reason. A wrong program has to differ at its cell. By default each right program has the default runs with
 two records, or N of them with `--runs N`. `--whole` has two records and ten, and 200 pairs of faults, three times
-over; with `--times 1,3` the first and the third time alone.
+over; with `--times 1,3` the first and the third time alone, with `--ways ten,pairs` these alone.
 
 The names are those of the programs, and three more: `against` (runs that share a server which the harness doesn't
 start), `mock` (syslog-ng against the mock cluster of librdkafka, mock.c) and `interrupted` (an interrupt leaves no
@@ -226,11 +226,11 @@ def ways(given):
     if not given.whole:
         return [(drawn(given), "two records")]
     found = []
+    options = {"two": ("two records", drawn(given)), "ten": ("ten records", ["--records", "10"] + drawn(given)),
+        "pairs": ("pairs", ["--twice", "--runs", str(given.runs or 200)])}
     for time_over in given.times.split(","):
-        seed = ["--seed", time_over]
-        found += [(drawn(given) + seed, "two records, %s" % time_over),
-            (["--records", "10"] + drawn(given) + seed, "ten records, %s" % time_over),
-            (["--twice", "--runs", str(given.runs or 200)] + seed, "pairs, %s" % time_over)]
+        for what, more in (options[way] for way in given.ways.split(",")):
+            found.append((more + ["--seed", time_over], "%s, %s" % (what, time_over)))
     return found
 
 
@@ -285,6 +285,7 @@ def main():
     words.add_argument("--runs", type=int)
     words.add_argument("--whole", action="store_true")
     words.add_argument("--times", default="1,2,3")
+    words.add_argument("--ways", default="two,ten,pairs")
     words.add_argument("names", nargs="*")
     given = words.parse_args()
     trial = Trial(given)
