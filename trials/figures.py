@@ -184,15 +184,18 @@ def filled(room, built, folder, count, *kind):
 
 def opened(room, turns):
     built = build(room)
-    for what, kind in (("batches of 100 records", (1600, "100", "idempotent")), ("transactions of one record", (16000, "1")),
-                       ("no logs", None)):
+    loads = {"batches of 100 records": (1600, "100", "idempotent"), "transactions of one record": (16000, "1"),
+             "no logs": None}
+    servers = (["serve", "--partitions", "4", "--connections", "1"],
+               ["kafka", "--port", "0", "--topics", "load:4"])
+    for what, kind in loads.items():
         folder = f"{room}/opened"
         shutil.rmtree(folder, ignore_errors=True)
         if kind:
             filled(room, built, folder, *kind)
             coordinators = os.path.getsize(f"{folder}/co.log")
             what += f", {size_of(folder) / 1e6:.1f} MB, {coordinators / 1e6:.1f} of them co.log"
-        for words in (["serve", "--partitions", "4", "--connections", "1"], ["kafka", "--port", "0", "--topics", "load:4"]):
+        for words in servers:
             times, memory = [], 0
             for _ in range(turns):
                 if not kind:
