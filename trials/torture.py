@@ -6,7 +6,8 @@
 A right program has to have the same output in each run. Its runs that differ because of the server are in KNOWN,
 with the reason. A wrong program has to differ at its cell. By default each right program has the default runs with
 two records, or N of them with `--runs N`. `--whole` has two records and ten, and 200 pairs of faults, three times
-over; with `--times 1,3` the first and the third time alone, with `--ways ten,pairs` these alone.
+over; with `--times 1,3` the first and the third time alone, with `--ways ten,pairs` these alone. `--keep FOLDER`
+keeps the folders of runs that differ there, with their stories.
 
 The names are those of the programs, and three more: `against` (runs that share a server which the harness doesn't
 start), `mock` (syslog-ng against the mock cluster of librdkafka, mock.c) and `interrupted` (an interrupt leaves no
@@ -108,6 +109,8 @@ class Trial:
         words = words + ["--jobs", str(self.given.jobs), "--json", out, "--html", os.path.join(self.folder, "page.html")]
         if self.given.program and "--against" not in words:
             words += ["--program", self.given.program]
+        if self.given.keep:
+            words += ["--keep", "--dir", self.given.keep]
         begun = time.monotonic()
         ran = subprocess.run([sys.executable, os.path.join(TOP, "tools", "torture")] + words + ["--"] + command,
             stdout=subprocess.PIPE, stderr=subprocess.STDOUT, universal_newlines=True)
@@ -286,6 +289,7 @@ def main():
     words.add_argument("--whole", action="store_true")
     words.add_argument("--times", default="1,2,3")
     words.add_argument("--ways", default="two,ten,pairs")
+    words.add_argument("--keep", metavar="FOLDER")
     words.add_argument("names", nargs="*")
     given = words.parse_args()
     trial = Trial(given)
