@@ -254,6 +254,14 @@ def is_producer_id(it):
     return it.is_of_batch(43, 51) and is_refused(it.answer, it.name) and words in it.answer[1]
 
 
+def is_length(it):
+    """a batch's length, if the list says nothing of it: so changed that what comes after would be cut off; the
+    file is named, and the place from which on"""
+    words = re.search(r"from byte (\d+) on it would be cut off, and a whole batch begins at byte ", it.answer[1])
+    is_after = bool(words) and int(words[1]) > it.at
+    return it.is_of_batch(8, 12) and is_refused(it.answer, it.name) and is_after
+
+
 def is_owner(it):
     """the highest bit of an owner in a row of co.log: that no client may have the transactional id is said
     first, and then the file and the place"""
@@ -285,7 +293,7 @@ def is_line(it):
     return it.name == "folder" and it.at >= 25 and place < 21 and it.is_listed(text_of(line[:8]))
 
 
-KINDS = (is_leader_epoch, is_producer_id, is_owner, is_trace_mark, is_number, is_line)
+KINDS = (is_leader_epoch, is_producer_id, is_length, is_owner, is_trace_mark, is_number, is_line)
 
 
 def at_once(folders, task, items):

@@ -4,7 +4,8 @@
     torture.py [--program FILE] [--jobs N] [--whole] [--runs N] [NAME..]
 
 A right program has to have the same output in each run. Its runs that differ because of the server are in KNOWN,
-with the reason. A wrong program has to differ at its cell. By default each right program has the default runs with
+with the reason; one in which the client library broke the protocol, as the story of the run says, is told and
+fails nothing. A wrong program has to differ at its cell. By default each right program has the default runs with
 two records, or N of them with `--runs N`. `--whole` has two records and ten, and 200 pairs of faults, three times
 over; with `--times 1,3` the first and the third time alone, with `--ways ten,pairs` these alone. `--keep FOLDER`
 keeps the folders of runs that differ there, with their stories.
@@ -52,6 +53,8 @@ WRONG_GO = {
 }
 # Runs of right programs that aren't the same because of the server: (program, run) and the reason.
 KNOWN = {}
+# What a run's story says if the client library is at fault. Such a run is told, and fails no trial.
+OF_LIBRARY = "that is a fault of the client library"
 
 KCAT = ["kcat", "-b", "{bootstrap}", "-G", "readers", "-u", "-q", "-X", "auto.offset.reset=earliest", "-X",
     "isolation.level=read_committed", "-X", "auto.commit.interval.ms=300", "-f", "%s\\n", "bills"]
@@ -128,6 +131,9 @@ class Trial:
                 continue
             if (name, cell) in KNOWN:
                 print("known %s at %s: %s" % (name, cell, KNOWN[name, cell]))
+            elif any(OF_LIBRARY in words for words in it["story"]):
+                self.verdicts["by a fault of the client library"] += 1
+                print("known %s at %s: %s; %s" % (name, cell, it["words"], it["story"][-1]))
             else:
                 bad[cell] = "%s: %s" % (it["verdict"], it["words"])
         self.verdicts.update(it["verdict"] for it in runs.values())
