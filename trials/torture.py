@@ -277,7 +277,6 @@ def in_go(trial):
 
 def not_ours(trial):
     """Programs that are installed, for what they promise."""
-    drawn = ["--runs", str(trial.given.runs)] if trial.given.runs else []
     for name, (tool, package, more, command) in OTHERS.items():
         if not trial.is_asked(name):
             continue
