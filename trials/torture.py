@@ -127,16 +127,16 @@ class Trial:
         status, runs, said, seconds = self.torture(words, command)
         bad = {}
         for cell, it in runs.items():
+            is_of_library = it["verdict"] == "differs" and any(OF_LIBRARY in line for line in it["story"])
+            self.verdicts["by a fault of the client library" if is_of_library else it["verdict"]] += 1
             if it["verdict"] in ("same", "not reached"):
                 continue
             if (name, cell) in KNOWN:
                 print("known %s at %s: %s" % (name, cell, KNOWN[name, cell]))
-            elif any(OF_LIBRARY in words for words in it["story"]):
-                self.verdicts["by a fault of the client library"] += 1
+            elif is_of_library:
                 print("known %s at %s: %s; %s" % (name, cell, it["words"], it["story"][-1]))
             else:
                 bad[cell] = "%s: %s" % (it["verdict"], it["words"])
-        self.verdicts.update(it["verdict"] for it in runs.values())
         missed = sum(it["verdict"] == "not reached" for it in runs.values())
         print("%s, %s: %d runs in %d s, %d not reached" % (name, what, len(runs), seconds, missed))
         if not runs:
