@@ -2,7 +2,7 @@
 """Changes each bit of the files of a server's folder, cuts those that have checksums beside them, and
 starts the server again.
 
-    bits.py PROGRAM [--every N] [--jobs N]
+    bits.py PROGRAM [--every N] [--jobs N] [--unlisted]
 
 A server writes a record to each of two partitions, and a transaction that commits a record and an
 offset of a group, and is killed. Then, each on a copy of its folder:
@@ -17,8 +17,10 @@ offset of a group, and is killed. Then, each on a copy of its folder:
   co.log have no checksum it says so on standard error, and from which byte on;
 - on the folder as it was left the server starts without a word, and so it does once more.
 
---every N changes each Nth bit, and cuts at each Nth byte: 1 by default, which makes some 9,000 starts.
---jobs N makes so many starts at a time (4). Ends with status 1 if one of these isn't so.
+--every N changes each Nth bit, and cuts at each Nth byte: 1 by default, which makes some 11,000 starts.
+--jobs N makes so many starts at a time (4). With --unlisted a changed file has no lines in the list of
+the folder's files, as bytes after a file's first 4,096 have none: then a log's own checksums have to
+find the bit. Ends with status 1 if one of these isn't so.
 """
 import os
 import queue
@@ -34,6 +36,8 @@ from concurrent.futures import ThreadPoolExecutor
 
 import edges
 from edges import Client, begin, commit, plain_batch, say, text
+
+IS_UNLISTED = "--unlisted" in sys.argv
 
 # Which file a start names for one that is changed, if it is another.
 NAMED = {"co.sum": "co.log", "topics.sum": "topics", "clients.sum": "clients"}
@@ -60,6 +64,15 @@ def copy_of(left, room):
     return copy
 
 
+def take_from_list(copy, name):
+    """Takes the lines of a file out of the list of the folder's files."""
+    with open(f"{copy}/folder", "rb") as it:
+        text = it.read()
+    lines = [text[at:at + 22] for at in range(25, len(text), 22)]
+    with open(f"{copy}/folder", "wb") as it:
+        it.write(text[:25] + b"".join(line for line in lines if line[:8].decode().strip() != name))
+
+
 class Folder:
     """A copy of a folder, in which one file is another."""
 
@@ -78,6 +91,8 @@ class Folder:
         else:
             with open(f"{copy}/{name}", "wb") as it:
                 it.write(content)
+        if IS_UNLISTED:
+            take_from_list(copy, NAMED.get(name, name))
         return start(copy)
 
 
@@ -190,9 +205,15 @@ class Change:
         return max(it for it in places if it <= self.at)
 
     def is_of_batch(self, first, end):
-        """Whether the bit is of these bytes of a batch, which isn't the first of its log."""
-        is_there = re.match(r"p.\.log", self.name) and self.begin() > 0
+        """Whether the bit is of these bytes of a batch, of which the list says nothing."""
+        is_there = re.match(r"p.\.log", self.name) and (IS_UNLISTED or self.begin() > 0)
         return is_there and first <= self.at - self.begin() < end
+
+    def may_be_read(self, before):
+        """What a client may read: the same as before, or a log with this bit changed."""
+        fetched, offset = before
+        places = [it.start() for it in re.finditer(re.escape(self.content), fetched)]
+        return [before] + [(fetched[:at] + self.changed + fetched[at + len(self.content):], offset) for at in places]
 
     def is_listed(self, name):
         """Whether the start was refused since this file isn't the one of the list."""
@@ -220,17 +241,25 @@ class Change:
 
 
 def is_leader_epoch(it):
-    """a batch's leader epoch, after the log's first append: no checksum is of it, and it says nothing of
+    """a batch's leader epoch, if the list says nothing of it: no checksum is of it, and it says nothing of
     records; the server starts, and takes the batch for one of another program"""
     words = f"{it.name}: another program wrote a batch; pages are steps of the node\n"
     return it.is_of_batch(12, 16) and it.answer == (None, words)
 
 
 def is_producer_id(it):
-    """a batch's producer id, after the log's first append: ids that no server would allocate are named,
+    """a batch's producer id, if the list says nothing of it: ids that no server would allocate are named,
     with the file and without the place, before the batch's own checksum is looked at"""
     words = f"/{it.name}: its producer ids are "
     return it.is_of_batch(43, 51) and is_refused(it.answer, it.name) and words in it.answer[1]
+
+
+def is_length(it):
+    """a batch's length, if the list says nothing of it: so changed that what comes after would be cut off; the
+    file is named, and the place from which on"""
+    words = re.search(r"from byte (\d+) on it would be cut off, and a whole batch begins at byte ", it.answer[1])
+    is_after = bool(words) and int(words[1]) > it.at
+    return it.is_of_batch(8, 12) and is_refused(it.answer, it.name) and is_after
 
 
 def is_owner(it):
@@ -264,7 +293,7 @@ def is_line(it):
     return it.name == "folder" and it.at >= 25 and place < 21 and it.is_listed(text_of(line[:8]))
 
 
-KINDS = (is_leader_epoch, is_producer_id, is_owner, is_trace_mark, is_number, is_line)
+KINDS = (is_leader_epoch, is_producer_id, is_length, is_owner, is_trace_mark, is_number, is_line)
 
 
 def at_once(folders, task, items):
@@ -292,7 +321,7 @@ def change_bits(folders, name, every, before, counts):
     others = []
     for it in changes:
         kinds = [kind for kind in KINDS if kind(it)]
-        if it.read and it.read not in (before, (before[0].replace(content, it.changed), before[1])):
+        if it.read and it.read not in it.may_be_read(before):
             say(f"a client reads the same: {it}", False, it.read)
         if kinds:
             counts[kinds[0]] += 1
@@ -340,6 +369,8 @@ def main():
         folders = [Folder(left, f"{room}/{it}") for it in range(jobs)]
         counts = {kind: 0 for kind in KINDS}
         names = [it for it in sorted(os.listdir(left)) if folder.content(it)]
+        if IS_UNLISTED:
+            names.remove("folder")
         bits = sum(change_bits(folders, it, every, before, counts) for it in names)
         for name, sums in (("co.log", "co.sum"), ("topics", "topics.sum"), ("clients", "clients.sum")):
             cut(folders, name, sums, every)

@@ -225,6 +225,14 @@ def left():
     server.end()
 
 
+def say_it_is_said(server, line):
+    """A thread of its own writes to standard error, a little later perhaps."""
+    begun = time.time()
+    while line not in server.words() and time.time() < begun + 10:
+        time.sleep(0.1)
+    say("standard error says so", server.words().count(line) == 1, server.words())
+
+
 def full_of_ids():
     server = Server()
     client = Client(server.port)
@@ -232,8 +240,7 @@ def full_of_ids():
     say("100,000 ids are granted", codes == {0}, codes)
     say("one more is to ask again", {init(client, f"u{number}")[0] for number in range(5)} == {14})
     say("those that are there are served", init(client, "t5")[0] == 0)
-    words = server.words()
-    say("standard error says so", words.count("no more transactional ids are taken") == 1, words)
+    say_it_is_said(server, "no more transactional ids are taken")
     server.end()
 
 
@@ -253,8 +260,7 @@ def full_of_groups():
     codes = {join(client, f"j{number}")[0] for number in range(5)}
     say("one more is to ask again", codes == {14}, codes)
     say("so are offsets of another group", commit(client, "another") == 14)
-    words = server.words()
-    say("standard error says so", words.count("no more groups are taken") == 1, words)
+    say_it_is_said(server, "no more groups are taken")
     server.end()
 
 

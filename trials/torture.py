@@ -4,14 +4,18 @@
     torture.py [--program FILE] [--jobs N] [--whole] [--runs N] [NAME..]
 
 A right program has to have the same output in each run. Its runs that differ because of the server are in KNOWN,
-with the reason. A wrong program has to differ at its cell. By default each right program has the default runs with
-two records, or N of them with `--runs N`. `--whole` has two records and ten, and 200 pairs of faults, three times over.
+with the reason; one in which the client library broke the protocol, as the story of the run says, is told and
+fails nothing. A wrong program has to differ at its cell. By default each right program has the default runs with
+two records, or N of them with `--runs N`. `--whole` has two records and ten, and 200 pairs of faults, three times
+over; with `--times 1,3` the first and the third time alone, with `--ways ten,pairs` these alone. `--keep FOLDER`
+keeps the folders of runs that differ there, with their stories.
 
-The names are those of the programs, and two more: `against` (runs that share a server which the harness doesn't
-start) and `interrupted` (an interrupt leaves no process and no folder). A program that isn't installed is skipped,
-with a line that says so.
+The names are those of the programs, and three more: `against` (runs that share a server which the harness doesn't
+start), `mock` (syslog-ng against the mock cluster of librdkafka, mock.c) and `interrupted` (an interrupt leaves no
+process and no folder). A program that isn't installed is skipped, with a line that says so.
 """
 import argparse
+import collections
 import json
 import os
 import shutil
@@ -49,6 +53,8 @@ WRONG_GO = {
 }
 # Runs of right programs that aren't the same because of the server: (program, run) and the reason.
 KNOWN = {}
+# What a run's story says if the client library is at fault. Such a run is told, and fails no trial.
+OF_LIBRARY = "that is a fault of the client library"
 
 KCAT = ["kcat", "-b", "{bootstrap}", "-G", "readers", "-u", "-q", "-X", "auto.offset.reset=earliest", "-X",
     "isolation.level=read_committed", "-X", "auto.commit.interval.ms=300", "-f", "%s\\n", "bills"]
@@ -85,6 +91,7 @@ OTHERS = {
 class Trial:
     def __init__(self, given):
         self.given, self.passed, self.failed, self.folder = given, 0, 0, tempfile.mkdtemp(prefix="kx-trial-")
+        self.verdicts = collections.Counter()
 
     def is_asked(self, name):
         return not self.given.names or name in self.given.names
@@ -103,8 +110,10 @@ class Trial:
         if os.path.exists(out):
             os.unlink(out)
         words = words + ["--jobs", str(self.given.jobs), "--json", out, "--html", os.path.join(self.folder, "page.html")]
-        if self.given.program:
+        if self.given.program and "--against" not in words:
             words += ["--program", self.given.program]
+        if self.given.keep:
+            words += ["--keep", "--dir", self.given.keep]
         begun = time.monotonic()
         ran = subprocess.run([sys.executable, os.path.join(TOP, "tools", "torture")] + words + ["--"] + command,
             stdout=subprocess.PIPE, stderr=subprocess.STDOUT, universal_newlines=True)
@@ -118,10 +127,14 @@ class Trial:
         status, runs, said, seconds = self.torture(words, command)
         bad = {}
         for cell, it in runs.items():
+            is_of_library = it["verdict"] == "differs" and any(OF_LIBRARY in line for line in it["story"])
+            self.verdicts["by a fault of the client library" if is_of_library else it["verdict"]] += 1
             if it["verdict"] in ("same", "not reached"):
                 continue
             if (name, cell) in KNOWN:
                 print("known %s at %s: %s" % (name, cell, KNOWN[name, cell]))
+            elif is_of_library:
+                print("known %s at %s: %s; %s" % (name, cell, it["words"], it["story"][-1]))
             else:
                 bad[cell] = "%s: %s" % (it["verdict"], it["words"])
         missed = sum(it["verdict"] == "not reached" for it in runs.values())
@@ -150,6 +163,21 @@ class Trial:
                 server.kill()
         self.look("against a server that is there", {name: it["verdict"] for name, it in runs.items()} or said[-800:],
             {"EndTxn#1:kill-after": "differs", "Produce#1:kill-after": "same"})
+
+    def mock(self):
+        """A program that isn't ours, against a broker that isn't."""
+        if shutil.which("syslog-ng") is None or not os.path.exists("/usr/include/librdkafka/rdkafka_mock.h"):
+            print("skipped: syslog-ng or librdkafka isn't installed (Debian's syslog-ng-mod-rdkafka, librdkafka-dev)")
+            return
+        built, words = os.path.join(self.folder, "mock"), OTHERS["syslog-ng's kafka-c"][2]
+        subprocess.run(["cc", "-o", built, os.path.join(TOP, "trials", "mock.c"), "-lrdkafka"], check=True)
+        with subprocess.Popen([built], stdout=subprocess.PIPE, stderr=subprocess.DEVNULL) as cluster:
+            try:
+                address = cluster.stdout.readline().split()[1].decode()
+                words = [it.replace("paid", "paid:4") for it in words] + ["--against", address] + drawn(self.given)
+                self.right("syslog-ng's kafka-c", words, ["sh", "-c", SYSLOG_NG], "against the mock cluster")
+            finally:
+                cluster.kill()
 
     def interrupted(self):
         """An interrupt while runs are under way ends all that was started."""
@@ -198,17 +226,20 @@ def go(trial):
     return built
 
 
+def drawn(given):
+    return ["--runs", str(given.runs)] if given.runs else []
+
+
 def ways(given):
     """How each right program is run: options, and their name."""
-    drawn = ["--runs", str(given.runs)] if given.runs else []
     if not given.whole:
-        return [(drawn, "two records")]
+        return [(drawn(given), "two records")]
     found = []
-    for time_over in (1, 2, 3):
-        seed = ["--seed", str(time_over)]
-        found += [(drawn + seed, "two records, %d" % time_over),
-            (["--records", "10"] + drawn + seed, "ten records, %d" % time_over),
-            (["--twice", "--runs", str(given.runs or 200)] + seed, "pairs, %d" % time_over)]
+    options = {"two": ("two records", drawn(given)), "ten": ("ten records", ["--records", "10"] + drawn(given)),
+        "pairs": ("pairs", ["--twice", "--runs", str(given.runs or 200)])}
+    for time_over in given.times.split(","):
+        for what, more in (options[way] for way in given.ways.split(",")):
+            found.append((more + ["--seed", time_over], "%s, %s" % (what, time_over)))
     return found
 
 
@@ -246,14 +277,13 @@ def in_go(trial):
 
 def not_ours(trial):
     """Programs that are installed, for what they promise."""
-    drawn = ["--runs", str(trial.given.runs)] if trial.given.runs else []
     for name, (tool, package, more, command) in OTHERS.items():
         if not trial.is_asked(name):
             continue
         if shutil.which(tool) is None:
             print("skipped: %s isn't installed (Debian's %s)" % (tool, package))
             continue
-        trial.right(name, more + drawn, command, more[more.index("--promise") + 1])
+        trial.right(name, more + drawn(trial.given), command, more[more.index("--promise") + 1])
 
 
 def main():
@@ -262,6 +292,9 @@ def main():
     words.add_argument("--jobs", type=int, default=os.cpu_count())
     words.add_argument("--runs", type=int)
     words.add_argument("--whole", action="store_true")
+    words.add_argument("--times", default="1,2,3")
+    words.add_argument("--ways", default="two,ten,pairs")
+    words.add_argument("--keep", metavar="FOLDER")
     words.add_argument("names", nargs="*")
     given = words.parse_args()
     trial = Trial(given)
@@ -273,8 +306,12 @@ def main():
             print("skipped: confluent_kafka isn't installed (Debian's python3-confluent-kafka)")
         in_go(trial)
         not_ours(trial)
+        if trial.is_asked("mock"):
+            trial.mock()
     finally:
         shutil.rmtree(trial.folder, ignore_errors=True)
+    counts = ", ".join("%d %s" % (count, name) for name, count in sorted(trial.verdicts.items()))
+    print("runs of right programs: %s" % (counts or "none"))
     print("%d passed, %d failed" % (trial.passed, trial.failed))
     return 1 if trial.failed else 0
 

@@ -9,7 +9,7 @@ The modules, in an order in which they can be read:
   the state of a run while the program works, `run` is a run from its input (`inputs`) to its output, and `names`
   keeps runs apart that share a Kafka.
 - All runs: `options` reads the command line, `plan` chooses the runs, `torture` makes them, `verdict` compares.
-- The report: `story` and `late` say what happened, `advice` names mistakes, `table`, `page` and `report` write.
+- The report: `story`, `late` and `unstable` say what happened, `advice` names mistakes, `table`, `page` and `report` write.
 
 The tests are in test_*.py, with `scripted` as their server and client: python3 -m unittest discover -s tools/torture.
 """

@@ -7,6 +7,7 @@ import time
 import late
 import layouts
 import records
+import unstable
 from client import Refused
 from server import Server
 from watch import Watch
@@ -235,7 +236,7 @@ class Run(Watch):
             state, words = "ended", ""
         return Result(self.case, state, words, output, self.events, self.fired, time.monotonic() - self.begun, audit,
             self.points(), self.last_words(), self.committing(), self.session, self.facts(), self.ends,
-            late.sentences(self.transacted, self.kills))
+            late.sentences(self.transacted, self.kills) + unstable.sentences(self.events))
 
     def last_words(self):
         """Those of the last start that ended by itself, or else of the last start that wrote some."""
