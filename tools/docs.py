@@ -346,7 +346,7 @@ def plain(text):
     text = re.sub(r"!?\[([^\]]*)\]\([^)]*\)", r"\1", text)
     text = re.sub(r"`[^`]*`", "`", text)
     text = re.sub(r"`(?:(?:,|,? and| or) (?:kx_\w+ )?`)+", "`", text)
-    name = r"\bkx_\w+(?: [\d+]+[†*]?(?: \(built \d+\))?)?"
+    name = r"\bkx_\w+(?: [\d+]+[†*~]?(?: \(built \d+\))?)?"
     text = re.sub(rf"{name}(?:(?:,|,? and) {name})+", "kx", text)
     return text.replace("*", "").replace("`", "Name")
 

@@ -114,12 +114,12 @@ impl<'a, L: Readable, J: Naming, R: Wait + Clock + Drop> Session<'a, L, J, R> {
         &self,
         group: GroupId,
         known: &mut KnownGroup,
-        by: Committer,
+        by: &Committer,
         read: u64,
     ) -> Result<Option<ErrorCode>, Closed> {
         self.move_on(group, known, read)?;
         let now = self.now()?;
-        Ok(match by {
+        Ok(match *by {
             Committer::Anyone => None,
             Committer::Member { member, generation } => {
                 match known.group.commit(member, generation, true, now) {
@@ -156,7 +156,7 @@ impl<'a, L: Readable, J: Naming, R: Wait + Clock + Drop> Session<'a, L, J, R> {
     fn ask_to_commit(
         &self,
         txn: TxnId,
-        held: Held,
+        held: &Held,
         first: i32,
         commit: &Commit,
     ) -> Result<OffsetsReply, Closed> {
@@ -172,7 +172,7 @@ impl<'a, L: Readable, J: Naming, R: Wait + Clock + Drop> Session<'a, L, J, R> {
                 group: commit.group,
                 member: commit.member,
                 generation: commit.generation,
-                held,
+                held: *held,
                 first_sequence: first,
                 offsets: Offsets::from_vec(offsets),
             });
@@ -190,7 +190,7 @@ impl<'a, L: Readable, J: Naming, R: Wait + Clock + Drop> Session<'a, L, J, R> {
     fn ask_to_commit_claim(
         &self,
         txn: TxnId,
-        held: Held,
+        held: &Held,
         first: i32,
         claim: Claim<'_>,
     ) -> Result<ErrorCode, Closed> {
@@ -204,7 +204,7 @@ impl<'a, L: Readable, J: Naming, R: Wait + Clock + Drop> Session<'a, L, J, R> {
         for _ in 0..self.most_asked() {
             let read = self.now()?;
             let mut group_now = known.lock(self.rt);
-            if let Some(code) = self.refusal_in_transaction(group, &mut group_now, by, read)? {
+            if let Some(code) = self.refusal_in_transaction(group, &mut group_now, &by, read)? {
                 return Ok(code);
             }
             let commit = self.commit_as_guest(group, &mut group_now, offsets)?;
@@ -235,7 +235,7 @@ impl<'a, L: Readable, J: Naming, R: Wait + Clock + Drop> Session<'a, L, J, R> {
         let refusal = self.refusal_in_transaction(
             claim.group,
             &mut claim.known.lock(self.rt),
-            claim.by,
+            &claim.by,
             read,
         )?;
         if let Some(code) = refusal {
@@ -246,7 +246,7 @@ impl<'a, L: Readable, J: Naming, R: Wait + Clock + Drop> Session<'a, L, J, R> {
             None => Err(Closed),
             Some(BatchVerdict::Refused(code)) => Ok(code),
             Some(BatchVerdict::Send { held, first }) => {
-                let code = self.ask_to_commit_claim(txn, held, first, claim)?;
+                let code = self.ask_to_commit_claim(txn, &held, first, claim)?;
                 Ok(producer.offsets_answered(code))
             }
         }
@@ -271,7 +271,7 @@ impl<'a, L: Readable, J: Naming, R: Wait + Clock + Drop> Session<'a, L, J, R> {
         let Some((txn, producer)) = self.producer_of(request.txn) else {
             return Ok(unknown);
         };
-        let known = match self.group_for(group, by)? {
+        let known = match self.group_for(group, &by)? {
             Ok(known) => known,
             Err(code) => return Ok(code),
         };
@@ -395,7 +395,7 @@ impl<'a, L: Readable, J: Naming, R: Wait + Clock + Drop> Session<'a, L, J, R> {
         // Until the core has answered, it isn't known if the transaction is: the next commit then
         // begins with a new pair, which aborts it.
         *own = None;
-        let reply = self.ask_to_commit(txn, held, 0, commit)?;
+        let reply = self.ask_to_commit(txn, &held, 0, commit)?;
         if is_of_another_generation(reply.code) {
             *own = Some(held);
             return Ok(None);
@@ -409,9 +409,9 @@ impl<'a, L: Readable, J: Naming, R: Wait + Clock + Drop> Session<'a, L, J, R> {
 
     // Why offsets outside of a transaction aren't committed in a group, if they aren't. A client that
     // doesn't say which member it is commits in a group without members alone.
-    fn refusal_alone(&self, known: &mut KnownGroup, by: Committer) -> Result<Option<i16>, Closed> {
+    fn refusal_alone(&self, known: &mut KnownGroup, by: &Committer) -> Result<Option<i16>, Closed> {
         let now = self.now()?;
-        Ok(match by {
+        Ok(match *by {
             Committer::Anyone if known.has_members() => Some(GroupFault::UnknownMember.number()),
             Committer::Anyone => None,
             Committer::Member { member, generation } => {
@@ -429,7 +429,7 @@ impl<'a, L: Readable, J: Naming, R: Wait + Clock + Drop> Session<'a, L, J, R> {
         &self,
         group: GroupId,
         known: &Mutex<KnownGroup>,
-        by: Committer,
+        by: &Committer,
         offsets: Vec<PartitionOffset>,
     ) -> Result<Result<(Commit, Arc<OwnTxn>), i16>, Closed> {
         let read = self.now()?;
@@ -451,7 +451,7 @@ impl<'a, L: Readable, J: Naming, R: Wait + Clock + Drop> Session<'a, L, J, R> {
         &self,
         group: GroupId,
         known: &Mutex<KnownGroup>,
-        by: Committer,
+        by: &Committer,
         offsets: Vec<PartitionOffset>,
     ) -> Result<i16, Closed> {
         let mut offsets = offsets;
@@ -474,7 +474,7 @@ impl<'a, L: Readable, J: Naming, R: Wait + Clock + Drop> Session<'a, L, J, R> {
     fn group_for(
         &self,
         group: GroupId,
-        committer: Committer,
+        committer: &Committer,
     ) -> Result<Result<Arc<Mutex<KnownGroup>>, i16>, Closed> {
         match committer {
             Committer::Anyone => Ok(self.enter_group(group)?.ok_or(ASK_AGAIN)),
@@ -498,11 +498,11 @@ impl<'a, L: Readable, J: Naming, R: Wait + Clock + Drop> Session<'a, L, J, R> {
         let Some(committer) = committer else {
             return Ok(ErrorCode::UnknownMemberId.number());
         };
-        let known = match self.group_for(group, committer)? {
+        let known = match self.group_for(group, &committer)? {
             Ok(known) => known,
             Err(code) => return Ok(code),
         };
-        let code = self.commit_code_in(group, &known, committer, offsets);
+        let code = self.commit_code_in(group, &known, &committer, offsets);
         self.link.shared.groups.leave(self.rt, &group);
         code
     }
