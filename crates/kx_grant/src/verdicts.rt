@@ -16,10 +16,10 @@ pub enum InitVerdict {
 pub enum Granting {
     /// This id and epoch, from now on.
     Granted(Held),
-    /// Nothing: it has the id and epoch that the client named itself, as a server that keeps no files
-    /// may after a restart. The core is asked once more, whose next pair is another.
+    /// The core answered the id and epoch that the client named itself, as it may after a restart
+    /// without files, so nothing is granted. Asked once more, it answers another pair.
     AskAgain,
-    /// Nothing, and the response has this code.
+    /// The client is granted no id, and its response has this code.
     Refused(ErrorCode),
 }
 

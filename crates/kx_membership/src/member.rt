@@ -216,7 +216,7 @@ pub(crate) fn note_gone(members: &[Member], going: &Going, gone: &mut Vec<Client
     }
 }
 
-// None waits any more for what is assigned to it, and their sessions begin anew.
+// The members wait for their assignments no longer, and their sessions begin anew at this time.
 pub(crate) fn wake_all(members: &mut [Member], now: u64)
     ensures { members.new ≡ map (woken now) members.old }
 {
@@ -227,7 +227,7 @@ pub(crate) fn wake_all(members: &mut [Member], now: u64)
     }
 }
 
-// The core counts each; none waits, and their sessions begin anew.
+// The core counts each of the members; none waits, and their sessions begin anew at this time.
 pub(crate) fn count_all(members: &mut [Member], now: u64)
     ensures { members.new ≡ map (counted now) members.old }
 {

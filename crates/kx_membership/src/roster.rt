@@ -90,7 +90,7 @@ impl Roster {
         }
     }
 
-    // None waits any more for what is assigned to it, and sessions begin anew.
+    // The members wait for their assignments no longer, and their sessions begin anew at this time.
     pub(crate) fn wake(&mut self, now: u64)
         ensures { self.new ≡ all_woken now self.old }
     {

@@ -118,7 +118,7 @@ impl Reading {
         self.items
     }
 
-    /// One more item is done with, which took the next `used` bytes.
+    /// Goes on after an item that is `used` bytes long: the item counts, and its bytes were read.
     pub(crate) fn advance(&mut self, used: usize)
         requires { used ≤ length self.old.unread }
         ensures { self.new ≡ advanced used self.old }
