@@ -1,13 +1,15 @@
 #!/usr/bin/env python3
 """Schedules of requests in which a stock client was once refused or expired without a reason.
 
-    schedules.py [PROGRAM]
+    schedules.py [PROGRAM [MEMBERS]]
 
 A member that waits for its assignment; members whose process or connection ended; offsets beside a rebalance;
-a disk that stalls; servers that are killed between a listing and what follows; ids that nobody knows.
+a disk that stalls; servers that are killed between a listing and what follows; ids that nobody knows; a group of
+MEMBERS (1,000), for which a program without proof takes minutes.
 Each request and answer is made and read by the harness of torture (tools/torture), apart from the library.
 """
 import os
+import resource
 import struct
 import subprocess
 import sys
@@ -44,8 +46,8 @@ int fdatasync(int file) {
 class Peer(client.Connection):
     """A connection that can send a request now and read its answer later."""
 
-    def __init__(self, server, **options):
-        super().__init__(("127.0.0.1", server.port), 60)
+    def __init__(self, server, patience=60, **options):
+        super().__init__(("127.0.0.1", server.port), patience)
         self.sent = []
 
     def send(self, name, **fields):
@@ -141,7 +143,7 @@ def dead_connections():
             ghost.joins(session=30000)
             time.sleep(0.02)
             ghost.close()
-        time.sleep(0.5)
+        time.sleep(2)
         comes = Peer(server)
         comes.joins(session=30000)
         time.sleep(0.3)
@@ -154,14 +156,15 @@ def dead_connections():
 class Member(threading.Thread):
     """A member that joins, and joins again whenever its group does."""
 
-    def __init__(self, server):
+    def __init__(self, server, pause):
         super().__init__(daemon=True)
         self.server, self.generation, self.assigned, self.ends = server, None, None, False
+        self.pause = pause
 
     def run(self):
-        peer, member = Peer(self.server), ""
+        peer, member = Peer(self.server, 600), ""
         while not self.ends:
-            peer.joins(member=member, session=30000)
+            peer.joins(member=member, session=60000, rebalance=120000)
             joined = peer.read()
             member = joined["member"]
             everybody = [it["member"] for it in joined["members"]]
@@ -174,30 +177,61 @@ class Member(threading.Thread):
                     if code(peer.read()):
                         self.generation = None
                         break
-                    time.sleep(0.2)
+                    time.sleep(self.pause)
         peer.close()
 
 
-def many_members():
-    """Sixty members join at once, and settle in one generation."""
+def many_members(count):
+    """So many members join at once, and settle in one generation."""
     with Server(program(), "--topics", "t:1") as server:
-        members = [Member(server) for _ in range(60)]
+        members = [Member(server, max(0.2, count / 400)) for _ in range(count)]
         begun = time.time()
         for it in members:
             it.start()
-        while time.time() < begun + 60:
+        while time.time() < begun + 60 + count / 2:
             found = {it.generation for it in members}
             if len(found) == 1 and None not in found:
                 break
             time.sleep(0.05)
         took = time.time() - begun
-        trial.look("sixty members are in one generation", len(found) == 1 and None not in found, True)
+        trial.look(f"{count} members are in one generation", len(found) == 1 and None not in found, True)
         trial.look("each was assigned what its leader gave it", all(it.assigned for it in members), True)
-        print(f"   after {took:.1f} s")
+        print(f"   after {took:.1f} s, in generation {max(it.generation or 0 for it in members)}")
         for it in members:
             it.ends = True
         for it in members:
             it.join(10)
+
+
+def sixty_members():
+    """Sixty members."""
+    many_members(60)
+
+
+def as_many_members_as_may_be():
+    """A group with as many members as it may have."""
+    many_members(int(sys.argv[2]) if len(sys.argv) > 2 else 1000)
+
+
+def forged_ids():
+    """Somebody names a member by an id that isn't the one that was answered to it."""
+    with Server(program(), "--topics", "t:1") as server:
+        peer, other = Peer(server), Peer(server)
+        joined = settled(peer)
+        member, stranger = joined["member"], "other"
+        ids = {member}
+        for group in ("g2", "g3"):
+            other.joins(group=group)
+            ids.add(other.read()["member"])
+        trial.look("three members have three ids", len(ids), 3)
+        changed = member[:-1] + ("0" if member[-1] != "0" else "1")
+        for forged in (changed, member.replace("schedules", stranger), member.upper(), member + "-1", "schedules-1", "-1"):
+            other.send("LeaveGroup", group="g", member=forged)
+            trial.look(f"{forged} can't leave", code(other.read()), 25)
+            other.send("Heartbeat", group="g", generation=joined["generation"], member=forged)
+            trial.look(f"{forged} isn't heard", code(other.read()), 25)
+        peer.beats(joined)
+        trial.look("the member goes on", code(peer.read()), 0)
 
 
 def offsets_while_members_join():
@@ -329,8 +363,10 @@ def ids_of_another_server():
             trial.look("with which a transaction commits", transaction(peer, held, txn), 0)
 
 
-for schedule in (slow_leader, dead_member, dead_connections, many_members, offsets_while_members_join, stalled_disk,
-        kills_after_a_listing, ids_of_another_server):
+# (each connection is an open file)
+resource.setrlimit(resource.RLIMIT_NOFILE, (resource.getrlimit(resource.RLIMIT_NOFILE)[1],) * 2)
+for schedule in (slow_leader, dead_member, dead_connections, sixty_members, as_many_members_as_may_be, forged_ids,
+        offsets_while_members_join, stalled_disk, kills_after_a_listing, ids_of_another_server):
     try:
         schedule()
     except (OSError, struct.error, client.Refused) as error:

@@ -17,7 +17,7 @@ use kx_kafka::{
     OffsetCommitRequest, OffsetFetchPartition, OffsetFetchRequest, TopicPartition,
     TxnOffsetCommitRequest,
 };
-use kx_membership::{GroupFault, number_in};
+use kx_membership::{Group, GroupFault};
 use kx_message::{
     ClientId, EndTxn, ErrorCode, GroupId, Held, Message, OffsetFetch, OffsetFetchReply, Offsets,
     OffsetsReply, Outcome, PartitionId, PartitionOffset, Timeout, TxnId, TxnOffsetCommit,
@@ -59,8 +59,8 @@ struct Commit {
 
 // Who commits offsets: a member of a generation, or a client that doesn't say.
 #[derive(Clone, Copy)]
-enum Committer {
-    Member { member: ClientId, generation: i32 },
+enum Committer<'t> {
+    Member { id: &'t [u8], generation: i32 },
     Anyone,
 }
 
@@ -69,7 +69,7 @@ enum Committer {
 struct Claim<'g> {
     group: GroupId,
     known: &'g Mutex<KnownGroup>,
-    by: Committer,
+    by: Committer<'g>,
     offsets: Vec<PartitionOffset>,
 }
 
@@ -88,17 +88,31 @@ struct TxnCommit<'t> {
     group: &'t [u8],
     // the offsets, None if the core can't hold them
     held: Option<Held>,
-    // who commits, None if the text of the member's id is no id
-    committer: Option<Committer>,
+    committer: Committer<'t>,
 }
 
-// Who commits offsets, by the member's id and generation. None if the id is none of a member.
-fn committer_of(id: &[u8], generation: i32) -> Option<Committer> {
+// Who commits offsets, by the member's id and generation.
+fn committer_of(id: &[u8], generation: i32) -> Committer<'_> {
     if id.is_empty() && generation < 0 {
-        return Some(Committer::Anyone);
+        Committer::Anyone
+    } else {
+        Committer::Member { id, generation }
     }
-    let member = number_in(id)?;
-    Some(Committer::Member { member, generation })
+}
+
+// Whether the member with this id may commit offsets in its generation. If it may, its session begins
+// anew.
+fn commit_of(
+    group: &mut Group,
+    id: &[u8],
+    generation: i32,
+    in_transaction: bool,
+    now: u64,
+) -> Result<(), GroupFault> {
+    let Some(number) = group.number_of(id) else {
+        return Err(GroupFault::UnknownMember);
+    };
+    group.commit(number, generation, in_transaction, now)
 }
 
 impl<'a, L: Readable, J: Naming, R: Wait + Clock + Drop> Session<'a, L, J, R> {
@@ -114,15 +128,15 @@ impl<'a, L: Readable, J: Naming, R: Wait + Clock + Drop> Session<'a, L, J, R> {
         &self,
         group: GroupId,
         known: &mut KnownGroup,
-        by: &Committer,
+        by: &Committer<'_>,
         read: u64,
     ) -> Result<Option<ErrorCode>, Closed> {
         self.move_on(group, known, read)?;
         let now = self.now()?;
         Ok(match *by {
             Committer::Anyone => None,
-            Committer::Member { member, generation } => {
-                match known.group.commit(member, generation, true, now) {
+            Committer::Member { id, generation } => {
+                match commit_of(&mut known.group, id, generation, true, now) {
                     Ok(()) => None,
                     Err(GroupFault::IllegalGeneration) => Some(ErrorCode::IllegalGeneration),
                     Err(_) => Some(ErrorCode::UnknownMemberId),
@@ -262,9 +276,7 @@ impl<'a, L: Readable, J: Naming, R: Wait + Clock + Drop> Session<'a, L, J, R> {
         let Some(group) = group_of(request.group) else {
             return Ok(GroupCode::InvalidGroupId.number());
         };
-        let Some(by) = request.committer else {
-            return Ok(unknown);
-        };
+        let by = request.committer;
         let Some(held) = request.held else {
             return Ok(unknown);
         };
@@ -409,13 +421,17 @@ impl<'a, L: Readable, J: Naming, R: Wait + Clock + Drop> Session<'a, L, J, R> {
 
     // Why offsets outside of a transaction aren't committed in a group, if they aren't. A client that
     // doesn't say which member it is commits in a group without members alone.
-    fn refusal_alone(&self, known: &mut KnownGroup, by: &Committer) -> Result<Option<i16>, Closed> {
+    fn refusal_alone(
+        &self,
+        known: &mut KnownGroup,
+        by: &Committer<'_>,
+    ) -> Result<Option<i16>, Closed> {
         let now = self.now()?;
         Ok(match *by {
             Committer::Anyone if known.has_members() => Some(GroupFault::UnknownMember.number()),
             Committer::Anyone => None,
-            Committer::Member { member, generation } => {
-                match known.group.commit(member, generation, false, now) {
+            Committer::Member { id, generation } => {
+                match commit_of(&mut known.group, id, generation, false, now) {
                     Ok(()) => None,
                     Err(fault) => Some(fault.number()),
                 }
@@ -429,7 +445,7 @@ impl<'a, L: Readable, J: Naming, R: Wait + Clock + Drop> Session<'a, L, J, R> {
         &self,
         group: GroupId,
         known: &Mutex<KnownGroup>,
-        by: &Committer,
+        by: &Committer<'_>,
         offsets: Vec<PartitionOffset>,
     ) -> Result<Result<(Commit, Arc<OwnTxn>), i16>, Closed> {
         let read = self.now()?;
@@ -451,7 +467,7 @@ impl<'a, L: Readable, J: Naming, R: Wait + Clock + Drop> Session<'a, L, J, R> {
         &self,
         group: GroupId,
         known: &Mutex<KnownGroup>,
-        by: &Committer,
+        by: &Committer<'_>,
         offsets: Vec<PartitionOffset>,
     ) -> Result<i16, Closed> {
         let mut offsets = offsets;
@@ -474,7 +490,7 @@ impl<'a, L: Readable, J: Naming, R: Wait + Clock + Drop> Session<'a, L, J, R> {
     fn group_for(
         &self,
         group: GroupId,
-        committer: &Committer,
+        committer: &Committer<'_>,
     ) -> Result<Result<Arc<Mutex<KnownGroup>>, i16>, Closed> {
         match committer {
             Committer::Anyone => Ok(self.enter_group(group)?.ok_or(ASK_AGAIN)),
@@ -489,20 +505,17 @@ impl<'a, L: Readable, J: Naming, R: Wait + Clock + Drop> Session<'a, L, J, R> {
     fn commit_code(
         &self,
         name: &[u8],
-        committer: Option<Committer>,
+        committer: &Committer<'_>,
         offsets: Vec<PartitionOffset>,
     ) -> Result<i16, Closed> {
         let Some(group) = group_of(name) else {
             return Ok(GroupCode::InvalidGroupId.number());
         };
-        let Some(committer) = committer else {
-            return Ok(ErrorCode::UnknownMemberId.number());
-        };
-        let known = match self.group_for(group, &committer)? {
+        let known = match self.group_for(group, committer)? {
             Ok(known) => known,
             Err(code) => return Ok(code),
         };
-        let code = self.commit_code_in(group, &known, &committer, offsets);
+        let code = self.commit_code_in(group, &known, committer, offsets);
         self.link.shared.groups.leave(self.rt, &group);
         code
     }
@@ -519,7 +532,7 @@ impl<'a, L: Readable, J: Naming, R: Wait + Clock + Drop> Session<'a, L, J, R> {
         let offsets = self.claimed(&topics)?;
         let code = match self.count_code(offsets.len()) {
             Some(code) => code,
-            None => self.commit_code(group, committer, offsets)?,
+            None => self.commit_code(group, &committer, offsets)?,
         };
         let kept = self.link.shared.table.lock(self.rt);
         let frame = commit_frame(self.alloc, &asked.header, &kept.topics, &topics, code)?;

@@ -15,18 +15,19 @@ use kx_group_gateway::{
     refused_join_frame, sync_frame,
 };
 use kx_kafka::{
-    HeartbeatRequest, JoinGroupMember, JoinGroupRequest, LeaveGroupRequest, SyncGroupRequest,
+    Array, HeartbeatRequest, JoinGroupMember, JoinGroupRequest, LeaveGroupRequest,
+    SyncGroupAssignment, SyncGroupRequest,
 };
 use kx_membership::{
-    Assignment, Assignments, GroupFault, JoinAsk, Joined, MOST_MEMBERS, Protocol, Protocols,
-    member_id, number_in,
+    Assignment, Assignments, Group, GroupFault, JoinAsk, Joined, MOST_MEMBERS, Protocol, Protocols,
+    member_id,
 };
 use kx_message::{Bytes, Caller, ClientId, ErrorCode, GroupId, Join, Leave, Message};
 use kx_notices::Shortage;
 use kx_published::book::Naming;
 use kx_publishing::Readable;
 use std::sync::{Arc, Mutex, Wait};
-use std::time::Clock;
+use std::time::{Clock, Duration};
 
 // How many protocols of a member are looked at. Stock clients have two or three.
 const MOST_PROTOCOLS: usize = 16;
@@ -41,6 +42,26 @@ const MOST_GUESTS: usize = 16;
 
 // How many other groups are looked after at most for a client that asks for one more.
 const MOST_TENDED: usize = 64;
+
+// How long one waits at most for a group in which nothing is due, in milliseconds.
+const LONGEST_WAIT: u64 = 3_600_000;
+
+// What becomes of a request that may have to wait for its group.
+#[derive(Drop)]
+enum Look {
+    Answered(Answer),
+    // for the group to move on, or for this long
+    Waits(Duration),
+}
+
+// How long it is until something is due in a group.
+fn until_due(group: &Group, now: u64) -> Duration {
+    let millis = match group.next_time() {
+        None => LONGEST_WAIT,
+        Some(time) => time.saturating_sub(now).min(LONGEST_WAIT),
+    };
+    Duration::from_millis(millis)
+}
 
 impl<'a, L: Readable, J: Naming, R: Wait + Clock + Drop> Session<'a, L, J, R> {
     /// The time of the server's clock, in milliseconds.
@@ -133,23 +154,26 @@ impl<'a, L: Readable, J: Naming, R: Wait + Clock + Drop> Session<'a, L, J, R> {
     }
 
     /// Does what is due: members that are late are gone, and after a rebalance that is complete the next
-    /// generation begins. Sessions are over that ended by the time at which the request was read,
-    /// so that nobody's ends while it waits for the group.
+    /// generation begins. Who waits for that is woken. Sessions are over that ended by the time at
+    /// which the request was read, so that nobody's ends while it waits for the group.
     pub(crate) fn move_on(
         &self,
         id: GroupId,
         known: &mut KnownGroup,
         read: u64,
     ) -> Result<(), Closed> {
+        let now = self.now()?;
+        if known.group.next_time().is_some_and(|time| time <= now) {
+            known.wake(self.rt);
+        }
         known.group.tick(read);
-        if !known.group.due(self.now()?) {
+        if !known.group.due(now) {
             return Ok(());
         }
         self.begin_generation(id, known)?;
         known
             .group
             .settle(self.alloc, known.generation, self.now()?)?;
-        known.forget_gone();
         Ok(())
     }
 
@@ -181,15 +205,21 @@ impl<'a, L: Readable, J: Naming, R: Wait + Clock + Drop> Session<'a, L, J, R> {
         client_id: &[u8],
         ask: JoinAsk,
     ) -> Result<Result<ClientId, GroupFault>, Closed> {
-        let Some(number) = self.link.shared.numbers.take(self.rt) else {
+        let numbers = &self.link.shared.numbers;
+        let Some(number) = numbers.take(self.rt) else {
             return Err(Closed);
         };
-        if let Err(fault) = known.group.join_new(number, ask, self.now()?) {
-            self.link.shared.numbers.give_back(self.rt, number);
-            return Ok(Err(fault));
+        let id = member_id(self.alloc, client_id, number)?;
+        let joined = known
+            .group
+            .join_new(number, Bytes::from_vec(id), ask, self.now()?);
+        match joined {
+            Ok(()) => Ok(Ok(number)),
+            Err(fault) => {
+                numbers.give_back(self.rt, number);
+                Ok(Err(fault))
+            }
         }
-        known.name(number, member_id(self.alloc, client_id, number)?)?;
-        Ok(Ok(number))
     }
 
     // A member joins again.
@@ -199,7 +229,7 @@ impl<'a, L: Readable, J: Naming, R: Wait + Clock + Drop> Session<'a, L, J, R> {
         id: &[u8],
         ask: JoinAsk,
     ) -> Result<Result<ClientId, GroupFault>, Closed> {
-        let Some(number) = number_in(id) else {
+        let Some(number) = known.group.number_of(id) else {
             return Ok(Err(GroupFault::UnknownMember));
         };
         if let Err(fault) = known.group.join_again(number, ask, self.now()?) {
@@ -226,7 +256,7 @@ impl<'a, L: Readable, J: Naming, R: Wait + Clock + Drop> Session<'a, L, J, R> {
             for place in 0..MOST_MEMBERS {
                 if let Some(member) = known.group.number_at(place) {
                     members.push(JoinGroupMember {
-                        member_id: known.id_of(member),
+                        member_id: known.group.id_of(member),
                         metadata: known.group.metadata_of(member),
                     })?;
                 }
@@ -237,11 +267,18 @@ impl<'a, L: Readable, J: Naming, R: Wait + Clock + Drop> Session<'a, L, J, R> {
             &asked.header,
             joined.generation,
             known.group.protocol(),
-            known.id_of(joined.leader),
-            known.id_of(number),
+            known.group.id_of(joined.leader),
+            known.group.id_of(number),
             members.as_slice(),
         )?;
         Ok(Answer::Frame(frame))
+    }
+
+    // Has this connection be woken when a group moves on, and says how long it waits at most.
+    fn watch_group(&self, known: &mut KnownGroup) -> Result<Look, Closed> {
+        let waker = Arc::try_clone(&self.link.waker)?;
+        known.watch(self.link.peer.number(), waker)?;
+        Ok(Look::Waits(until_due(&known.group, self.now()?)))
     }
 
     // The answer to a member's JoinGroup, if there is one.
@@ -251,14 +288,14 @@ impl<'a, L: Readable, J: Naming, R: Wait + Clock + Drop> Session<'a, L, J, R> {
         id: GroupId,
         known: &Mutex<KnownGroup>,
         number: ClientId,
-    ) -> Result<Option<Answer>, Closed> {
+    ) -> Result<Look, Closed> {
         let read = self.now()?;
         let mut known = known.lock(self.rt);
         self.move_on(id, &mut known, read)?;
         match known.group.joined(number) {
-            None => Ok(None),
-            Some(Ok(joined)) => Ok(Some(self.joined(asked, &known, number, joined)?)),
-            Some(Err(fault)) => Ok(Some(self.refuse_join(asked, fault.number(), &[])?)),
+            None => self.watch_group(&mut known),
+            Some(Ok(joined)) => Ok(Look::Answered(self.joined(asked, &known, number, joined)?)),
+            Some(Err(fault)) => Ok(Look::Answered(self.refuse_join(asked, fault.number(), &[])?)),
         }
     }
 
@@ -268,7 +305,9 @@ impl<'a, L: Readable, J: Naming, R: Wait + Clock + Drop> Session<'a, L, J, R> {
             return Ok(());
         }
         let now = self.now()?;
-        known.lock(self.rt).group.end_wait(number, now);
+        let mut known = known.lock(self.rt);
+        known.group.end_wait(number, now);
+        known.wake(self.rt);
         Err(Closed)
     }
 
@@ -281,16 +320,20 @@ impl<'a, L: Readable, J: Naming, R: Wait + Clock + Drop> Session<'a, L, J, R> {
         number: ClientId,
     ) -> Result<Answer, Closed> {
         for _ in self.rt.forever() {
-            if let Some(answer) = self.look_joined(asked, id, known, number)? {
-                return Ok(answer);
+            self.link.waker.reset(self.rt);
+            match self.look_joined(asked, id, known, number)? {
+                Look::Answered(answer) => return Ok(answer),
+                Look::Waits(patience) => {
+                    self.stay_open(known, number)?;
+                    self.link.waker.wait(self.rt, patience);
+                }
             }
-            self.stay_open(known, number)?;
-            self.pause();
         }
         Err(Closed)
     }
 
-    // Begins the JoinGroup of a client.
+    // Begins the JoinGroup of a client. Members that wait for what is assigned are woken if it has all
+    // join again.
     fn begin_join(
         &self,
         asked: &Asked<'_>,
@@ -302,6 +345,9 @@ impl<'a, L: Readable, J: Naming, R: Wait + Clock + Drop> Session<'a, L, J, R> {
         let read = self.now()?;
         let mut known = known.lock(self.rt);
         self.move_on(id, &mut known, read)?;
+        if !known.group.is_preparing() {
+            known.wake(self.rt);
+        }
         if member.is_empty() {
             let client_id = asked.header.client_id.unwrap_or(b"");
             self.join_new(&mut known, client_id, ask)
@@ -422,11 +468,15 @@ impl<'a, L: Readable, J: Naming, R: Wait + Clock + Drop> Session<'a, L, J, R> {
         }
     }
 
-    // What a leader assigns. Members that it doesn't know by their ids are left out.
-    fn assignments(&self, request: SyncGroupRequest<'_>) -> Result<Assignments, Closed> {
+    // What a leader assigns. What it assigns to ids that no member has is left out.
+    fn assignments(
+        &self,
+        group: &Group,
+        assigned: Array<SyncGroupAssignment<'_>>,
+    ) -> Result<Assignments, Closed> {
         let mut assignments = Vec::new(self.alloc);
-        for assigned in request.assignments {
-            if let Some(member) = number_in(assigned.member_id) {
+        for assigned in assigned {
+            if let Some(member) = group.number_of(assigned.member_id) {
                 assignments.push(Assignment {
                     member,
                     bytes: Bytes::from_vec(Vec::from_slice(self.alloc, assigned.assignment)?),
@@ -449,31 +499,43 @@ impl<'a, L: Readable, J: Naming, R: Wait + Clock + Drop> Session<'a, L, J, R> {
         known: &Mutex<KnownGroup>,
         number: ClientId,
         generation: i32,
-    ) -> Result<Option<Answer>, Closed> {
+    ) -> Result<Look, Closed> {
         let read = self.now()?;
         let mut known = known.lock(self.rt);
         self.move_on(id, &mut known, read)?;
         match known.group.synced(number, generation) {
-            None => Ok(None),
-            Some(Ok(assignment)) => Ok(Some(self.synced(asked, 0, assignment)?)),
-            Some(Err(fault)) => Ok(Some(self.synced(asked, fault.number(), &[])?)),
+            None => self.watch_group(&mut known),
+            Some(Ok(assignment)) => Ok(Look::Answered(self.synced(asked, 0, assignment)?)),
+            Some(Err(fault)) => Ok(Look::Answered(self.synced(asked, fault.number(), &[])?)),
         }
     }
 
-    // Begins the SyncGroup of a member.
+    // Begins the SyncGroup of a member, and returns its number. Once the leader has assigned, those
+    // that wait for that are woken.
     fn begin_sync(
         &self,
         id: GroupId,
         known: &Mutex<KnownGroup>,
-        number: ClientId,
-        generation: i32,
-        assignments: Assignments,
-    ) -> Result<Result<(), GroupFault>, Closed> {
+        request: SyncGroupRequest<'_>,
+    ) -> Result<Result<ClientId, GroupFault>, Closed> {
         let read = self.now()?;
         let mut known = known.lock(self.rt);
         self.move_on(id, &mut known, read)?;
-        let now = self.now()?;
-        Ok(known.group.sync(number, generation, assignments, now))
+        let Some(number) = known.group.number_of(request.member_id) else {
+            return Ok(Err(GroupFault::UnknownMember));
+        };
+        let generation = request.generation_id;
+        let assignments = self.assignments(&known.group, request.assignments)?;
+        let begun = known
+            .group
+            .sync(number, generation, assignments, self.now()?);
+        if known.group.synced(number, generation).is_some() {
+            known.wake(self.rt);
+        }
+        match begun {
+            Ok(()) => Ok(Ok(number)),
+            Err(fault) => Ok(Err(fault)),
+        }
     }
 
     // Waits for what is assigned to a member.
@@ -486,11 +548,14 @@ impl<'a, L: Readable, J: Naming, R: Wait + Clock + Drop> Session<'a, L, J, R> {
         generation: i32,
     ) -> Result<Answer, Closed> {
         for _ in self.rt.forever() {
-            if let Some(answer) = self.look_synced(asked, id, known, number, generation)? {
-                return Ok(answer);
+            self.link.waker.reset(self.rt);
+            match self.look_synced(asked, id, known, number, generation)? {
+                Look::Answered(answer) => return Ok(answer),
+                Look::Waits(patience) => {
+                    self.stay_open(known, number)?;
+                    self.link.waker.wait(self.rt, patience);
+                }
             }
-            self.stay_open(known, number)?;
-            self.pause();
         }
         Err(Closed)
     }
@@ -501,12 +566,11 @@ impl<'a, L: Readable, J: Naming, R: Wait + Clock + Drop> Session<'a, L, J, R> {
         asked: &Asked<'_>,
         id: GroupId,
         known: &Mutex<KnownGroup>,
-        number: ClientId,
-        generation: i32,
-        assignments: Assignments,
+        request: SyncGroupRequest<'_>,
     ) -> Result<Answer, Closed> {
-        match self.begin_sync(id, known, number, generation, assignments)? {
-            Ok(()) => self.wait_synced(asked, id, known, number, generation),
+        let generation = request.generation_id;
+        match self.begin_sync(id, known, request)? {
+            Ok(number) => self.wait_synced(asked, id, known, number, generation),
             Err(fault) => self.synced(asked, fault.number(), &[]),
         }
     }
@@ -520,15 +584,10 @@ impl<'a, L: Readable, J: Naming, R: Wait + Clock + Drop> Session<'a, L, J, R> {
         let Some(id) = group_of(request.group_id) else {
             return self.synced(asked, GroupCode::InvalidGroupId.number(), &[]);
         };
-        let Some(number) = number_in(request.member_id) else {
-            return self.synced(asked, GroupFault::UnknownMember.number(), &[]);
-        };
-        let generation = request.generation_id;
-        let assignments = self.assignments(request)?;
         let Some(known) = self.link.shared.groups.enter_known(self.rt, &id) else {
             return self.synced(asked, GroupFault::UnknownMember.number(), &[]);
         };
-        let answer = self.sync_in(asked, id, &known, number, generation, assignments);
+        let answer = self.sync_in(asked, id, &known, request);
         self.link.shared.groups.leave(self.rt, &id);
         answer
     }
@@ -538,14 +597,16 @@ impl<'a, L: Readable, J: Naming, R: Wait + Clock + Drop> Session<'a, L, J, R> {
         &self,
         id: GroupId,
         known: &Mutex<KnownGroup>,
-        number: ClientId,
-        generation: i32,
+        request: &HeartbeatRequest<'_>,
     ) -> Result<i16, Closed> {
         let read = self.now()?;
         let mut known = known.lock(self.rt);
         self.move_on(id, &mut known, read)?;
+        let Some(number) = known.group.number_of(request.member_id) else {
+            return Ok(GroupFault::UnknownMember.number());
+        };
         let now = self.now()?;
-        match known.group.heartbeat(number, generation, now) {
+        match known.group.heartbeat(number, request.generation_id, now) {
             Ok(()) => Ok(0),
             Err(fault) => Ok(fault.number()),
         }
@@ -556,13 +617,10 @@ impl<'a, L: Readable, J: Naming, R: Wait + Clock + Drop> Session<'a, L, J, R> {
         let Some(id) = group_of(request.group_id) else {
             return Ok(GroupCode::InvalidGroupId.number());
         };
-        let Some(number) = number_in(request.member_id) else {
-            return Ok(GroupFault::UnknownMember.number());
-        };
         let Some(known) = self.link.shared.groups.enter_known(self.rt, &id) else {
             return Ok(GroupFault::UnknownMember.number());
         };
-        let code = self.beat_in(id, &known, number, request.generation_id);
+        let code = self.beat_in(id, &known, request);
         self.link.shared.groups.leave(self.rt, &id);
         code
     }
@@ -577,16 +635,20 @@ impl<'a, L: Readable, J: Naming, R: Wait + Clock + Drop> Session<'a, L, J, R> {
         Ok(Answer::Frame(heartbeat_frame(self.alloc, &asked.header, code)?))
     }
 
-    // The code for a member that leaves a group.
+    // The code for a member that leaves a group. Those that wait in the group are woken.
     fn leave_in(
         &self,
         id: GroupId,
         known: &Mutex<KnownGroup>,
-        number: ClientId,
+        member: &[u8],
     ) -> Result<i16, Closed> {
         let read = self.now()?;
         let mut known = known.lock(self.rt);
+        let Some(number) = known.group.number_of(member) else {
+            return Ok(GroupFault::UnknownMember.number());
+        };
         let left = known.group.leave(number, read);
+        known.wake(self.rt);
         self.move_on(id, &mut known, read)?;
         match left {
             Ok(()) => Ok(0),
@@ -599,13 +661,10 @@ impl<'a, L: Readable, J: Naming, R: Wait + Clock + Drop> Session<'a, L, J, R> {
         let Some(id) = group_of(request.group_id) else {
             return Ok(GroupCode::InvalidGroupId.number());
         };
-        let Some(number) = number_in(request.member_id) else {
-            return Ok(GroupFault::UnknownMember.number());
-        };
         let Some(known) = self.link.shared.groups.enter_known(self.rt, &id) else {
             return Ok(GroupFault::UnknownMember.number());
         };
-        let code = self.leave_in(id, &known, number);
+        let code = self.leave_in(id, &known, request.member_id);
         self.link.shared.groups.leave(self.rt, &id);
         code
     }

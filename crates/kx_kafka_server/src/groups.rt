@@ -3,8 +3,9 @@ use crate::absent::Absent;
 use crate::places::Places;
 use crate::users::Users;
 use indexmap::IndexMap;
-use kx_membership::{Group, MOST_MEMBERS};
+use kx_membership::Group;
 use kx_message::{ClientId, GroupId, Held};
+use kx_server::Waker;
 use std::alloc::{AllocError, Global};
 use std::mem;
 use std::sync::{Arc, Mutex, Wait};
@@ -12,11 +13,11 @@ use std::sync::{Arc, Mutex, Wait};
 // How many groups are kept at most.
 const MOST_GROUPS: usize = 10_000;
 
-// The id of a member, as it was answered to its client.
+// A connection on which a JoinGroup or a SyncGroup waits for its answer.
 #[derive(Drop)]
-struct MemberName {
-    number: ClientId,
-    id: Vec<u8>,
+struct Waiting {
+    connection: usize,
+    waker: Arc<Waker>,
 }
 
 /// The transaction of the server's own in which offsets of a group are committed outside of clients'
@@ -41,7 +42,8 @@ pub(crate) struct KnownGroup {
     pub(crate) generation: i32,
     /// How offsets are committed outside of clients' transactions.
     pub(crate) own: Arc<OwnTxn>,
-    names: Vec<MemberName>,
+    // the connections that wait for the group to move on
+    waiting: Vec<Waiting>,
 }
 
 // A group, and how many threads use it.
@@ -82,24 +84,24 @@ impl KnownGroup {
             guest: None,
             generation: 0,
             own,
-            names: Vec::new(alloc),
+            waiting: Vec::new(alloc),
         })
     }
 
-    /// The id of a member; no bytes for a number that has none.
-    pub(crate) fn id_of(&self, number: ClientId) -> &[u8] {
-        for name in &self.names {
-            if name.number == number {
-                return &name.id;
-            }
-        }
-        &[]
+    /// Has the waker of a connection be woken, once, when the group moves on.
+    pub(crate) fn watch(&mut self, connection: usize, waker: Arc<Waker>) -> Result<(), AllocError> {
+        self.waiting
+            .retain(|waiting| waiting.connection != connection);
+        self.waiting.push(Waiting { connection, waker })?;
+        Ok(())
     }
 
-    /// Keeps the id of a member.
-    pub(crate) fn name(&mut self, number: ClientId, id: Vec<u8>) -> Result<(), AllocError> {
-        self.names.push(MemberName { number, id })?;
-        Ok(())
+    /// Wakes all who wait: the group has moved on, so that some may be answered.
+    pub(crate) fn wake<R: Wait>(&mut self, rt: &R) {
+        for waiting in &self.waiting {
+            waiting.waker.wake(rt);
+        }
+        self.waiting.clear();
     }
 
     /// Whether the group has a member.
@@ -120,22 +122,6 @@ impl KnownGroup {
             None => !self.has_members(),
         }
     }
-
-    /// Forgets the ids of those who are members no more.
-    pub(crate) fn forget_gone(&mut self) {
-        let group = &self.group;
-        self.names.retain(|name| is_member(group, name.number));
-    }
-}
-
-// Whether the number is that of a member.
-fn is_member(group: &Group, number: ClientId) -> bool {
-    for place in 0..MOST_MEMBERS {
-        if group.number_at(place) == Some(number) {
-            return true;
-        }
-    }
-    false
 }
 
 // A group, to be shared.

@@ -1,8 +1,8 @@
 -- Who is no member is one after a step only if it joined.
 use Rattle.std.proofs.Common.{List, [], ◌∷◌, ◌≡◌, ℕ, ℤ, Bool, true, false, not, cond}
-use Rattle.std.proofs.Common.{Option, Some, None, refl, sym, ◌⊎◌, inl, inr, ◌||◌}
+use Rattle.std.proofs.Common.{Option, Some, None, refl, ◌⊎◌, inl, inr, ◌||◌}
 use Rattle.std.specs.List.{find}
-use Rattle.std.proofs.lemmas.Bool.{cond_both, eqb-true}
+use Rattle.std.proofs.lemmas.Bool.{cond_both}
 use Rattle.kx_membership.specs.Roster.{all_woken, any_goes, asked, asking, begun, cut_off, goes, has}
 use Rattle.kx_membership.specs.Roster.{heard, is_numbered, joining, left_alone, parted, pushed}
 use Rattle.kx_membership.specs.Group.{after_heartbeat, after_join_again, after_join_new, asks}
@@ -53,13 +53,13 @@ beats g beating number generation now none =
 
 pub absent : (g : Group) (step : Step) (number : ℕ) → has number g.roster.members ≡ false
     → (has number (after_step g step).roster.members ≡ false) ⊎ Joins step number
-absent g (JoinsNew joining_too ask now) number none =
-    refused (new_refusal g joining_too ask) g (after_join_new g joining_too ask now) number
+absent g (JoinsNew joining_too id ask now) number none =
+    refused (new_refusal g joining_too ask) g (after_join_new g joining_too id ask now) number
     (joining_too ≡ number) none
-    (elim (has_pushed number (joining joining_too ask now) g.roster.members none) [
+    (elim (has_pushed number (joining joining_too id ask now) g.roster.members none) [
       | inl out ↦ inl (prepared_absent now number (record g {
         protocol_type = ask.protocol_type;
-        roster = pushed (joining joining_too ask now) g.roster;
+        roster = pushed (joining joining_too id ask now) g.roster;
       }) out)
       | inr it ↦ inr it
     ])
@@ -67,7 +67,7 @@ absent g (JoinsAgain joining_too ask now) number none =
     let again : (waits : Bool)
     → has number (joined_again g joining_too ask now waits).roster.members ≡ false = λ waits.
     has_same_numbers number g.roster.members _ (numbers_changed joining_too _ g.roster.members
-    (λ m here. sym (eqb-true m.number joining_too here))) none in
+    (λ m here. refl)) none in
     refused (again_refusal g joining_too ask) g (after_join_again g joining_too ask now) number ⊥
     none
     (inl (cond_both (must_wait g joining_too ask.protocols)

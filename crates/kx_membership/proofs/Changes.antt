@@ -1,11 +1,14 @@
 -- A change of one member at its place, and who goes.
 use Rattle.std.proofs.Common.{◌≡◌, ℕ, ◌+◌, ◌<◌, ◌≤◌, Bool, true, false, List, [], ◌∷◌, ◌++◌, length}
 use Rattle.std.proofs.Common.{get_or, set, map, take, drop, sym, ap, ◌∙◌, arith, add-one}
-use Rattle.std.proofs.Common.{Some, not, ◌&&◌, cond, suc}
+use Rattle.std.proofs.Common.{Some, not, ◌&&◌, cond, suc, refl}
 use Rattle.std.specs.List.{filter}
 use Rattle.std.proofs.lemmas.List.{drop_more, get_or_read, set_split}
 use Rattle.kx_membership.specs.Internal.Places.{IsPlaceOf}
-use Rattle.kx_membership.specs.Roster.{changed, goes, gone_numbers, is_numbered}
+use Rattle.kx_membership.specs.Group.{after_join_again, must_wait, prepared}
+use Rattle.kx_membership.specs.Roster.{RosterState, changed, goes, gone_numbers, is_numbered, said_anew}
+use Rattle.kx_membership.specs.declared.ask.JoinAsk.{JoinAsk}
+use Rattle.kx_membership.specs.declared.group.Group.{Group}
 use Rattle.kx_membership.specs.declared.member.Member.{Member}
 use Rattle.kx_membership.specs.declared.member.Going.{Going}
 
@@ -52,3 +55,13 @@ parted_room going (m ∷ members) =
     one_more (goes going m) m.is_counted m
     (filter (λ m. goes going m && m.is_counted) members)
     (filter (λ m. not (goes going m)) members) (length members) (parted_room going members)
+
+-- a member that joins again and has to wait
+pub waited : (g : Group) (number : ℕ) (ask : JoinAsk) (now : ℕ) (waits : Bool)
+    (roster : RosterState) (protocol_type : List ℕ) (after : Group)
+    → must_wait g number ask.protocols ≡ true → waits ≡ true
+    → roster ≡ said_anew number ask waits now g.roster → protocol_type ≡ ask.protocol_type
+    → after ≡ prepared now (record g { protocol_type = protocol_type; roster = roster })
+    → after ≡ after_join_again g number ask now
+waited g number ask now waits roster protocol_type after must is said of e =
+    rw must (e ∙ rw (of, said, is) refl)

@@ -1,6 +1,9 @@
 pub mod Finds
 pub mod Changes
 pub mod Numbers
+pub mod Naming
+pub mod Counting
+pub mod Offering
 pub mod Numbered
 pub mod Stepping
 pub mod Before

@@ -456,16 +456,16 @@ waits_settled phase.Stable is_leader is_same e = refl
 waits_settled phase.Empty is_leader is_same e = absurd cc
 waits_settled (phase.Preparing until) is_leader is_same e = absurd cc
 
-joins_new : (g : Group) (number : ℕ) (ask : JoinAsk) (now : ℕ) → IsGroup g
-    → new_refusal g number ask ≡ None → IsGroup (after_join_new g number ask now)
-joins_new g number ask now sound free =
+joins_new : (g : Group) (number : ℕ) (id : List ℕ) (ask : JoinAsk) (now : ℕ) → IsGroup g
+    → new_refusal g number ask ≡ None → IsGroup (after_join_new g number id ask now)
+joins_new g number id ask now sound free =
     let parts = allowed (is_taken number g.roster) (refusal_of g number ask)
     (room_refusal g.roster) free in
     let room = has_room (length g.roster.members) parts.1 in
     let outs = neither (has number g.roster.members) (is_among number g.roster.gone) parts.0 in
     let out : is_among number (numbers g.roster.members) ≡ false =
     sym (has_numbers number g.roster.members) ∙ outs.0 in
-    let m = joining number ask now in
+    let m = joining number id ask now in
     prepared_group now (record g {
       protocol_type = ask.protocol_type;
       roster = pushed m g.roster;
@@ -482,7 +482,7 @@ joins_again : (g : Group) (number : ℕ) (ask : JoinAsk) (now : ℕ) → IsGroup
 joins_again g number ask now sound =
     let same : (waits : Bool) → numbers (joined_again g number ask now waits).roster.members
     ≡ numbers g.roster.members = λ waits. numbers_changed number _ g.roster.members
-    (λ m here. sym (eqb-true m.number number here)) in
+    (λ m here. refl) in
     let long = same_length g.roster.members
     (joined_again g number ask now true).roster.members (same true) in
     cond_both (must_wait g number ask.protocols)
@@ -538,9 +538,9 @@ takes_group g assignments now sound completing =
     }
 
 pub sound_after : (g : Group) (step : Step) → IsGroup g → IsGroup (after_step g step)
-sound_after g (JoinsNew number ask now) sound =
-    refused (new_refusal g number ask) g (after_join_new g number ask now) sound
-    (λ free. joins_new g number ask now sound free)
+sound_after g (JoinsNew number id ask now) sound =
+    refused (new_refusal g number ask) g (after_join_new g number id ask now) sound
+    (λ free. joins_new g number id ask now sound free)
 sound_after g (JoinsAgain number ask now) sound =
     refused (again_refusal g number ask) g (after_join_again g number ask now) sound
     (λ free. joins_again g number ask now sound)

@@ -1,7 +1,7 @@
 -- What a step does to a group, once for the laws.
 use Rattle.std.proofs.Common.{◌≡◌, ℕ, ℤ, Bool, true, false, ◌&&◌, ◌||◌, cond, length}
 use Rattle.std.proofs.Common.{Option, Some, None, refl, sym, ap, ◌∙◌, eqb, ◌⊎◌, inl, inr, List, [], ◌∷◌, subst}
-use Rattle.std.proofs.lemmas.Bool.{cond_both, eqb-true}
+use Rattle.std.proofs.lemmas.Bool.{cond_both}
 use Rattle.std.specs.List.{find}
 use Rattle.kx_membership.specs.Roster.{all_woken, any_goes, asked, asking, begun, cut_off, has, heard}
 use Rattle.kx_membership.specs.Roster.{is_numbered, joining, left_alone, parted, pushed}
@@ -77,11 +77,11 @@ beats g step number generation now =
     (λ no. stays refl refl refl refl)
 
 pub did : (g : Group) (step : Step) → Did g step (after_step g step)
-did g (JoinsNew number ask now) =
-    refused (new_refusal g number ask) g (after_join_new g number ask now)
-    (JoinsNew number ask now) (unsettles refl (prepared_unsettled now (record g {
+did g (JoinsNew number id ask now) =
+    refused (new_refusal g number ask) g (after_join_new g number id ask now)
+    (JoinsNew number id ask now) (unsettles refl (prepared_unsettled now (record g {
       protocol_type = ask.protocol_type;
-      roster = pushed (joining number ask now) g.roster;
+      roster = pushed (joining number id ask now) g.roster;
     })))
 did g (JoinsAgain number ask now) =
     refused (again_refusal g number ask) g (after_join_again g number ask now)
@@ -91,7 +91,7 @@ did g (JoinsAgain number ask now) =
     (λ (h : Group). Did g (JoinsAgain number ask now) h)
     (λ waits. unsettles refl (prepared_unsettled now (joined_again g number ask now true)))
     (λ answered. stays refl refl (numbers_changed number _ g.roster.members
-    (λ m here. sym (eqb-true m.number number here))) refl))
+    (λ m here. refl)) refl))
 did g (Closes now) =
     cond_both (is_past g.phase now) (left going.Silent now g) g
     (λ (h : Group). Did g (Closes now) h)

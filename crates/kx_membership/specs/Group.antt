@@ -9,8 +9,8 @@ use Rattle.std.specs.Ordering.{int_eq}
 use Rattle.kx_membership.specs.Protocols.{assigned_to, is_session_timeout, later, metadata_in}
 use Rattle.kx_membership.specs.Roster.{RosterState, all_woken, any_goes, asked, has, has_others}
 use Rattle.kx_membership.specs.Roster.{has_same, heard, left_alone}
-use Rattle.kx_membership.specs.Roster.{is_among, is_numbered, joining, led_by, longest, nobody, parted, pushed}
-use Rattle.kx_membership.specs.Roster.{replaced, settled, woken_if}
+use Rattle.kx_membership.specs.Roster.{has_id, is_among, is_numbered, joining, led_by, longest, nobody}
+use Rattle.kx_membership.specs.Roster.{parted, pushed, said_anew, settled, woken_if}
 use Rattle.kx_membership.specs.Votes.{chosen_by, common_of}
 use Rattle.kx_membership.specs.declared.ask.Assignment.{Assignment}
 use Rattle.kx_membership.specs.declared.ask.JoinAsk.{JoinAsk}
@@ -48,6 +48,12 @@ preparing phase.Empty deadline = phase.Preparing deadline
 preparing phase.Completing deadline = phase.Preparing deadline
 preparing phase.Stable deadline = phase.Preparing deadline
 
+abbrev pub is_preparing : Phase → Bool
+is_preparing phase.Empty = false
+is_preparing (phase.Preparing until) = true
+is_preparing phase.Completing = false
+is_preparing phase.Stable = false
+
 abbrev pub is_completing : Phase → Bool
 is_completing phase.Completing = true
 is_completing phase.Empty = false
@@ -82,7 +88,7 @@ refusal_of g number ask =
     else (if fits g number ask then None else Some fault.InconsistentProtocol)
 
 abbrev pub most_members : ℕ
-most_members = 100
+most_members = 1000
 
 -- the number is a member's, or one that is gone and that the core still counts
 abbrev pub is_taken : ℕ → RosterState → Bool
@@ -101,10 +107,10 @@ new_refusal g number ask =
     if is_taken number g.roster then Some fault.UnknownMember
     else first_of (refusal_of g number ask) (room_refusal g.roster)
 
-abbrev pub after_join_new : Group → ℕ → JoinAsk → ℕ → Group
-after_join_new g number ask now = prepared now (record g {
+abbrev pub after_join_new : Group → ℕ → List ℕ → JoinAsk → ℕ → Group
+after_join_new g number id ask now = prepared now (record g {
   protocol_type = ask.protocol_type;
-  roster = pushed (joining number ask now) g.roster;
+  roster = pushed (joining number id ask now) g.roster;
 })
 
 -- this refusal; if there is none, memory ran out
@@ -130,7 +136,7 @@ must_wait g number protocols =
 abbrev pub joined_again : Group → ℕ → JoinAsk → ℕ → Bool → Group
 joined_again g number ask now waits = record g {
   protocol_type = ask.protocol_type;
-  roster = replaced (record (joining number ask now) { waits = waits }) g.roster;
+  roster = said_anew number ask waits now g.roster;
 }
 
 abbrev pub after_join_again : Group → ℕ → JoinAsk → ℕ → Group
@@ -154,6 +160,13 @@ joined_by g number (Some m) = answer_of g number m
 
 abbrev pub joined_of : Group → ℕ → Option (Result Joined GroupFault)
 joined_of g number = joined_by g number (find (is_numbered number) g.roster.members)
+
+-- the member that has this id
+abbrev pub number_of : Group → List ℕ → Option ℕ
+number_of g id = option_map (λ m. m.number) (find (has_id id) g.roster.members)
+
+abbrev pub id_of : Group → ℕ → List ℕ
+id_of g number = option_map_or (λ m. m.id) (find (is_numbered number) g.roster.members) []
 
 -- what a member says under the protocol that was chosen
 abbrev pub metadata_of : Group → ℕ → List ℕ

@@ -1,6 +1,6 @@
 -- The members of a group, and who is gone.
 use Rattle.std.specs.Prelude.{ℕ, ◌==◌, ◌&&◌, ◌||◌, Bool, true, false, not, nat_le, max}
-use Rattle.std.specs.Prelude.{List, [], ◌∷◌, ◌++◌, map, Option, is_some, if◌then◌else◌}
+use Rattle.std.specs.Prelude.{List, [], ◌∷◌, ◌++◌, map, Option, is_some, if◌then◌else◌, bytes_eq}
 use Rattle.std.specs.List.{filter, find, fold, list_any, slice_get}
 use Rattle.std.specs.Option.{option_and_then, option_map_or, option_or}
 use Rattle.kx_membership.specs.Protocols.{later, milliseconds, same_protocols}
@@ -22,6 +22,10 @@ nobody = record { members = []; gone = [] }
 
 abbrev pub is_numbered : ℕ → Member → Bool
 is_numbered number m = m.number == number
+
+-- an id is compared whole
+abbrev pub has_id : List ℕ → Member → Bool
+has_id id m = bytes_eq m.id id
 
 abbrev pub has : ℕ → List Member → Bool
 has number members = is_some (find (is_numbered number) members)
@@ -47,9 +51,10 @@ led_by before members =
     (slice_get members 0)
 
 -- who joins waits for the others, and the core doesn't count it yet
-abbrev pub joining : ℕ → JoinAsk → ℕ → Member
-joining number ask now = record {
+abbrev pub joining : ℕ → List ℕ → JoinAsk → ℕ → Member
+joining number id ask now = record {
   number = number;
+  id = id;
   session = milliseconds ask.session_timeout;
   rebalance = milliseconds ask.rebalance_timeout;
   protocols = ask.protocols;
@@ -57,6 +62,17 @@ joining number ask now = record {
   waits = true;
   syncs = false;
   is_counted = false;
+}
+
+-- who joins again is heard, and says its timeouts and protocols anew
+abbrev pub renewed : JoinAsk → Bool → ℕ → Member → Member
+renewed ask waits now m = record m {
+  session = milliseconds ask.session_timeout;
+  rebalance = milliseconds ask.rebalance_timeout;
+  protocols = ask.protocols;
+  ends = later now (milliseconds ask.session_timeout);
+  waits = waits;
+  syncs = false;
 }
 
 -- its session begins anew
@@ -110,9 +126,9 @@ pushed m r = record r { members = r.members ++ m ∷ [] }
 abbrev pub heard : ℕ → ℕ → RosterState → RosterState
 heard number now r = record r { members = changed number (begun now) r.members }
 
-abbrev pub replaced : Member → RosterState → RosterState
-replaced m r = record r {
-  members = changed m.number (λ old. record m { is_counted = old.is_counted }) r.members;
+abbrev pub said_anew : ℕ → JoinAsk → Bool → ℕ → RosterState → RosterState
+said_anew number ask waits now r = record r {
+  members = changed number (renewed ask waits now) r.members;
 }
 
 -- the numbers of those that go and that the core counts

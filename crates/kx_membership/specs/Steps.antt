@@ -17,7 +17,7 @@ use Rattle.kx_membership.specs.declared.member.Going.TheVariants as going
 use Rattle.kx_membership.specs.declared.member.Member.{Member}
 
 pub data Step : Type 0 where
-  JoinsNew : ℕ → JoinAsk → ℕ → Step
+  JoinsNew : ℕ → List ℕ → JoinAsk → ℕ → Step
   JoinsAgain : ℕ → JoinAsk → ℕ → Step
   Closes : ℕ → Step
   Settles : ℤ → ℕ → Step
@@ -34,8 +34,8 @@ unless (Some fault) g after = g
 
 -- a request that is refused changes nothing
 abbrev pub after_step : Group → Step → Group
-after_step g (JoinsNew number ask now) =
-    unless (new_refusal g number ask) g (after_join_new g number ask now)
+after_step g (JoinsNew number id ask now) =
+    unless (new_refusal g number ask) g (after_join_new g number id ask now)
 after_step g (JoinsAgain number ask now) =
     unless (again_refusal g number ask) g (after_join_again g number ask now)
 after_step g (Closes now) = after_due g now
@@ -81,7 +81,7 @@ IsAssigned g (step ∷ steps) generation given =
 
 -- a client that is no member joins with this number
 abbrev pub Joins : Step → ℕ → Type 0
-Joins (JoinsNew number ask now) joined = number ≡ joined
+Joins (JoinsNew number id ask now) joined = number ≡ joined
 Joins step joined = ⊥
 
 abbrev pub NoneJoins : List Step → ℕ → Type 0

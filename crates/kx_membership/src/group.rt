@@ -1,5 +1,5 @@
 //! One consumer group.
-ghost use Rattle.std.specs.Prelude.{◌≡◌, None, Some, Ok, Err, IsTrue, false, MatchOption};
+ghost use Rattle.std.specs.Prelude.{◌≡◌, None, Some, Ok, Err, IfOk, IsTrue, false, MatchOption};
 ghost use Rattle.std.specs.Prelude.{MatchResult};
 ghost use Rattle.std.specs.Option.{option_copied, option_map};
 ghost use Rattle.std.specs.List.{find, slice_get};
@@ -9,21 +9,23 @@ ghost use Rattle.kx_membership.specs.Group.{after_heartbeat, after_join_again, a
 ghost use Rattle.kx_membership.specs.Group.{after_leave, commit_fault};
 ghost use Rattle.kx_membership.specs.Group.{after_settle, after_sync, after_tick, again_refusal, asks};
 ghost use Rattle.kx_membership.specs.Group.{due_time, fence, fits, is_lost, is_past, is_ready};
-ghost use Rattle.kx_membership.specs.Group.{joined_of, leads, left};
+ghost use Rattle.kx_membership.specs.Group.{id_of, is_preparing, joined_of, leads, left};
 ghost use Rattle.kx_membership.specs.Group.{metadata_of, must_wait, new_at, new_group, next_of};
-ghost use Rattle.kx_membership.specs.Group.{new_refusal, prepared, protocol_by};
+ghost use Rattle.kx_membership.specs.Group.{new_refusal, number_of, prepared, protocol_by};
 ghost use Rattle.kx_membership.specs.Group.{refusal_of, sooner, synced_of, takes};
 
 use crate::ask::{Assignments, JoinAsk, Protocols, named};
 use crate::fault::GroupFault;
-use crate::member::{Going, Member, any_goes, find, has, has_others, has_same, led_by, longest};
+use crate::member::{
+    Going, Member, any_goes, find, find_id, has, has_others, has_same, led_by, longest,
+};
 use crate::roster::Roster;
 use crate::votes::{chosen_by, common_of};
 use kx_message::{Bytes, ClientId};
 use std::alloc::{AllocError, Global};
 
 /// How many members a group has at most.
-pub const MOST_MEMBERS: usize = 100;
+pub const MOST_MEMBERS: usize = 1000;
 
 // The longest session timeout, half an hour.
 const LONGEST_SESSION: i32 = 1_800_000;
@@ -170,9 +172,10 @@ impl Group {
         self.prepare(now);
     }
 
-    /// A client joins that is no member yet, with a number that is the core's. Its join waits for
-    /// the other members, which have to join again until a deadline: the greatest of all members'
-    /// rebalance timeouts from now on, unless one runs already.
+    /// A client joins that is no member yet, with a number that is the core's, and an id by which it
+    /// names itself from now on. Its join waits for the other members, which have to join again until
+    /// a deadline: the greatest of all members' rebalance timeouts from now on, unless one runs
+    /// already.
     ///
     /// # Errors
     ///
@@ -180,17 +183,23 @@ impl Group {
     /// number is that of a member or of one gone that the core still counts;
     /// [`GroupFault::InvalidSessionTimeout`]; [`GroupFault::InconsistentProtocol`];
     /// [`GroupFault::GroupFull`] with [`MOST_MEMBERS`] members; [`GroupFault::Memory`].
-    pub fn join_new(&mut self, number: ClientId, ask: JoinAsk, now: u64) -> Result<(), GroupFault>
+    pub fn join_new(
+        &mut self,
+        number: ClientId,
+        id: Bytes,
+        ask: JoinAsk,
+        now: u64,
+    ) -> Result<(), GroupFault>
         ensures { MatchResult result
             (λ done. (new_refusal self.old number ask ≡ None)
-            × (self.new ≡ after_join_new self.old number ask now))
+            × (self.new ≡ after_join_new self.old number id ask now))
             (λ fault. Refuses (new_refusal self.old number ask) fault
             × (self.new ≡ self.old)) }
     {
         if let Some(fault) = self.new_refusal(number, &ask) {
             return Err(fault);
         }
-        let (member, protocol_type) = Member::joining(number, ask, now);
+        let (member, protocol_type) = Member::joining(number, id, ask, now);
         self.roster.push(member)?;
         self.protocol_type = protocol_type;
         self.prepare(now);
@@ -240,10 +249,7 @@ impl Group {
             return Err(fault);
         }
         let waits = self.must_wait(number, &ask.protocols);
-        let (mut member, protocol_type) = Member::joining(number, ask, now);
-        member.waits = waits;
-        self.roster.replace(member);
-        self.protocol_type = protocol_type;
+        self.protocol_type = self.roster.renew(number, ask, waits, now);
         if waits {
             self.prepare(now);
         }
@@ -285,6 +291,24 @@ impl Group {
     {
         let member = self.roster.members().get(place)?;
         Some(member.number)
+    }
+
+    /// The number of the member with this id, compared whole. None if no member has it.
+    pub fn number_of(&self, id: &[u8]) -> Option<ClientId>
+        ensures { result ≡ number_of self.now id.now }
+    {
+        let member = find_id(self.roster.members(), id)?;
+        Some(member.number)
+    }
+
+    /// The id of a member; no bytes if it is no member.
+    pub fn id_of(&self, number: ClientId) -> &[u8]
+        ensures { result.now ≡ id_of self.now number }
+    {
+        match find(self.roster.members(), number) {
+            None => &[],
+            Some(member) => member.id.as_slice(),
+        }
     }
 
     /// What a member says under the protocol that was chosen; no bytes if it is no member.
@@ -337,6 +361,14 @@ impl Group {
         self.is_ready()
     }
 
+    /// Whether all members have to join again: a JoinGroup waits, and until the group is settled no
+    /// other JoinGroup has it move on.
+    pub fn is_preparing(&self) -> bool
+        ensures { result ≡ is_preparing self.now.phase }
+    {
+        matches!(self.phase, Phase::Preparing(_))
+    }
+
     /// The numbers of those gone that the core still counts: it is told that they leave.
     pub fn gone(&self) -> &[ClientId]
         ensures { result.now ≡ self.now.roster.gone }
@@ -374,7 +406,7 @@ impl Group {
         }
         let members = self.roster.members();
         let leader = led_by(members, self.leader);
-        let protocol = protocol_by(leader, members);
+        let protocol = protocol_by(alloc, leader, members)?;
         let protocol = Vec::from_slice(alloc, protocol)?;
         self.phase = if members.is_empty() {
             Phase::Empty
@@ -625,12 +657,17 @@ fn sooner(time: Option<u64>, member: &Member) -> Option<u64>
 }
 
 // The protocol that is chosen under a leader.
-fn protocol_by<'a>(leader: Option<&'a Member>, members: &'a [Member]) -> &'a [u8]
-    ensures { result.now ≡ protocol_by (option_copied leader.entry) members.now }
+fn protocol_by<'a>(
+    alloc: Global,
+    leader: Option<&'a Member>,
+    members: &'a [Member],
+) -> Result<&'a [u8], AllocError>
+    ensures { IfOk result (λ name.
+        name.now ≡ protocol_by (option_copied leader.entry) members.now) }
 {
     match leader {
-        None => &[],
-        Some(leader) => chosen_by(leader, members),
+        None => Ok(&[]),
+        Some(leader) => chosen_by(alloc, leader, members),
     }
 }
 

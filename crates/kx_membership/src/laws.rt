@@ -7,8 +7,8 @@ ghost use Rattle.kx_membership.specs.Protocols.{assigned_to, later};
 ghost use Rattle.kx_membership.specs.Roster.{any_goes, has, is_numbered};
 ghost use Rattle.kx_membership.specs.Group.{after_due, after_end, after_heartbeat, after_settle};
 ghost use Rattle.kx_membership.specs.Group.{after_sync, after_tick, again_refusal, asks, fence};
-ghost use Rattle.kx_membership.specs.Group.{is_present, is_ready, joined_of, new_group, next_of};
-ghost use Rattle.kx_membership.specs.Group.{synced_of, takes};
+ghost use Rattle.kx_membership.specs.Group.{id_of, is_present, is_ready, joined_of, new_group, next_of};
+ghost use Rattle.kx_membership.specs.Group.{number_of, synced_of, takes};
 ghost use Rattle.kx_membership.specs.Steps.{IsAssigned, IsBefore, IsGroup, NoneJoins, SettlesAs, Step};
 ghost use Rattle.kx_membership.specs.Steps.{after_all, after_step, is_settled, numbers};
 ghost use Rattle.kx_membership.specs.declared.ask.Assignment.{Assignment};
@@ -72,7 +72,7 @@ pub fn preparing_ends()
         ⊎ (((after_due g now).phase ≡ Phase.Empty) × ((after_due g now).roster.gone ≡ [])) }
 {}
 
-/// A law: a group has at most 100 members, and its members' numbers and those that are owed to the
+/// A law: a group has at most 1,000 members, and its members' numbers and those that are owed to the
 /// core are all different; it is empty exactly if it has no members; while all have joined no join
 /// waits, and a member leads. A JoinGroup is answered exactly once it doesn't wait (`answered`).
 pub fn groups_are_sound()
@@ -120,7 +120,13 @@ pub fn members_that_wait_stay()
         → (m.waits || m.syncs) ≡ false }
 {}
 
-/// A law: the id of a member says its number, and no other.
+/// A law: a request with an id is that of the member to which this id was answered, byte for byte.
+pub fn members_are_known_by_their_ids()
+    ensures { (g : Group) (id : List ℕ) (number : ℕ) → IsGroup g
+        → number_of g id ≡ Some number → id_of g number ≡ id }
+{}
+
+/// A law: the id of a member says its number, and no other: two members have different ids.
 pub fn member_ids_say_numbers()
     ensures its { (client : List ℕ) (number : ℕ) → IsIdOf (member_id_of client number) number }
     ensures one { (id : List ℕ) (m n : ℕ) → m < 2 ^ 32 → n < 2 ^ 32

@@ -19,8 +19,9 @@ mod votes;
 pub use ask::{Assignment, Assignments, JoinAsk, Protocol, Protocols};
 pub use fault::GroupFault;
 pub use group::{Group, Joined, MOST_MEMBERS};
-pub use ids::{member_id, number_in};
+pub use ids::member_id;
 pub use laws::{
     assignments_are_the_leaders, generations_are_settled, groups_are_sound, member_ids_say_numbers,
-    members_that_wait_stay, nothing_happens_before, preparing_ends, those_gone_are_unknown,
+    members_are_known_by_their_ids, members_that_wait_stay, nothing_happens_before, preparing_ends,
+    those_gone_are_unknown,
 };

@@ -4,8 +4,8 @@ ghost use Rattle.std.specs.Option.{option_copied};
 ghost use Rattle.std.specs.List.{find};
 ghost use Rattle.kx_membership.specs.Internal.Places.{IsPlaceOf};
 ghost use Rattle.kx_membership.specs.Roster.{any_goes, asking, begun, counted, cut_off, goes};
-ghost use Rattle.kx_membership.specs.Roster.{gone_numbers, has, has_others, has_same, is_numbered};
-ghost use Rattle.kx_membership.specs.Roster.{joining, led_by, longest, woken};
+ghost use Rattle.kx_membership.specs.Roster.{gone_numbers, has, has_id, has_others, has_same};
+ghost use Rattle.kx_membership.specs.Roster.{is_numbered, joining, led_by, longest, renewed, woken};
 
 use crate::ask::{JoinAsk, Protocols, milliseconds};
 use kx_message::{Bytes, ClientId};
@@ -14,6 +14,8 @@ use kx_message::{Bytes, ClientId};
 #[derive(Drop)]
 pub(crate) struct Member {
     pub(crate) number: ClientId,
+    // The id that its client was answered.
+    pub(crate) id: Bytes,
     // After how many milliseconds without a word of it it is gone.
     pub(crate) session: u64,
     // How many milliseconds it may take to join again.
@@ -42,8 +44,8 @@ pub(crate) enum Going {
 
 impl Member {
     // A member that joins, and its protocol type.
-    pub(crate) fn joining(number: ClientId, ask: JoinAsk, now: u64) -> (Member, Bytes)
-        ensures member { result.0 ≡ joining number ask now }
+    pub(crate) fn joining(number: ClientId, id: Bytes, ask: JoinAsk, now: u64) -> (Member, Bytes)
+        ensures member { result.0 ≡ joining number id ask now }
         ensures protocol_type { result.1 ≡ ask.protocol_type }
     {
         let JoinAsk {
@@ -55,6 +57,7 @@ impl Member {
         let session = milliseconds(session_timeout);
         let member = Member {
             number,
+            id,
             session,
             rebalance: milliseconds(rebalance_timeout),
             protocols,
@@ -64,6 +67,27 @@ impl Member {
             is_counted: false,
         };
         (member, protocol_type)
+    }
+
+    // It joins again: what it says now holds, and its session begins anew. Returns the type of its
+    // protocols.
+    pub(crate) fn renew(&mut self, ask: JoinAsk, waits: bool, now: u64) -> Bytes
+        ensures member { self.new ≡ renewed ask waits now self.old }
+        ensures protocol_type { result ≡ ask.protocol_type }
+    {
+        let JoinAsk {
+            session_timeout,
+            rebalance_timeout,
+            protocol_type,
+            protocols,
+        } = ask;
+        self.session = milliseconds(session_timeout);
+        self.rebalance = milliseconds(rebalance_timeout);
+        self.protocols = protocols;
+        self.begin(now);
+        self.waits = waits;
+        self.syncs = false;
+        protocol_type
     }
 
     // Its session begins anew.
@@ -120,6 +144,19 @@ pub(crate) fn find(members: &[Member], number: ClientId) -> Option<&Member>
 {
     for member in members {
         if member.number == number {
+            return Some(member);
+        }
+    }
+    None
+}
+
+// The member with this id, compared whole.
+#[tactic(auto, using(crate::proofs::Finds::find_here, crate::proofs::Finds::find_more))]
+pub(crate) fn find_id<'a>(members: &'a [Member], id: &[u8]) -> Option<&'a Member>
+    ensures { option_copied result ≡ find (has_id id.now) members.now }
+{
+    for member in members {
+        if member.id.as_slice() == id {
             return Some(member);
         }
     }

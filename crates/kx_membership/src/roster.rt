@@ -1,10 +1,11 @@
 //! The members of a group, and the numbers of those gone that the core still counts.
 ghost use Rattle.std.specs.Prelude.{◌≡◌, ◌++◌, ◌∷◌, [], IsOk, MatchResult};
 ghost use Rattle.kx_membership.specs.Roster.{all_woken, asked, heard, left_alone, nobody, parted};
-ghost use Rattle.kx_membership.specs.Roster.{pushed, replaced, settled};
+ghost use Rattle.kx_membership.specs.Roster.{pushed, said_anew, settled};
 
+use crate::ask::JoinAsk;
 use crate::member::{Going, Member, count_all, note_gone, place_of, wake_all};
-use kx_message::ClientId;
+use kx_message::{Bytes, ClientId};
 use std::alloc::{AllocError, Global};
 use std::marker::Model;
 
@@ -97,15 +98,14 @@ impl Roster {
         wake_all(&mut self.members, now);
     }
 
-    // A member says its protocols and timeouts anew; its number and whether the core counts it
-    // stay.
-    pub(crate) fn replace(&mut self, member: Member)
-        ensures { self.new ≡ replaced member self.old }
+    // A member says its timeouts and protocols anew. Returns the type of its protocols.
+    pub(crate) fn renew(&mut self, number: ClientId, ask: JoinAsk, waits: bool, now: u64) -> Bytes
+        ensures members { self.new ≡ said_anew number ask waits now self.old }
+        ensures protocol_type { result ≡ ask.protocol_type }
     {
-        if let Some(place) = place_of(&self.members, member.number) {
-            let mut member = member;
-            member.is_counted = self.members[place].is_counted;
-            self.members[place] = member;
+        match place_of(&self.members, number) {
+            Some(place) => self.members[place].renew(ask, waits, now),
+            None => ask.protocol_type,
         }
     }
 

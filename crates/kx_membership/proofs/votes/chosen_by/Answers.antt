@@ -1,17 +1,22 @@
-use Rattle.std.proofs.Common.{ap, ◌∙◌, arith, sym, take}
+use Rattle.std.proofs.Common.{ap, ◌∷◌, ◌∙◌, map, List, ℕ}
 use Rattle.std.specs.List.{fold}
-use Rattle.std.proofs.lemmas.List.Sums.{fold_more}
-use Rattle.kx_membership.specs.Votes.{better, vote_of}
+use Rattle.kx_membership.specs.Internal.Counting.{all_now, better_of, first_of}
+use Rattle.kx_membership.specs.Votes.{vote_of}
+use Rattle.kx_membership.proofs.Counting.{chosen}
+use Rattle.kx_membership.proofs.Offering.{map_alike, votes_alike}
 use Rattle.kx_membership.proofs.votes.chosen_by.Goals as goal
 
-pub loop-member-preserved : goal.loop-member-preserved
-loop-member-preserved c =
+pub returns : goal.returns
+returns c =
+    let leader = c.args.leader.now in
     let members = c.args.members.now in
-    let step = better members in
-    let begin = vote_of c.args.leader.now members in
-    let at = c.loop-member.member-index in
-    let item = c.member-item.result in
-    c.better-best.ensures
-    ∙ ap (λ best. step best item) c.loop-member.invariant
-    ∙ ap (λ member. step (fold step begin (take at members)) member) c.member-item.is
-    ∙ sym (fold_more step begin members at item (omega arith))
+    let all = all_now c.as_slice-3.result.now in
+    let names = ap all_now c.as_slice.ensures.value ∙ c.in_ok-names.ensures in
+    let names_too = ap all_now c.as_slice-2.ensures.value ∙ c.in_ok-names.ensures in
+    let first = c.first_of.ensures ∙ ap (λ (n : List (List ℕ)). first_of n leader) names_too
+    ∙ votes_alike leader members leader in
+    chosen (vote_of (leader ∷ members)) leader members all c.best_of.result.now
+    (ap all_now c.as_slice-3.ensures.value ∙ c.in_ok-all.ensures
+    ∙ ap (λ (n : List (List ℕ)). map (first_of n) members) names
+    ∙ map_alike leader members members)
+    (c.best_of.ensures ∙ ap (λ (v : List ℕ). fold (better_of all) v all) first)
