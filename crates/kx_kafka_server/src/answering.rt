@@ -355,7 +355,7 @@ impl<'a, L: Readable, J: Naming, R: Wait + Clock + Drop> Session<'a, L, J, R> {
     /// Where a partition's log ends.
     pub(crate) fn ends(&self, partition: PartitionId) -> Result<LogEnds, Closed> {
         if let Some(ends) = self.hub.ends(self.rt, partition) {
-            return Ok(ends);
+            return Ok(ends.into_value());
         }
         let fetch = Fetch {
             caller: self.caller()?,

@@ -130,7 +130,7 @@ impl<'a, L: Readable, J: Naming, R: Wait + Clock + Drop> Session<'a, L, J, R> {
     // The page that is asked for: of the published log, or by a step of the node.
     fn page(&self, fetch: Fetch) -> Result<FetchReply, Closed> {
         let reply = match self.hub.page(self.rt, &fetch) {
-            Some(reply) => reply,
+            Some(page) => page.into_value(),
             None => self.ask(Message::Fetch(fetch))?,
         };
         fetch_reply(reply)

@@ -1,3 +1,4 @@
+pub mod Opening
 pub mod Publishing
 pub mod Showing
 pub mod WrittenSteps

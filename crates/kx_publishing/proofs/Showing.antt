@@ -2,6 +2,7 @@
 use Rattle.std.proofs.Common.{◌≡◌, ℕ, List, [], ◌∷◌, ◌++◌, Option, Some, None, Result, Ok, Err}
 use Rattle.std.proofs.Common.{MatchResult, ◌∙◌, ap, append-nil, inl, inr, is_ok, refl, subst, sym}
 use Rattle.std.proofs.Common.{true}
+use Rattle.std.specs.Prelude.{OnErr}
 use mathlib.Core.List.{IsPrefix}
 use Rattle.kx_machine.specs.Logs.{batches_of}
 use Rattle.kx_machine.specs.Meaning.{IsTaken, NodeState, node_step}
@@ -9,6 +10,7 @@ use Rattle.kx_machine.specs.declared.taken.Taken.{Taken}
 use Rattle.kx_model.specs.Disk.{Store}
 use Rattle.kx_model.specs.Log.{Stored}
 use Rattle.kx_model.specs.Step.{Input}
+use Rattle.kx_published.specs.Failing.{MayHaveAdded, one_more}
 use Rattle.kx_published.specs.Written.{IsWritten, MarkerComesRight}
 use Rattle.kx_published.specs.declared.known.Known.{Known}
 use Rattle.kx_published.specs.declared.publisher.Done.{Done}
@@ -109,14 +111,17 @@ module _ {M : Type 0} (Stands : NodeState → M → Type 0) (log : M → List St
       sent
       (still_shown machine done after told (shown_prefix machine o done runs is) published)
 
--- what it told
+-- what it told, of a log that readers didn't take
 pub shows_told : {E : Type 0} (told : Result Known E) (log : List Stored) (old new : Done)
     → new.known.partition ≡ old.known.partition
     → MatchResult told (λ (t : Known). (t ≡ new.known)
     × (new.known.logs ≡ old.known.logs ++ record { log = log } ∷ []) × (new.shown ≡ log))
     (λ (refused : E). new.shown ≡ old.shown)
+    → MatchResult told (λ (t : Known). new.failed ≡ old.failed)
+    (λ (refused : E). new.failed ≡ one_more old.failed)
+    → OnErr told (MayHaveAdded log old.known.logs new.known.logs) → (old.shown ≡ log → ⊥)
     → Shows (is_ok told) log (Some old) (Some new)
-shows_told (Ok t) log old new partition done = inr (
+shows_told (Ok t) log old new partition done counted added unseen = inr (
   t,
   record {
     old = old;
@@ -127,9 +132,22 @@ shows_told (Ok t) log old new partition done = inr (
     partition = partition;
     logs = done.1;
     shown = done.2;
+    failed = counted;
   },
 )
-shows_told (Err refused) log old new partition same = ap Some same
+shows_told (Err refused) log old new partition same counted added unseen = (
+  unseen,
+  record {
+    old = old;
+    new = new;
+    before_is = refl;
+    after_is = refl;
+    partition = partition;
+    logs = added;
+    shown = same;
+    failed = counted;
+  },
+)
 
 -- what is seen already is shown, and nothing is published
 pub shows_seen : (log : List Stored) (done : Done) → done.shown ≡ log

@@ -13,10 +13,15 @@ use Rattle.kx_model.specs.Step.{Input, Comes, Restarts}
 use Rattle.kx_nodes.specs.Taking.{IsAnswer}
 use Rattle.kx_nodes.specs.declared.fault.NodeFault.{NodeFault}
 use Rattle.kx_nodes.specs.declared.receipt.Receipt.{Receipt}
+use Rattle.kx_published.specs.Failing.{MayHaveAdded, one_more}
 use Rattle.kx_published.specs.Written.{HasWritten}
 use Rattle.kx_published.specs.declared.known.Known.{Known}
+use Rattle.kx_published.specs.declared.known.Shown.{Shown}
 use Rattle.kx_published.specs.declared.publisher.Done.{Done}
+use Rattle.kx_publishing.specs.declared.fault.PublishFault.{PublishFault}
+use Rattle.kx_publishing.specs.declared.fault.PublishFault.TheVariants as refusal
 use Rattle.kx_publishing.specs.declared.published_machine.Publishes.{Publishes}
+use Rattle.kx_publishing.specs.declared.published_machine.Publishes.TheVariants as publishes
 use Rattle.kx_publishing.specs.declared.published_machine.Tended.{Tended}
 use Rattle.kx_publishing.specs.declared.published_machine.Tended.TheVariants as tended
 
@@ -62,13 +67,19 @@ pub record Runs {M : Type 0} (Stands : NodeState → M → Type 0) (machine : M)
 
 ------ publishes
 
--- the empty log was published, as this partition's first, and readers take it
-pub record IsFirst (partition : ℕ) (published : Option Done) : Type 0 where
+-- the empty log is published first, and then the log that was opened, if that is another
+abbrev pub IsOpening : List Stored → List Shown → Type 0
+IsOpening [] logs = logs ≡ record { log = [] } ∷ []
+IsOpening (s ∷ log) logs = logs ≡ record { log = [] } ∷ record { log = s ∷ log } ∷ []
+
+-- this partition's log was published as it was opened, and readers take it
+pub record IsOpened (partition : ℕ) (log : List Stored) (published : Option Done) : Type 0 where
   pub done : Done
   pub published_is : published ≡ Some done
   pub partition_is : done.known.partition ≡ partition
-  pub logs : done.known.logs ≡ record { log = [] } ∷ []
-  pub shown : done.shown ≡ []
+  pub logs : IsOpening log done.known.logs
+  pub shown : done.shown ≡ log
+  pub failed : done.failed ≡ 0
 
 -- readers take the log, which is the next one published, and the told one
 pub record HasShown (log : List Stored) (before after : Option Done) (told : Known) : Type 0 where
@@ -80,6 +91,23 @@ pub record HasShown (log : List Stored) (before after : Option Done) (told : Kno
   pub partition : new.known.partition ≡ old.known.partition
   pub logs : new.known.logs ≡ old.known.logs ++ record { log = log } ∷ []
   pub shown : new.shown ≡ log
+  pub failed : new.failed ≡ old.failed
+
+-- one publish of the log was tried and failed, which was counted: readers take what they took
+pub record HasFailed (log : List Stored) (before after : Option Done) : Type 0 where
+  pub old : Done
+  pub new : Done
+  pub before_is : before ≡ Some old
+  pub after_is : after ≡ Some new
+  pub partition : new.known.partition ≡ old.known.partition
+  pub logs : MayHaveAdded log old.known.logs new.known.logs
+  pub shown : new.shown ≡ old.shown
+  pub failed : new.failed ≡ one_more old.failed
+
+-- why nothing was published: there is no published log, or the publish failed
+abbrev pub IsRefused : PublishFault → List Stored → Option Done → Option Done → Type 0
+IsRefused refusal.NoReader log before after = (before ≡ None) × (after ≡ None)
+IsRefused refusal.Memory log before after = HasFailed log before after
 
 -- readers take this log
 abbrev pub IsSeen : List Stored → Option Done → Type 0
@@ -90,31 +118,45 @@ IsSeen log (Some done) = done.shown ≡ log
 abbrev pub IsQuiet : List Stored → Option Done → Option Done → Type 0
 IsQuiet log before after = IsSeen log before × (after ≡ before)
 
--- readers take the log: they did before, or it is the next one published; or they take what they
--- took
+-- the log isn't shown: none is published; or readers took another one, and the publish failed
+abbrev pub IsUnshown : List Stored → Option Done → Option Done → Type 0
+IsUnshown log None after = after ≡ None
+IsUnshown log (Some done) after = (done.shown ≡ log → ⊥) × HasFailed log (Some done) after
+
+-- the log is shown if it isn't yet: readers took it before, or it is the next one published; or
+-- it isn't shown
 abbrev pub Shows : Bool → List Stored → Option Done → Option Done → Type 0
 Shows true log before after = IsQuiet log before after ⊎ ((told : Known) × HasShown log before after told)
-Shows false log before after =
-    option_map (λ (d : Done). d.shown) after ≡ option_map (λ (d : Done). d.shown) before
+Shows false log before after = IsUnshown log before after
 
 ------ steps
 
--- the step records what it does without readers; after it they take the log that it left, or what
--- they took, which begins the node's log still; and a refusal publishes nothing
+-- the log that a step left is shown, if steps publish; else readers take what they took
+abbrev pub StepShows : Publishes → Bool → List Stored → Option Done → Option Done → Type 0
+StepShows publishes.EachStep shown log before after = Shows shown log before after
+StepShows publishes.OnCall shown log before after = (shown ≡ false) × (after ≡ before)
+
+-- the step records what it does without readers. After it they take the log that it left, if steps
+-- publish, unless the one publish that was tried failed; what they take begins the node's log
+-- still; and a refusal publishes nothing, as does a step that left the log that they take
 pub record StepIsPublished {L : Type 0} (log : L → List Stored)
     (Records : L → given.Input → Result Receipt NodeFault → L → Type 0) (before : UnderLock L)
     (input : given.Input) (result : Result Receipt NodeFault) (after : UnderLock L)
     : Type 0 where
   pub recorded : Records before.locked input result after.locked
   pub shows : MatchResult result
-      (λ receipt. (shown : Bool) × Shows shown (log after.locked) before.published after.published)
+      (λ receipt. (shown : Bool) × StepShows before.publishes shown (log after.locked)
+      before.published after.published)
       (λ refused. after.published ≡ before.published)
+  pub quiet : IsSeen (log after.locked) before.published → after.published ≡ before.published
+  pub publishes : after.publishes ≡ before.publishes
   pub begins : ShowsBeginning (log after.locked) after.published
 
--- whether readers take the log as it stands now
-abbrev pub shows_of : Tended → Bool
-shows_of (tended.Restarted served) = served.is_shown
-shows_of (tended.Rested shown) = shown
+-- the log is shown as after a step, if there was one, and else whenever it is published
+abbrev pub TendShows : Publishes → Tended → List Stored → Option Done → Option Done → Type 0
+TendShows publishes (tended.Restarted served) log before after =
+    StepShows publishes served.is_shown log before after
+TendShows publishes (tended.Rested shown) log before after = Shows shown log before after
 
 -- the node was restarted, and answers so
 abbrev pub IsRestart : (Option ℕ → Store → Type 0) → NodeState → ℕ → (NodeState → Type 0) → Tended

@@ -23,7 +23,7 @@ pub traced_log_is : {B M : Type 0} {Stands : NodeState → M → Type 0} {log : 
     → log traced.machine ≡ batches_of state
 traced_log_is made_as is traced state runs = is traced.machine state runs.stands
 
-pub recorded_log_is : {M : Type 0} {Stands : NodeState → M → Type 0} {log : M → List Stored}
-    → TellsLog Stands log → (r : recording.Recorded M) (state : NodeState)
-    → Stands state r.machine → log r.machine ≡ batches_of state
-recorded_log_is is r state stands = is r.machine state stands
+pub written_log_is : {M : Type 0} {Stands : NodeState → M → Type 0} {log : M → List Stored}
+    → TellsLog Stands log → (written : Alone (recording.Recorded M)) (state : NodeState)
+    → Stands state written.machine.machine → log written.machine.machine ≡ batches_of state
+written_log_is is written state stands = is written.machine.machine state stands

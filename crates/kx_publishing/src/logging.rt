@@ -8,8 +8,6 @@ use kx_log::Store;
 use kx_machine::Machine;
 use kx_machines::{AnyMachine, BrokerMachine};
 use kx_processor::Process;
-use kx_recording::Recording;
-use std::io::Write;
 
 /// A machine whose log of record batches is told by the machine itself, as whoever publishes it has
 /// to know it.
@@ -61,13 +59,4 @@ impl<S: Store, F: Process> Logging for AnyMachine<S, F> {
     ghost log = { any_log };
 
     ghost log_is = { any_log_is F.image_of };
-}
-
-/// The log of a machine whose steps are written is the machine's own.
-impl<M: Logging, W: Write + Drop> Logging for Recording<M, W> {
-    ghost use Rattle.kx_publishing.specs.Readable.{recorded_log_is};
-
-    ghost log = { λ recording. M.log recording.machine };
-
-    ghost log_is = { recorded_log_is M.log_is };
 }

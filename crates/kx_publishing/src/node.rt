@@ -17,10 +17,11 @@ use std::sync::Wait;
 /// Dropping a node waits for readers that are in its log, so whatever holds both drops the reader
 /// first.
 pub trait PublishedNode<J: Naming, R: Wait> {
-    ghost use Rattle.std.specs.Prelude.{◌≡◌, IfOk};
+    ghost use Rattle.std.specs.Prelude.{◌≡◌, IfErr, IfOk};
     ghost use Rattle.kx_message.specs.declared.message.NodeId.{NodeId};
     ghost use Rattle.kx_message.specs.declared.message.NodeId.TheVariants as node;
     ghost use Rattle.kx_publishing.specs.Publishing.{MayRestart};
+    ghost use Rattle.kx_publishing.specs.declared.fault.PublishFault.TheVariants.{NoReader};
 
     // the node's name
     ghost named: { Self → NodeId };
@@ -46,7 +47,9 @@ pub trait PublishedNode<J: Naming, R: Wait> {
     ///
     /// As [`PublishedMachine::reader`].
     fn reader(&self, rt: &R) -> Result<PageReader<J>, PublishFault>
-        ensures { IfOk result (λ reader. node.Partition reader.known.partition ≡ named self.now) };
+        ensures reader { IfOk result
+            (λ reader. node.Partition reader.known.partition ≡ named self.now) }
+        ensures full { IfErr result (λ fault. fault ≡ NoReader) };
 
     /// What the clock does for the node at this time, in milliseconds since 1970, as
     /// [`PublishedMachine::tend`] does it. Waits until no other thread makes a step here.

@@ -13,10 +13,9 @@ ghost use Rattle.kx_nodes.specs.Taking.{IsAnswer};
 ghost use Rattle.kx_pipeline.specs.Visible.{visible_in};
 ghost use Rattle.kx_published.specs.Written.{MarkerComesRight};
 ghost use Rattle.kx_published.specs.declared.publisher.Done.{Done};
-ghost use Rattle.kx_publishing.specs.Publishing.{HasShown, IsFirst, IsRestart, IsSeen, MayRestart};
-ghost use Rattle.kx_publishing.specs.Publishing.{Shows, ShowsBeginning, WroteItself, comes_with};
-ghost use Rattle.kx_publishing.specs.Publishing.{partition_of};
-ghost use Rattle.kx_publishing.specs.Publishing.{shows_of};
+ghost use Rattle.kx_publishing.specs.Publishing.{HasShown, IsOpened, IsRefused, IsRestart, IsSeen};
+ghost use Rattle.kx_publishing.specs.Publishing.{MayRestart, Shows, ShowsBeginning, StepShows};
+ghost use Rattle.kx_publishing.specs.Publishing.{TendShows, WroteItself, comes_with, partition_of};
 ghost use Rattle.kx_publishing.specs.declared.fault.PublishFault.TheVariants as refused;
 ghost use Rattle.kx_publishing.specs.declared.published_machine.Publishes.TheVariants as publishes;
 ghost use Rattle.kx_publishing.specs.declared.published_machine.Tended.TheVariants as tended_as;
@@ -51,8 +50,8 @@ pub struct Served {
     /// The receipt of the step.
     pub receipt: Receipt,
     /// Whether this step found readers that enter from now on to see the log that it left. They see
-    /// what they saw if no log is published, if none is published at steps, if memory ran
-    /// out, and after 2^61 publishes.
+    /// what they saw if no log is published, if none is published at steps, and if the publish
+    /// failed: if memory ran out, and after 2^61 publishes.
     pub is_shown: bool,
 }
 
@@ -124,8 +123,8 @@ impl<L: Readable, J: Naming, R: Wait + Drop> PublishedMachine<L, J, R> {
     }
 
     /// A machine whose log is published under the book that was opened for its partition: the empty
-    /// log first, and the log as it stands by the next publish. At most `readers` readers exist at
-    /// a time. The copies take memory from `alloc`.
+    /// log first, and then the log as it stands, if it isn't empty. Readers see it at once. At most
+    /// `readers` readers exist at a time. The copies take memory from `alloc`.
     ///
     /// # Errors
     ///
@@ -142,18 +141,24 @@ impl<L: Readable, J: Naming, R: Wait + Drop> PublishedMachine<L, J, R> {
         requires readers { (0 < readers) × (readers < 2 ^ 32) }
         requires book { opened.seen.book ≡ J.book opened.partition }
         ensures locked { IfOk result (λ d. d.locked ≡ locked) }
-        ensures published { IfOk result (λ d. IsFirst opened.partition d.published) }
+        ensures published { IfOk result
+            (λ d. IsOpened opened.partition (L.log locked) d.published) }
         ensures publishes { IfOk result (λ d. d.publishes ≡ publishes) }
     {
         let partition = opened.partition;
         let (head, front) = opened.named::<J>();
         let publisher = Publisher::new(rt, alloc, head, front, readers)?;
-        Ok(PublishedMachine {
+        let mut machine = PublishedMachine {
             locked,
             partition: Some(partition),
             publisher: Some(publisher),
             publishes,
-        })
+        };
+        if machine.show() {
+            return Ok(machine);
+        }
+        drop(machine);
+        Err(AllocError)
     }
 
     /// The partition whose log is published, if it is.
@@ -200,8 +205,8 @@ impl<L: Readable, J: Naming, R: Wait + Drop> PublishedMachine<L, J, R> {
     fn show_step(&mut self) -> bool
         ensures locked { self.new.locked ≡ self.old.locked }
         ensures publishes { self.new.publishes ≡ self.old.publishes }
-        ensures shows { Shows result (L.log self.old.locked) self.old.published
-            self.new.published }
+        ensures shows { StepShows self.old.publishes result (L.log self.old.locked)
+            self.old.published self.new.published }
         ensures quiet { IsSeen (L.log self.old.locked) self.old.published
             → self.new.published ≡ self.old.published }
         ensures waits { self.old.publishes ≡ publishes.OnCall
@@ -233,8 +238,8 @@ impl<L: Readable, J: Naming, R: Wait + Drop> PublishedMachine<L, J, R> {
             (λ served. L.records self.old.locked input (Ok served.receipt) self.new.locked)
             (λ refused. L.records self.old.locked input (Err refused) self.new.locked) }
         ensures shows { MatchResult result
-            (λ served. Shows served.is_shown (L.log self.new.locked) self.old.published
-            self.new.published)
+            (λ served. StepShows self.old.publishes served.is_shown (L.log self.new.locked)
+            self.old.published self.new.published)
             (λ refused. self.new.published ≡ self.old.published) }
         ensures quiet { IsSeen (L.log self.new.locked) self.old.published
             → self.new.published ≡ self.old.published }
@@ -272,8 +277,8 @@ impl<L: Readable, J: Naming, R: Wait + Drop> PublishedMachine<L, J, R> {
             × IfOk result (λ tended. (shown : Bool) × (tended ≡ tended_as.Rested shown)) }
         ensures answer { IfOk result (MayRestart now) }
         ensures shows { MatchResult result
-            (λ tended. Shows (shows_of tended) (L.log self.new.locked) self.old.published
-            self.new.published)
+            (λ tended. TendShows self.old.publishes tended (L.log self.new.locked)
+            self.old.published self.new.published)
             (λ refused. self.new.published ≡ self.old.published) }
         ensures quiet { IsSeen (L.log self.new.locked) self.old.published
             → self.new.published ≡ self.old.published }
@@ -294,7 +299,7 @@ impl<L: Readable, J: Naming, R: Wait + Drop> PublishedMachine<L, J, R> {
     /// # Errors
     ///
     /// `NoReader` if no log is published; else `Memory`, if memory runs out and after 2^61
-    /// publishes. Readers see what they saw.
+    /// publishes. Readers see what they saw, and the one publish that was tried is counted.
     pub fn publish(&mut self) -> Result<Told<J>, PublishFault>
         ensures locked { self.new.locked ≡ self.old.locked }
         ensures shows { IfOk result (HasShown (L.log self.old.locked) self.old.published
@@ -304,6 +309,8 @@ impl<L: Readable, J: Naming, R: Wait + Drop> PublishedMachine<L, J, R> {
             (λ told. partition_of self.old.published ≡ Some told.partition) }
         ensures stays { IfErr result (λ _. option_map (λ d. d.shown) self.new.published
             ≡ option_map (λ d. d.shown) self.old.published) }
+        ensures refused { IfErr result (λ fault. IsRefused fault (L.log self.old.locked)
+            self.old.published self.new.published) }
         ensures silent { (result ≡ Err refused.NoReader) ↔ (self.old.published ≡ None) }
     {
         let Some(publisher) = self.publisher.take() else {
@@ -314,10 +321,7 @@ impl<L: Readable, J: Naming, R: Wait + Drop> PublishedMachine<L, J, R> {
         };
         let (publisher, published) = publisher.publish(&growing);
         self.publisher = Some(publisher);
-        match published {
-            Ok(told) => Ok(told),
-            Err(_) => Err(PublishFault::Memory),
-        }
+        Ok(published?)
     }
 
     /// What readers take is a beginning of the node's own log. This does nothing when it runs.
@@ -350,8 +354,10 @@ impl<L: Readable, J: Naming, R: Wait + Drop> PublishedMachine<L, J, R> {
     ///
     /// `NoReader` if no log is published, and if all readers' places are taken.
     pub fn reader(&self) -> Result<PageReader<J>, PublishFault>
-        ensures { IfOk result (λ r. (option_map (λ d. d.known) self.now.published ≡ Some r.known)
+        ensures known { IfOk result (λ r. (option_map (λ d. d.known) self.now.published ≡ Some r.known)
             × (r.is_in ≡ false)) }
+        // Places that are all taken aren't out of memory.
+        ensures full { IfErr result (λ fault. fault ≡ refused.NoReader) }
     {
         let Some(publisher) = &self.publisher else {
             return Err(PublishFault::NoReader);

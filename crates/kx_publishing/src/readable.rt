@@ -3,6 +3,8 @@ use crate::logging::Logging;
 use kx_log::LogSlices;
 use kx_machine::Machine;
 use kx_nodes::{Locked, Made, Traced, Untraced};
+use kx_recording::Written;
+use std::io::Write;
 
 /// What is under a node's lock, whose log of record batches can be read.
 pub trait Readable: Locked {
@@ -60,6 +62,27 @@ impl<M: Logging, B: Made> Readable for Traced<M, B> {
     ghost log = { λ traced. M.log traced.machine };
 
     ghost log_is = { traced_log_is B.state M.log_is };
+
+    fn is_closed(&self) -> bool {
+        self.machine().is_closed()
+    }
+
+    fn log_end(&self) -> i64 {
+        self.machine().log_end()
+    }
+
+    fn batches_from(&self, from: i64, max: u32) -> LogSlices<'_> {
+        self.machine().batches_from(from, max)
+    }
+}
+
+/// The log of a machine whose steps are written is the machine's own.
+impl<M: Logging, W: Write + Drop> Readable for Written<M, W> {
+    ghost use Rattle.kx_publishing.specs.Readable.{written_log_is};
+
+    ghost log = { λ written. M.log written.machine.machine };
+
+    ghost log_is = { written_log_is M.log_is };
 
     fn is_closed(&self) -> bool {
         self.machine().is_closed()

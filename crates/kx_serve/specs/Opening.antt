@@ -1,5 +1,6 @@
 -- The nodes of a server, as their logs were opened.
-use Rattle.std.specs.Prelude.{◌≡◌, ◌<◌, ◌+◌, ℕ, List, [], ◌∷◌}
+use Rattle.std.specs.Prelude.{◌≡◌, ◌⊎◌, ◌<◌, ◌+◌, ℕ, List, [], ◌∷◌, Option, Some, None}
+use Rattle.std.specs.Prelude.{IsTrue, false, true}
 use Rattle.logbook.specs.Pages.{Book}
 use Rattle.kx_broker.specs.Serving.{opened_partition}
 use Rattle.kx_laws.specs.Grown.{IsGrown}
@@ -30,6 +31,16 @@ IsOpened = Serves broker_stands broker_log
 pub record StandsForCoordinator {S : Type 0} (r : Recorded (BrokerMachine S)) : Type 0 where
   pub coordinator : Coordinator
   pub stands : broker_stands (AtCoordinator coordinator) r.machine
+
+-- a machine's steps are written to a trace, exactly if there is one; or its trace is broken, and it
+-- takes nothing
+abbrev pub IsTraced : {T M : Type 0} → Option T → Recorded M → Type 0
+IsTraced None r = r.writes ≡ false
+IsTraced (Some trace) r = IsTrue r.writes ⊎ (r.is_broken ≡ true)
+
+-- so of a node's
+abbrev pub IsTracedNode : {T M : Type 0} → Option T → OpenedNode (Alone (Recorded M)) → Type 0
+IsTracedNode trace node = IsTraced trace node.locked.machine
 
 -- the book of a partition's publishes is the one that its name stands for
 abbrev pub IsItsBook : (ℕ → Book) → Opened → Type 0

@@ -1,12 +1,13 @@
 //! The nodes of a server, whose logs are in memory or in the files of a folder, and what a folder
 //! lacks.
-ghost use Rattle.std.specs.Prelude.{◌≡◌, ◌<◌, ◌++◌, ◌∷◌, [], ℕ, All, IfOk, OnOk};
+ghost use Rattle.std.specs.Prelude.{◌≡◌, ◌<◌, ◌++◌, ◌∷◌, [], ℕ, All, IfOk, IsTrue};
+ghost use Rattle.std.specs.Prelude.{MatchOption, OnOk, Some, false};
 ghost use Rattle.kx_coord_node.specs.Stands.{Stands, opened_coordinator};
 ghost use Rattle.kx_machine.specs.Meaning.{AtCoordinator};
 ghost use Rattle.kx_message.specs.Ranges.{data_partitions, offsets_partition};
 ghost use Rattle.kx_serve.specs.Opening.{HasBook, HasOffsetsBook, IsItsBook, IsOpened};
 ghost use Rattle.kx_serve.specs.Owed.{HasAll};
-ghost use Rattle.kx_serve.specs.Opening.{IsServing, StandsForCoordinator};
+ghost use Rattle.kx_serve.specs.Opening.{IsServing, IsTraced, IsTracedNode, StandsForCoordinator};
 ghost use Rattle.logbook.specs.Pages.{Book};
 
 use crate::course::{Begins, Course, begins_of, coordinator_course, partition_course};
@@ -16,14 +17,14 @@ use crate::folder::{Folder, fault_in};
 use crate::members::members_of;
 use crate::owed::{first_missing, names};
 use crate::placing::{OpenedNode, OpenedNodes};
-use crate::tracing::{ServerMachine, Traces, recorded, restarted};
+use crate::tracing::{ServerMachine, Traces, WrittenMachine, recorded, restarted};
 use kx_broker::{OffsetsMachine, PartitionMachine};
 use kx_coord_node::CoordinatorMachine;
 use kx_log::Store;
 use kx_machines::BrokerMachine;
 use kx_message::{NodeId, PartitionId};
-use kx_nodes::Untraced;
 use kx_published::book::{Naming, Opened};
+use kx_recording::Written;
 use kx_server::{Member, Partitions};
 use kx_trace::TracedNode;
 use kx_trace_files::{OpenedTrace, TraceFile};
@@ -43,13 +44,14 @@ fn locked<S: Store, R: Eprint + Drop>(
     number: PartitionId,
     machine: ServerMachine<S, R>,
     opened: Opened,
-) -> OpenedNode<Untraced<ServerMachine<S, R>>>
+) -> OpenedNode<WrittenMachine<S, R>>
     requires { IsOpened number machine.machine }
-    ensures { (named : ℕ → Book) → opened.partition ≡ number → IsItsBook named opened
+    ensures serves { (named : ℕ → Book) → opened.partition ≡ number → IsItsBook named opened
         → IsServing named result }
+    ensures machine { result.locked.machine ≡ machine }
 {
     OpenedNode {
-        locked: Untraced::new(NodeId::Partition(number), machine),
+        locked: Written::new(NodeId::Partition(number), machine),
         opened,
     }
 }
@@ -68,7 +70,7 @@ pub(crate) struct Opening<'a, F: Folder, R: Drop> {
 }
 
 /// What is under the lock of a server's node.
-pub(crate) type Kept<F, R> = Untraced<ServerMachine<<F as Folder>::Kept, R>>;
+pub(crate) type Kept<F, R> = WrittenMachine<<F as Folder>::Kept, R>;
 
 impl<'a, F: Folder, R: Files<File = File> + AllocGlobal + Eprint + Drop + Copy> Opening<'a, F, R> {
     // The partitions whose logs were made before, of those that are served.
@@ -196,7 +198,8 @@ impl<'a, F: Folder, R: Files<File = File> + AllocGlobal + Eprint + Drop + Copy> 
         store: F::Kept,
         trace: Option<TraceFile<R>>,
     ) -> Result<ServerMachine<F::Kept, R>, ServeFault>
-        ensures { IfOk result StandsForCoordinator }
+        ensures stands { IfOk result StandsForCoordinator }
+        ensures traced { IfOk result (IsTraced trace) }
     {
         match self.reopened(kept, store) {
             Ok(machine) => Ok(recorded(self.alloc, BrokerMachine::Coordinator(machine), trace)),
@@ -213,7 +216,8 @@ impl<'a, F: Folder, R: Files<File = File> + AllocGlobal + Eprint + Drop + Copy> 
         store: F::Kept,
         trace: TraceFile<R>,
     ) -> Result<ServerMachine<F::Kept, R>, ServeFault>
-        ensures { IfOk result StandsForCoordinator }
+        ensures stands { IfOk result StandsForCoordinator }
+        ensures traced { IfOk result (IsTraced (Some trace)) }
     {
         match self.begun(store) {
             Ok(machine) => {
@@ -258,7 +262,8 @@ impl<'a, F: Folder, R: Files<File = File> + AllocGlobal + Eprint + Drop + Copy> 
         traces: &Traces<'a, R>,
         trace: OpenedTrace<R>,
     ) -> Result<ServerMachine<F::Kept, R>, ServeFault>
-        ensures { IfOk result StandsForCoordinator }
+        ensures stands { IfOk result StandsForCoordinator }
+        ensures traced { IfOk result (IsTraced (Some trace)) }
     {
         let (store, entries) = self.found(store)?;
         let file = LogFile::Coordinator;
@@ -277,7 +282,8 @@ impl<'a, F: Folder, R: Files<File = File> + AllocGlobal + Eprint + Drop + Copy> 
         &self,
         kept: &[PartitionId],
     ) -> Result<(ServerMachine<F::Kept, R>, Begins), ServeFault>
-        ensures { IfOk result (λ made. StandsForCoordinator made.0) }
+        ensures stands { IfOk result (λ made. StandsForCoordinator made.0) }
+        ensures traced { IfOk result (λ made. IsTraced self.now.traces made.0) }
     {
         let store = self.folder.store(self.alloc, LogFile::Coordinator)?;
         let Some(traces) = &self.traces else {
@@ -355,7 +361,9 @@ impl<'a, F: Folder, R: Files<File = File> + AllocGlobal + Eprint + Drop + Copy> 
         begins: Begins,
         machine: BrokerMachine<F::Kept>,
     ) -> Result<ServerMachine<F::Kept, R>, ServeFault>
-        ensures { IfOk result (λ r. r.machine ≡ machine) }
+        ensures machine { IfOk result (λ r. r.machine ≡ machine) }
+        ensures writes { IfOk result (λ r. MatchOption self.now.traces (r.writes ≡ false)
+            (λ traces. IsTrue r.writes)) }
     {
         let Some(traces) = &self.traces else {
             return Ok(recorded(self.alloc, machine, None));
@@ -385,7 +393,8 @@ impl<'a, F: Folder, R: Files<File = File> + AllocGlobal + Eprint + Drop + Copy> 
         begins: Begins,
     ) -> Result<OpenedNode<Kept<F, R>>, ServeFault>
         requires { HasBook J.book opened }
-        ensures { IfOk result (IsServing J.book) }
+        ensures serves { IfOk result (IsServing J.book) }
+        ensures traced { IfOk result (IsTracedNode self.now.traces) }
     {
         let file = LogFile::of(opened.partition);
         let begins = self.begins_on(file, begins)?;
@@ -401,8 +410,9 @@ impl<'a, F: Folder, R: Files<File = File> + AllocGlobal + Eprint + Drop + Copy> 
         opened: Opened,
         begins: Begins,
     ) -> Result<(OpenedNode<Kept<F, R>>, Vec<Member>), ServeFault>
-        ensures { HasOffsetsBook J.book opened
+        ensures serves { HasOffsetsBook J.book opened
             → IfOk result (λ made. IsServing J.book made.0) }
+        ensures traced { IfOk result (λ made. IsTracedNode self.now.traces made.0) }
     {
         let begins = self.begins_on(LogFile::Offsets, begins)?;
         let machine = self.offsets(LogFile::Offsets)?;
@@ -428,8 +438,10 @@ impl<'a, F: Folder, R: Files<File = File> + AllocGlobal + Eprint + Drop + Copy> 
     ) -> Result<Vec<Member>, ServeFault>
         requires books { All (HasBook J.book) books.items }
         requires offsets { HasOffsetsBook J.book offsets }
-        ensures { All (IsServing J.book) nodes.old.items
+        ensures serves { All (IsServing J.book) nodes.old.items
             → OnOk result (All (IsServing J.book) nodes.new.items) }
+        ensures traced { All (IsTracedNode self.now.traces) nodes.old.items
+            → OnOk result (All (IsTracedNode self.now.traces) nodes.new.items) }
     {
         for opened in books {
             add(nodes, self.data_node::<J>(opened, begins)?)?;
@@ -451,13 +463,16 @@ impl<'a, F: Folder, R: Files<File = File> + AllocGlobal + Eprint + Drop + Copy> 
             StandsForCoordinator nodes.coordinator.machine) }
         ensures partitions { IfOk result (λ nodes.
             All (IsServing J.book) nodes.partitions.items) }
+        // Each node records its steps, if traces are kept.
+        ensures traced { IfOk result (λ nodes. IsTraced self.now.traces nodes.coordinator.machine
+            × All (IsTracedNode self.now.traces) nodes.partitions.items) }
     {
         let kept = self.kept()?;
         self.warn_of_more()?;
         let log = self.log_to_warn_by(kept.as_slice())?;
         let (machine, begins) = self.coordinator(kept.as_slice())?;
         self.warn_of_missing(log.as_slice(), kept.as_slice());
-        let coordinator = Untraced::new(NodeId::Coordinator, machine);
+        let coordinator = Written::new(NodeId::Coordinator, machine);
         let mut partitions = Vec::new(self.alloc);
         match self.open_partitions::<J>(&mut partitions, books, offsets, begins) {
             Ok(members) => Ok(OpenedNodes {

@@ -62,10 +62,7 @@ fn placed<L: Readable, J: Naming, R: Wait + Drop + Copy>(
         return unpublished(alloc, locked);
     }
     let when = Publishes::EachStep;
-    let mut machine = PublishedMachine::publishing(rt, alloc, locked, opened, readers, when)?;
-    if machine.publish().is_err() {
-        return Err(AllocError);
-    }
+    let machine = PublishedMachine::publishing(rt, alloc, locked, opened, readers, when)?;
     let node = Arc::new(alloc, Node::new(machine))?;
     let readers = Readers::of(&rt, alloc, &node, readers)?;
     Ok(Place::published(node, readers))

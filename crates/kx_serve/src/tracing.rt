@@ -1,12 +1,13 @@
 //! The traces of a server's nodes.
 ghost use Rattle.std.specs.Prelude.{◌≡◌, IfOk, IsTrue, MatchOption, false};
+ghost use Rattle.kx_recording.specs.Recorded.{GoesOn};
 ghost use Rattle.kx_serve.specs.Opening.{StandsForCoordinator};
 
 use crate::fault::ServeFault;
 use kx_log::Store;
 use kx_machine::Input;
 use kx_machines::BrokerMachine;
-use kx_recording::Recording;
+use kx_recording::{Recording, Written};
 use kx_trace::TracedNode;
 use kx_trace_files::{
     OpenedTrace, TraceFile, TraceFileFault, TraceName, open_trace, write_reopened,
@@ -17,6 +18,9 @@ use std::fs::{File, Files};
 
 /// The machine of a node, whose steps are written to a trace, if there is one.
 pub(crate) type ServerMachine<S, R> = Recording<BrokerMachine<S>, TraceFile<R>>;
+
+/// What is under the lock of a node, each of whose steps is recorded.
+pub(crate) type WrittenMachine<S, R> = Written<BrokerMachine<S>, TraceFile<R>>;
 
 /// A machine whose steps are written to this trace, if there is one.
 pub(crate) fn recorded<S: Store, R: Eprint + Drop>(
@@ -42,7 +46,8 @@ pub(crate) fn restarted<S: Store, R: Eprint + Drop>(
     mut machine: ServerMachine<S, R>,
     time: u64,
 ) -> Result<ServerMachine<S, R>, ServeFault>
-    ensures { StandsForCoordinator machine → IfOk result StandsForCoordinator }
+    ensures stands { StandsForCoordinator machine → IfOk result StandsForCoordinator }
+    ensures goes_on { IfOk result (GoesOn machine) }
 {
     let restart = Input::Restart(time);
     let taken = machine.record(&restart);

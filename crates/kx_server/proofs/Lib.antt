@@ -1,1 +1,2 @@
 mod Queues
+mod Stable

@@ -96,8 +96,8 @@ impl<'a, L: Readable, J: Naming, R: Wait + Drop> Connection<'a, L, J, R> {
             return Ok(());
         }
         if let Message::Fetch(fetch) = &message {
-            if let Some(reply) = self.hub.page(rt, fetch) {
-                self.peer.answer(rt, reply);
+            if let Some(page) = self.hub.page(rt, fetch) {
+                self.peer.answer(rt, page.into_value());
                 return Ok(());
             }
         }

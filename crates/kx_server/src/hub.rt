@@ -1,12 +1,15 @@
 //! What the threads of a server share: its nodes with the readers of their logs, and over which
 //! connection each client is answered.
+ghost use Rattle.std.specs.Prelude.{◌≡◌, IfSome};
+ghost use Rattle.kx_server.specs.Reading.{AreEndsOf, IsPageOf};
+
 use crate::notices::Notices;
 use crate::peer::Peer;
 use crate::readers::Readers;
+use crate::reading::{FromLog, LogEnds, read_ends, read_page};
 use crate::routes::Routes;
 use crate::sessions::{Member, Sessions};
 use crate::watches::{Waker, Watches};
-use kx_broker::{answer_fetch, page_room};
 use kx_machine::Input;
 use kx_message::{ClientId, Fetch, Message, NodeId, PartitionId};
 use kx_nodes::{Gate, Handle, Node, NodeFault, Receipt};
@@ -18,15 +21,6 @@ use std::sync::{Arc, Mutex, Wait};
 
 // While more messages than these wait for workers, no request is taken from a connection.
 const FEW_WAITING: u64 = 4095;
-
-/// Where a partition's log ends.
-#[derive(Clone, Copy, Debug, PartialEq, Eq)]
-pub struct LogEnds {
-    /// The offset after the last record, the high watermark.
-    pub end: i64,
-    /// The last stable offset.
-    pub lso: i64,
-}
 
 /// A node of a server: its log may be published.
 pub type ServedNode<L, J, R> = Node<PublishedMachine<L, J, R>>;
@@ -330,41 +324,26 @@ impl<L: Readable, J: Naming, R: Wait + Drop> Hub<L, J, R> {
         self.place(name)?.readers.as_ref()
     }
 
-    /// Where the published log of a partition ends: no step. None if it isn't published, or
-    /// memory runs out.
-    pub fn ends(&self, rt: &R, partition: PartitionId) -> Option<LogEnds> {
+    /// Where the published log of a partition ends: no step. None if it isn't published.
+    pub fn ends(&self, rt: &R, partition: PartitionId) -> Option<FromLog<LogEnds, J>>
+        ensures { IfSome result (λ read. AreEndsOf partition read.seen read.value) }
+    {
         let readers = self.readers(NodeId::Partition(partition))?;
         let mut reader = readers.take(rt)?;
-        let ends = match reader.enter() {
-            Ok(published) => {
-                let end = published.end();
-                match published.page(end, 0, false) {
-                    Ok(page) => Some(LogEnds {
-                        end,
-                        lso: page.last_stable_offset(),
-                    }),
-                    Err(_) => None,
-                }
-            }
-            Err(_) => None,
-        };
+        let read = read_ends(partition, &mut reader);
         readers.give_back(rt, reader);
-        ends
+        read
     }
 
     /// The reply with the page that is asked for, read from the published log of its partition, so
     /// that the node takes no step. Returns None if the log isn't published or memory runs out.
-    pub fn page(&self, rt: &R, fetch: &Fetch) -> Option<Message> {
+    pub fn page(&self, rt: &R, fetch: &Fetch) -> Option<FromLog<Message, J>>
+        ensures { IfSome result (λ read. IsPageOf fetch.now read.seen read.value) }
+    {
         let readers = self.readers(NodeId::Partition(fetch.partition))?;
         let mut reader = readers.take(rt)?;
-        let reply = match reader.enter() {
-            Ok(published) => {
-                let page = published.page(fetch.from, page_room(fetch), fetch.committed);
-                answer_fetch(self.alloc, fetch, page).ok()
-            }
-            Err(_) => None,
-        };
+        let read = read_page(self.alloc, &mut reader, fetch);
         readers.give_back(rt, reader);
-        reply
+        read
     }
 }

@@ -26,3 +26,14 @@ invariant_of-self-2 g c =
           c.publish-publisher.ensures.published,
       search rules,
     )
+
+pub invariant_of-self-in_err-published : goal.invariant_of-self-in_err-published
+invariant_of-self-in_err-published g c =
+    let old = c.self.inside in
+    let is : old.publisher ≡ Some c.in-Some.publisher = search rules in (
+      runs_sent g.L.Locked.stands g.L.Readable.log g.met.L.Readable.log_is old.locked
+          old.publisher c.in-Some.publisher c.publish-publisher.result.0
+          c.publish-publisher.result.1 c.self.invariant.0 is c.publish-publisher.ensures.sent
+          c.publish-publisher.ensures.published,
+      search rules,
+    )

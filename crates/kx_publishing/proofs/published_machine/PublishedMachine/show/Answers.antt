@@ -1,4 +1,4 @@
-use Rattle.std.proofs.Common.{◌≡◌, Bool, Option, Some, rules, subst, sym}
+use Rattle.std.proofs.Common.{◌≡◌, ◌∙◌, Bool, Option, Some, rules, subst, sym, true≢false}
 use Rattle.kx_publishing.specs.Publishing.{UnderLock, Shows}
 use Rattle.kx_published.specs.declared.publisher.Done.{Done}
 use Rattle.kx_publishing.proofs.Showing.{runs_prefix, runs_sent, runs_written, shows_told}
@@ -49,7 +49,9 @@ returns-clause-shows g c =
     let new = c.publish-publisher.result.0 in
     let log = g.L.Readable.log in
     let told = shows_told c.publish-publisher.result.1 (log old.locked) c.in-Some.publisher new
-    c.publish-publisher.ensures.partition c.publish-publisher.ensures.published in
+    c.publish-publisher.ensures.partition c.publish-publisher.ensures.published
+    c.publish-publisher.ensures.counted c.publish-publisher.ensures.added
+    (λ seen. absurd (true≢false (sym (c.shows.ensures.1 seen) ∙ c.if-shows.false))) in
     let is : old.publisher ≡ Some c.in-Some.publisher = search rules in
     subst (λ (h : UnderLock g.row.L.Denot).
     Shows c.is_ok.result (log h.locked) h.published (Some new)) c.self.view_is
