@@ -140,6 +140,8 @@ impl<B: Remade> Follower<B> {
         mode: StoreMode,
     ) -> Result<Option<Taken>, AllocError>
         ensures stays { IfOk result (λ o. IfNone o (self.new ≡ self.old)) }
+        ensures waits { IfOk result (λ o. IfNone o ((length self.old.nodes ≤ node)
+            ⊎ MustWait self.old.pending input.now)) }
         ensures made { (starts : List NodeState) (history : List Passed)
             → HasMade B.making B.Machine.stands starts history self.old → IfOk result (λ o.
             MatchOption o ((length self.old.nodes ≤ node) ⊎ IsUnsent history input.now)

@@ -327,11 +327,11 @@ pub(crate) fn audit_traces<R: Eprint, I: Read + Drop>(
     sources: &mut Vec<Source<I>>,
     tells_progress: bool,
 ) -> Result<(ServerAudit, Result<(), Ending>), TraceRefusal>
-    requires { AreBegun traces.now sources.old.items }
-    ensures { let origins = origins_of I.remaining traces.now sources.old.items in
+    ensures { AreBegun traces.now sources.old.items
+        → (let origins = origins_of I.remaining traces.now sources.old.items in
         IfOk result (λ x. (starts : List NodeState)
         × (let start : Start = record { origins = origins; starts = starts } in
-        MatchResult x.1 (λ done. SaysYes start x.0) (EndsBy start x.0))) }
+        MatchResult x.1 (λ done. SaysYes start x.0) (EndsBy start x.0)))) }
 {
     let mut audit = ServerAudit::new(alloc, traces, tells_progress)?;
     let ended = audit.run(rt, sources);

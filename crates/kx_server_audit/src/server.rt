@@ -126,9 +126,9 @@ fn audit_in<R: AllocGlobal + Eprint, F: ServerFiles>(
     options: AuditOptions,
     traces: &mut Traces<F::File>,
 ) -> Result<Findings, AuditFault>
-    requires { IsFound F.File.remaining (F.left files.now) options.compares_logs
-        traces.old.of.items traces.old.sources.items }
-    ensures { IfOk result (AreFindings (F.left files.now) options.compares_logs) }
+    ensures { IsFound F.File.remaining (F.left files.now) options.compares_logs
+        traces.old.of.items traces.old.sources.items
+        → IfOk result (AreFindings (F.left files.now) options.compares_logs) }
 {
     let of = traces.of.as_slice();
     tell_of_later(rt, of);
@@ -160,9 +160,9 @@ fn audit_found<R: AllocGlobal + Eprint, F: ServerFiles>(
     options: AuditOptions,
     mut traces: Traces<F::File>,
 ) -> Result<Findings, AuditFault>
-    requires { IsFound F.File.remaining (F.left files.now) options.compares_logs traces.of.items
-        traces.sources.items }
-    ensures { IfOk result (AreFindings (F.left files.now) options.compares_logs) }
+    ensures { IsFound F.File.remaining (F.left files.now) options.compares_logs traces.of.items
+        traces.sources.items
+        → IfOk result (AreFindings (F.left files.now) options.compares_logs) }
 {
     let found = audit_in(rt, files, options, &mut traces);
     drop(traces);

@@ -1,9 +1,10 @@
 //! The traces that a server left in a folder.
-ghost use Rattle.std.specs.Prelude.{◌≡◌, [], IfErr, IfOk, OnOk, false};
+ghost use Rattle.std.specs.Prelude.{◌≡◌, ◌++◌, IfErr, IfOk, List, OnOk, false};
 ghost use Rattle.std.specs.Io.KnownBytes.{Consumes};
 ghost use Rattle.kx_server_audit.specs.Denials.{IfNo, IsNoAtOnce};
 ghost use Rattle.kx_server_audit.specs.Finding.{AreTraces, all_nodes};
 ghost use Rattle.kx_server_audit.specs.Internal.{AddsTrace, FindsTrace, HasOneMore, IsOtherHead};
+ghost use Rattle.kx_trace.specs.declared.node.TracedNode.{TracedNode};
 ghost use Rattle.kx_trace_files.specs.Beginning.{begun_text};
 
 use crate::denial::{Denial, Stop};
@@ -129,16 +130,16 @@ fn find_trace<F: ServerFiles>(
     }
 }
 
-// Adds the traces of these nodes; there is one at least.
+// Adds the traces of these nodes to those of others; there is one at least then.
 fn find_traces<F: ServerFiles>(
     files: &F,
     alloc: Global,
     nodes: &[TracedNode],
     traces: &mut Traces<F::File>,
 ) -> Result<(), Stop>
-    requires of { traces.old.of.items ≡ [] }
-    requires sources { traces.old.sources.items ≡ [] }
-    ensures found { OnOk result (AreTraces F.File.remaining (F.left files.now) nodes.now
+    ensures found { OnOk result ((others : List TracedNode) → AreTraces F.File.remaining
+        (F.left files.now) others traces.old.of.items traces.old.sources.items
+        → AreTraces F.File.remaining (F.left files.now) (others ++ nodes.now)
         traces.new.of.items traces.new.sources.items) }
     ensures no { IfErr result (λ stop. IfNo stop (IsNoAtOnce (F.left files.now) false)) }
 {

@@ -10,7 +10,7 @@ use Rattle.kx_trace_audit.specs.declared.servers.TraceOf.{TraceOf}
 use Rattle.kx_server_audit.proofs.auditing.audit_traces.Goals as goal
 
 pub returns : goal.returns
-returns g c =
+returns g c = λ are.
     let remaining = g.I.Read.remaining in
     let traces = c.args.traces.now in
     let sources = c.args.sources.now.items in
@@ -24,10 +24,10 @@ returns g c =
             more = [];
             audited = subst (λ (of : List TraceOf). HasAudited making broker_stands of starts
                 (heads_of traces) [] c.in_ok-audit.audit.audit)
-                (sym (origins_are remaining traces sources c.requires.count)) begins.1;
-            read = begun remaining traces sources c.requires.count c.requires.unread;
+                (sym (origins_are remaining traces sources are.count)) begins.1;
+            read = begun remaining traces sources are.count are.unread;
             told = λ k s there r at ended. absurd (false≢true
-                (sym (unread_at remaining sources k s c.requires.unread there) ∙ ended));
+                (sym (unread_at remaining sources k s are.unread there) ∙ ended));
             counted = c.in_ok-audit.ensures.counted;
           }),
     )

@@ -12,7 +12,7 @@ use Rattle.kx_server_audit.proofs.Reading.{origins_are}
 use Rattle.kx_server_audit.proofs.server.audit_in.Goals as goal
 
 pub returns-in-Err : goal.returns-in-Err
-returns-in-Err g c =
+returns-in-Err g c = λ is_found.
     let remaining = g.F.File.Read.remaining in
     let left = g.F.ServerFiles.left c.args.files.now in
     let compares = c.args.options.compares_logs in
@@ -26,8 +26,8 @@ returns-in-Err g c =
       denial = None;
     } in
     let all = subst (λ (ts : List TraceOf). IsFound remaining left compares ts sources)
-    (sym c.as_slice-of.ensures.value) c.requires in
-    let ended = c.in-Ok.ensures in
+    (sym c.as_slice-of.ensures.value) is_found in
+    let ended = c.in-Ok.ensures all.traces.begun in
     let denied = if_no c.stop_at.result (IsItemOf of c.in-Err.ending)
     (SaysNoOf left compares counts transactions) (λ d is. item_no remaining left compares of sources
     all ended.0 c.in-Ok.audit counts transactions c.counts.ensures c.transactions.ensures
@@ -36,7 +36,7 @@ returns-in-Err g c =
     (λ f so. stopped_finds left compares c.stop_at.result found f denied so) c.stopped.ensures
 
 pub returns-in-Err-compare : goal.returns-in-Err-compare
-returns-in-Err-compare g c =
+returns-in-Err-compare g c = λ is_found.
     let remaining = g.F.File.Read.remaining in
     let left = g.F.ServerFiles.left c.args.files.now in
     let compares = c.args.options.compares_logs in
@@ -51,8 +51,8 @@ returns-in-Err-compare g c =
       denial = None;
     } in
     let all = subst (λ (ts : List TraceOf). IsFound remaining left compares ts sources)
-    (sym c.as_slice-of.ensures.value) c.requires in
-    let ended = c.in-Ok.ensures in
+    (sym c.as_slice-of.ensures.value) is_found in
+    let ended = c.in-Ok.ensures all.traces.begun in
     let denied = if_no c.in-Err-compare.stop
     (λ d. IsTrue compares × IsLogDenied left (machines_in audit) of d)
     (SaysNoOf left compares counts transactions) (λ d h. log_no remaining left compares of sources all
@@ -64,15 +64,15 @@ returns-in-Err-compare g c =
     c.stopped-in-Err-compare.ensures
 
 pub returns-in-Ok-compare : goal.returns-in-Ok-compare
-returns-in-Ok-compare g c =
+returns-in-Ok-compare g c = λ is_found.
     let remaining = g.F.File.Read.remaining in
     let left = g.F.ServerFiles.left c.args.files.now in
     let compares = c.args.options.compares_logs in
     let of = c.as_slice-of.result.now in
     let sources = c.args.traces.now.sources.items in
     let all = subst (λ (ts : List TraceOf). IsFound remaining left compares ts sources)
-    (sym c.as_slice-of.ensures.value) c.requires in
-    let ended = c.in-Ok.ensures in
+    (sym c.as_slice-of.ensures.value) is_found in
+    let ended = c.in-Ok.ensures all.traces.begun in
     record {
       start = record { origins = origins_of remaining of sources; starts = ended.0 };
       audit = c.in-Ok.audit;
