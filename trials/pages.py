@@ -36,6 +36,8 @@ HOSTILE = ["<script>console.log('ran')</script>", "\"><img/src=x/onerror=console
     "'><svg/onload=console.log('ran')>", "</text><script>console.log('ran')</script>",
     "]]></style></title><script>console.log('ran')</script>", "<!--", "--></script>", "&lt;script&gt;&#60;b&#62;",
     "javascript:console.log('ran')", "\"onmouseover=\"console.log('ran')", "`${console.log('ran')}`"]
+# from which word on the names are taken, in one run each
+TURNS = range(0, len(HOSTILE), 4)
 # the names and values of the examples
 WORDS = {"pay", "rent", "wages", "tea", "milk", "bread", "bill", "shop"}
 
@@ -175,11 +177,12 @@ def look_at_hostile(program, folder):
     for example in ("exactly_once", "consume_process_produce"):
         with open(os.path.join(TOP, "examples", example + ".kx")) as file:
             script = file.read()
-        for turn in range(len(HOSTILE)):
+        for turn in TURNS:
             hostile = HOSTILE[turn:] + HOSTILE[:turn]
             files = {}
             for kind, words in (("hostile", hostile), ("harmless", harmless(hostile))):
-                files[kind] = [os.path.join(folder, "%s-%s-%d%s" % (example, kind, turn, end)) for end in (".html", ".svg")]
+                name = os.path.join(folder, "%s-%s-%d" % (example, kind, turn))
+                files[kind] = [name + ".html", name + ".svg"]
                 done = subprocess.run([program, "sim", "--page", files[kind][0], "--svg", files[kind][1]],
                     input=reworded(script, words), capture_output=True, text=True)
                 if done.returncode:
@@ -189,7 +192,7 @@ def look_at_hostile(program, folder):
             if wrong:
                 print("%s, hostile %d: FAILED: %s" % (example, turn, "; ".join(wrong)))
                 good = False
-    print("%d hostile pages and as many diagrams: %s" % (2 * len(HOSTILE), "ok" if good else "FAILED"), flush=True)
+    print("%d hostile pages and as many diagrams: %s" % (2 * len(TURNS), "ok" if good else "FAILED"), flush=True)
     return good
 
 
@@ -219,7 +222,8 @@ def look_at_clients(program, folder):
     rows = [names for tag, names in made if tag == "li"]
     scripts = [tag for tag, _ in made if tag == "script"]
     if done.returncode or odd or len(scripts) != 1 or "%d steps" % len(rows) not in open(page).read() or not rows:
-        wrong.append("status %d, %d rows, %d scripts, odd elements %s" % (done.returncode, len(rows), len(scripts), odd[:3]))
+        wrong.append("status %d, %d rows, %d scripts, odd elements %s" % (done.returncode, len(rows),
+            len(scripts), odd[:3]))
     print("%d records of stock clients with hostile bytes: %s" % (len(values), "ok" if not wrong else "FAILED: "
         + "; ".join(wrong)), flush=True)
     return not wrong
