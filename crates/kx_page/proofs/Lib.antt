@@ -1,3 +1,5 @@
+mod Alike
+mod Filled
 mod Flat
 mod Markup
-mod Rows
+mod SameMarkup

@@ -1,15 +1,11 @@
 -- Values have no markup.
-use Rattle.std.proofs.Common.{◌≡◌, ◌∙◌, ◌++◌, ◌∷◌, [], ℕ, false, List, cond, refl, sym, ap}
-use Rattle.std.proofs.Common.{arith, map}
-use Rattle.std.specs.Prelude.{codes, decimal, nat_lt, ◌==◌, ◌||◌, ◌/◌, ◌%◌}
+use Rattle.std.proofs.Common.{◌≡◌, ◌∙◌, ◌++◌, ◌∷◌, [], ℕ, false, List, cond, refl, ap}
+use Rattle.std.proofs.Common.{arith}
+use Rattle.std.specs.Prelude.{nat_lt, ◌==◌, ◌||◌, ◌/◌, ◌%◌}
 use Rattle.std.proofs.lemmas.Bool.{cond_both}
 use Rattle.std.proofs.lemmas.Bool.Decides.{nat_tests}
 use Rattle.std.proofs.lemmas.List.Elements.{filter-append}
-use Rattle.kx_page.specs.Pieces.{blanked, digit_of, escaped, escaped_byte, hex_byte, is_markup}
-use Rattle.kx_page.specs.Pieces.{markup_of, piece_text, text_of}
-use Rattle.kx_page.specs.declared.piece.Piece.{Piece}
-use Rattle.kx_page.specs.declared.piece.Piece.TheVariants.{Markup, Number, Value}
-use Rattle.kx_page.specs.declared.piece.Piece.TheVariants as piece
+use Rattle.kx_page.specs.Pieces.{digit_of, escaped, escaped_byte, hex_byte, is_markup, markup_of}
 
 -- a character that is no markup leaves none
 left_out : (c : ℕ) (rest : List ℕ) → is_markup c ≡ false → markup_of rest ≡ []
@@ -44,26 +40,3 @@ silent [] = refl
 silent (byte ∷ value) =
     filter-append is_markup (escaped_byte byte) (escaped value)
     ∙ ap (λ xs. xs ++ markup_of (escaped value)) (silent_byte byte) ∙ silent value
-
--- seven texts in a row, of which two have none
-in_a_row : (a n b t c d e : List ℕ) → markup_of t ≡ [] → markup_of d ≡ []
-    → markup_of (a ++ n ++ b ++ t ++ c ++ d ++ e) ≡ markup_of (a ++ n ++ b ++ [] ++ c ++ [] ++ e)
-in_a_row a n b t c d e h k = simp (filter-append is_markup, h, k)
-
-same_markup : (p : Piece) → markup_of (piece_text p) ≡ markup_of (piece_text (blanked p))
-same_markup (Markup text) = refl
-same_markup (Number n) = refl
-same_markup (Value value) = silent value.now
-same_markup (piece.Row row) =
-    in_a_row (codes " id=\"s") (decimal row.number) (codes "\"><b>") (escaped row.title.now)
-    (codes "</b> <span>") (escaped row.detail.now) (codes "</span>")
-    (silent row.title.now) (silent row.detail.now)
-
-pub values_add_no_markup : (pieces : List Piece)
-    → markup_of (text_of pieces) ≡ markup_of (text_of (map blanked pieces))
-values_add_no_markup [] = refl
-values_add_no_markup (p ∷ pieces) =
-    filter-append is_markup (piece_text p) (text_of pieces)
-    ∙ ap (λ xs. xs ++ markup_of (text_of pieces)) (same_markup p)
-    ∙ ap (λ xs. markup_of (piece_text (blanked p)) ++ xs) (values_add_no_markup pieces)
-    ∙ sym (filter-append is_markup (piece_text (blanked p)) (text_of (map blanked pieces)))

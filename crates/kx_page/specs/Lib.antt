@@ -1,2 +1,5 @@
+pub mod Alike
+pub mod Drawing
+pub mod Page
 pub mod Pieces
-pub mod Rows
+pub mod Places

@@ -1,12 +1,10 @@
--- The text of a page by its pieces, and what of it is markup.
+-- The texts of a page's pieces, and what of a text is markup.
 use Rattle.std.specs.Prelude.{ℕ, ◌==◌, ◌/◌, ◌%◌, ◌||◌, Bool, List, [], ◌∷◌, ◌++◌, flat_map, codes}
 use Rattle.std.specs.Prelude.{◌+◌, ◌-◌, decimal, if◌then◌else◌, nat_lt}
 use Rattle.std.specs.Fmt.{signed_decimal}
-use Rattle.std.specs.List.{filter}
+use Rattle.std.specs.List.{after_first, before_first, filter}
 use Rattle.kx_page.specs.declared.piece.Piece.{Piece}
-use Rattle.kx_page.specs.declared.piece.Piece.TheVariants.{Markup, Number, Value}
-use Rattle.kx_page.specs.declared.piece.Piece.TheVariants as piece
-use Rattle.kx_page.specs.declared.piece.Row.{Row}
+use Rattle.kx_page.specs.declared.piece.Piece.TheVariants.{Count, Markup, Number, Value}
 
 -- the digit of a number below 16
 abbrev pub digit_of : ℕ → ℕ
@@ -29,19 +27,24 @@ escaped_byte byte =
 abbrev pub escaped : List ℕ → List ℕ
 escaped value = flat_map escaped_byte value
 
-abbrev pub row_text : Row → List ℕ
-row_text row =
-    codes " id=\"s" ++ decimal row.number ++ codes "\"><b>" ++ escaped row.title.now
-    ++ codes "</b> <span>" ++ escaped row.detail.now ++ codes "</span>"
-
 abbrev pub piece_text : Piece → List ℕ
 piece_text (Markup text) = text.now
 piece_text (Number n) = signed_decimal n
+piece_text (Count n) = decimal n
 piece_text (Value value) = escaped value.now
-piece_text (piece.Row row) = row_text row
 
-abbrev pub text_of : List Piece → List ℕ
-text_of pieces = flat_map piece_text pieces
+abbrev pub is_hole : ℕ → Bool
+is_hole c = c == 64
+
+-- a template with these texts in the place of its holes
+unfoldable pub filled : List ℕ → List (List ℕ) → List ℕ
+filled template [] = template
+filled template (text ∷ texts) =
+    before_first is_hole template ++ text ++ filled (after_first is_hole template) texts
+
+-- a template without holes
+abbrev pub fixed : List ℕ → List ℕ
+fixed text = filled text []
 
 -- the characters that begin and end tags, attributes and their values
 abbrev pub is_markup : ℕ → Bool
@@ -49,13 +52,3 @@ is_markup c = (c == 60) || (c == 62) || (c == 34) || (c == 39)
 
 abbrev pub markup_of : List ℕ → List ℕ
 markup_of text = filter is_markup text
-
--- a piece without the values that it has
-abbrev pub blanked : Piece → Piece
-blanked (Markup text) = Markup text
-blanked (Number n) = Number n
-blanked (Value value) = Value (record value { now = [] })
-blanked (piece.Row row) = piece.Row (record row {
-  title = record row.title { now = [] };
-  detail = record row.detail { now = [] };
-})

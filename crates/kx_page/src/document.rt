@@ -1,232 +1,260 @@
 //! The whole page of a run, in HTML.
-ghost use Rattle.std.specs.Prelude.{◌≡◌, ◌++◌, ◌∷◌, [], IfOk, OnOk};
-ghost use Rattle.kx_page.specs.Rows.{IsDrawn, IsPageOf, KeepsRows, rows_from, rows_in, told};
+ghost use Rattle.std.specs.Prelude.{◌≡◌, ◌≤◌, ◌<◌, ◌+◌, ◌++◌, IfOk, OnOk, length, min};
+ghost use Rattle.kx_page.specs.Page.{batch_in, batches_of, diagram_head, diagram_of, head_of, log_head};
+ghost use Rattle.kx_page.specs.Page.{log_of, logs_of, names_of, page_of, part_at, part_head, part_of};
+ghost use Rattle.kx_page.specs.Page.{parts_of, row_of, rows_in, rule_of, table_at, tail_of};
+ghost use Rattle.kx_page.specs.declared.document.TheConstants.{PART};
 
-use crate::drawing::{Part, about, class_of, lane_names, shown, svg_head};
-use crate::html::Html;
-use crate::piece::Piece::{Markup, Number, Value};
-use crate::piece::Row;
-use crate::places::{ROW, top_of, written};
+use crate::drawing::{Part, about, class_of, image, lane_names, shown};
+use crate::piece::Piece::{Count, Markup, Number, Value};
+use crate::piece::add;
+use crate::places::{NAMES, y_of};
+use crate::rule::Rule;
 use crate::rules::RULES;
 use crate::run::{Log, LoggedBatch, Run, Step};
 use crate::script::SCRIPT;
 use crate::style::{DIAGRAM, PAGE, TIPS};
+use crate::texts::{
+    BATCH, DIAGRAM_HEAD, DIAGRAM_NAMES_END, END, FORM, HEAD, IMAGE_END, LIST_HEAD, LOG_END,
+    LOG_HEAD, LOGS, NAMES_END, NAMES_HEAD, NEXT_TABLE, PART_END, PART_HEAD, ROW_END, ROW_HEAD,
+    RULE_LINK, STEP_ROW,
+};
 use std::alloc::{AllocError, Global};
 
 // How many steps a part of a page has at most: what isn't looked at isn't laid out, part by part.
 const PART: usize = 200;
 
-// How high the names of the lanes are.
-const NAMES: i64 = 28;
+// Where the names of the lanes begin in a diagram alone, above the first step.
+const ABOVE: i64 = -28;
 
-const FORM: &str =
-    "<form><label>Node <select id=\"by-n\"><option value=\"\">all</option></select></label>
-<label>Client <select id=\"by-c\"><option value=\"\">all</option></select></label>
-<label>Transactions of <select id=\"by-t\"><option value=\"\">all</option></select></label></form>
-<p class=\"key\"><span><i class=\"o\"></i>open</span><span><i class=\"c\"></i>committed</span><span><i class=\"a\"></i>aborted</span><span><i class=\"n\"></i>no transaction</span><span>dashed: arrived again</span><span>cross: never arrived</span><span>thin: to a client outside, who may have got it</span><span>dotted across a lane: the last stable offset</span><span>keys: arrows or j and k, Escape</span></p></header>
-<main><div id=\"run\">
-";
+// The room for the names of the lanes and below the last step, in a diagram alone.
+const AROUND: usize = 54;
 
 // Adds the head of a page.
-fn head<'a>(html: &mut Html<'a>, run: &'a Run)
-    ensures { KeepsRows html.old html.new }
+fn head(out: &mut Vec<u8>, run: &Run) -> Result<(), AllocError>
+    ensures { OnOk result (out.new.items ≡ out.old.items ++ head_of run.now) }
 {
     let title = run.title.as_bytes();
-    html.add(
-        "<!DOCTYPE html>
-<html lang=\"en\"><head><meta charset=\"utf-8\">
-<meta name=\"viewport\" content=\"width=device-width,initial-scale=1\">
-<title>{}</title>
-<style>
-{}{}</style></head>
-<body><header><h1>{}</h1><p>{} steps, {} messages</p>
-{}",
+    add(
+        out,
+        HEAD,
         &[
             Value(title),
             Markup(DIAGRAM),
             Markup(PAGE),
             Value(title),
-            Number(written(run.steps.len())),
-            Number(written(run.arrows.len())),
+            Count(run.steps.len()),
+            Count(run.arrows.len()),
             Markup(FORM),
         ],
-    );
+    )
 }
 
 // Adds the names of the lanes, which stay in sight.
-fn names<'a>(html: &mut Html<'a>, run: &'a Run)
-    ensures { KeepsRows html.old html.new }
+fn names(out: &mut Vec<u8>, run: &Run) -> Result<(), AllocError>
+    ensures { OnOk result (out.new.items ≡ out.old.items ++ names_of run.now) }
 {
-    html.add("<div class=\"names\">", &[]);
-    svg_head(html, run.lanes.len(), 0, NAMES);
-    html.add("{}", &[Markup(TIPS)]);
-    lane_names(html, run.lanes.as_slice());
-    html.add("</svg></div>\n", &[]);
+    add(out, NAMES_HEAD, &[])?;
+    image(out, run.lanes.len(), Count(0), NAMES)?;
+    add(out, TIPS, &[])?;
+    lane_names(out, run.lanes.as_slice())?;
+    add(out, NAMES_END, &[])
 }
 
-// Ends the part before, if there is one, and adds the diagram of the next part and the head of the
-// list of its rows.
-fn next_part<'a>(html: &mut Html<'a>, run: &'a Run, first: usize)
-    ensures { KeepsRows html.old html.new }
+// Adds the link to the rule by which a step answered, if there is one.
+fn rule_of(out: &mut Vec<u8>, rule: Option<Rule>) -> Result<(), AllocError>
+    ensures { OnOk result (out.new.items ≡ out.old.items ++ rule_of rule) }
 {
-    if first != 0 {
-        html.add("</ol></section>\n", &[]);
+    match rule {
+        Some(rule) => {
+            let anchor = rule.anchor();
+            add(out, RULE_LINK, &[Markup(anchor), Markup(anchor)])
+        }
+        None => Ok(()),
     }
-    let end = first.saturating_add(PART).min(run.steps.len());
-    let top = top_of(first);
-    let height = top_of(end).saturating_sub(top);
-    html.add(
-        "<section class=\"part\" style=\"--h:{}px\">\n",
-        &[Number(height)],
-    );
-    svg_head(html, run.lanes.len(), top, height);
-    shown(html, run, Part { first, end });
-    html.add("</svg>\n<ol start=\"{}\">\n", &[Number(written(first))]);
-}
-
-// Adds the link to the rule by which a step answered, and ends its row.
-fn rule_of(html: &mut Html<'_>, step: &Step)
-    ensures { KeepsRows html.old html.new }
-{
-    let Some(rule) = step.rule else {
-        html.add("</li>\n", &[]);
-        return;
-    };
-    let anchor = rule.anchor();
-    html.add(
-        " <a class=\"rule\" href=\"#{}\">{}</a></li>\n",
-        &[Markup(anchor), Markup(anchor)],
-    );
 }
 
 // Adds the row of a step.
-fn row_of<'a>(html: &mut Html<'a>, number: usize, step: &'a Step) -> Result<(), AllocError>
-    ensures { OnOk result (rows_in html.new ≡ rows_in html.old ++ told number step.now ∷ []) }
+fn row_of(out: &mut Vec<u8>, number: usize, step: &Step) -> Result<(), AllocError>
+    ensures { OnOk result (out.new.items ≡ out.old.items ++ row_of number step.now) }
 {
-    html.add("<li", &[]);
-    about(html, step.lane, step.client, step.producer);
-    let told = Row {
-        number: number as u64,
-        title: step.title.as_bytes(),
-        detail: step.detail.as_bytes(),
-    };
-    html.row(told)?;
-    rule_of(html, step);
+    add(out, ROW_HEAD, &[])?;
+    about(out, step.lane, step.client, step.producer)?;
+    add(
+        out,
+        STEP_ROW,
+        &[
+            Count(number),
+            Value(step.title.as_bytes()),
+            Value(step.detail.as_bytes()),
+        ],
+    )?;
+    rule_of(out, step.rule)?;
+    add(out, ROW_END, &[])
+}
+
+// Adds the rows of a part.
+fn rows_in(out: &mut Vec<u8>, part: Part, all: &[Step]) -> Result<(), AllocError>
+    requires { (part.first ≤ part.end) × (part.end ≤ length all.now) }
+    ensures { OnOk result
+        (out.new.items ≡ out.old.items ++ rows_in part.first part.end all.now) }
+{
+    for number in part.first..part.end {
+        row_of(out, number, &all[number])?;
+    }
     Ok(())
 }
 
-// Adds the row of a step, and before it the head of the part that begins with it, if one does.
-fn next_row<'a>(
-    html: &mut Html<'a>,
-    run: &'a Run,
-    number: usize,
-    step: &'a Step,
-) -> Result<(), AllocError>
-    ensures { OnOk result (rows_in html.new ≡ rows_in html.old ++ told number step.now ∷ []) }
+// Adds the head of a part, up to its diagram.
+fn part_head(out: &mut Vec<u8>, run: &Run, part: Part) -> Result<(), AllocError>
+    ensures { OnOk result
+        (out.new.items ≡ out.old.items ++ part_head part.first part.end run.now) }
+{
+    let top = y_of(part.first, 0);
+    let height = y_of(part.end, 0).saturating_sub(top);
+    add(out, PART_HEAD, &[Count(height)])?;
+    image(out, run.lanes.len(), Count(top), height)
+}
+
+// Adds a part: its diagram, and the list of its rows.
+fn part_of(out: &mut Vec<u8>, run: &Run, part: Part) -> Result<(), AllocError>
+    requires { (part.first ≤ part.end) × (part.end ≤ length run.now.steps.items) }
+    ensures { OnOk result
+        (out.new.items ≡ out.old.items ++ part_of part.first part.end run.now) }
+{
+    part_head(out, run, part)?;
+    shown(out, run, part)?;
+    add(out, LIST_HEAD, &[Count(part.first)])?;
+    rows_in(out, part, run.steps.as_slice())?;
+    add(out, PART_END, &[])
+}
+
+// Where the part that begins at a step ends, of so many steps.
+fn part_end(first: usize, steps: usize) -> usize
+    requires { first ≤ steps }
+    ensures { result ≡ min (first + PART) steps }
+{
+    if steps - first < PART {
+        steps
+    } else {
+        first + PART
+    }
+}
+
+// Adds the part that begins at a step, if one does.
+fn part_at(out: &mut Vec<u8>, run: &Run, number: usize) -> Result<(), AllocError>
+    requires { number < length run.now.steps.items }
+    ensures { OnOk result (out.new.items ≡ out.old.items ++ part_at run.now number) }
 {
     if number % PART == 0 {
-        next_part(html, run, number);
+        let end = part_end(number, run.steps.len());
+        part_of(out, run, Part { first: number, end })
+    } else {
+        Ok(())
     }
-    row_of(html, number, step)
 }
 
-// Adds all rows, part by part.
-fn rows<'a>(html: &mut Html<'a>, run: &'a Run) -> Result<(), AllocError>
-    ensures { OnOk result (rows_in html.new
-        ≡ rows_in html.old ++ rows_from 0 run.now.steps.items) }
+// Adds all parts.
+fn parts(out: &mut Vec<u8>, run: &Run) -> Result<(), AllocError>
+    ensures { OnOk result (out.new.items ≡ out.old.items ++ parts_of run.now) }
 {
-    let steps = run.steps.as_slice();
-    for number in 0..steps.len() {
-        next_row(html, run, number, &steps[number])?;
+    for number in 0..run.steps.len() {
+        part_at(out, run, number)?;
     }
     Ok(())
 }
 
-// Adds the batches of a log. The table is cut into parts, as long as a part may be.
-fn batches<'a>(html: &mut Html<'a>, all: &'a [LoggedBatch])
-    ensures { KeepsRows html.old html.new }
+// Adds the end of a table and the head of the next one before the batch that begins it, so that no
+// table is longer than a part.
+fn table_at(out: &mut Vec<u8>, number: usize) -> Result<(), AllocError>
+    ensures { OnOk result (out.new.items ≡ out.old.items ++ table_at number) }
 {
-    for (number, batch) in all.iter().enumerate() {
-        if number != 0 && number % PART == 0 {
-            html.add("</table></div>\n<div class=\"log\"><table>\n", &[]);
-        }
-        html.add(
-            "<tr class=\"{}\"><td class=\"k\">{}</td><td>{}</td><td>{}</td><td>{}</td></tr>\n",
-            &[
-                Markup(class_of(batch.fate)),
-                Number(batch.offset),
-                Value(batch.kind.as_bytes()),
-                Value(batch.records.as_slice()),
-                Value(batch.reading.as_bytes()),
-            ],
-        );
+    if 0 < number && number % PART == 0 {
+        add(out, NEXT_TABLE, &[])
+    } else {
+        Ok(())
     }
 }
 
-// Adds a log.
-fn log<'a>(html: &mut Html<'a>, log: &'a Log)
-    ensures { KeepsRows html.old html.new }
+// Adds a batch, in its table.
+fn batch_in(out: &mut Vec<u8>, number: usize, batch: &LoggedBatch) -> Result<(), AllocError>
+    ensures { OnOk result (out.new.items ≡ out.old.items ++ batch_in number batch.now) }
 {
-    html.add(
-        "<h3>{}</h3><p>last stable offset {}, end {}</p>
-<div class=\"log\"><table><tr><th>offset</th><th>batch</th><th>records</th><th>a reader of committed records</th></tr>
-",
+    table_at(out, number)?;
+    add(
+        out,
+        BATCH,
+        &[
+            Markup(class_of(batch.fate)),
+            Number(batch.offset),
+            Value(batch.kind.as_bytes()),
+            Value(batch.records.as_slice()),
+            Value(batch.reading.as_bytes()),
+        ],
+    )
+}
+
+// Adds the batches of a log.
+fn batches(out: &mut Vec<u8>, all: &[LoggedBatch]) -> Result<(), AllocError>
+    ensures { OnOk result (out.new.items ≡ out.old.items ++ batches_of all.now) }
+{
+    for number in 0..all.len() {
+        batch_in(out, number, &all[number])?;
+    }
+    Ok(())
+}
+
+// Adds the head of a log.
+fn log_head(out: &mut Vec<u8>, log: &Log) -> Result<(), AllocError>
+    ensures { OnOk result (out.new.items ≡ out.old.items ++ log_head log.now) }
+{
+    add(
+        out,
+        LOG_HEAD,
         &[
             Value(log.name.as_bytes()),
             Number(log.stable),
             Number(log.end),
         ],
-    );
-    batches(html, log.batches.as_slice());
-    html.add("</table></div>\n", &[]);
+    )
+}
+
+// Adds a log.
+fn log(out: &mut Vec<u8>, log: &Log) -> Result<(), AllocError>
+    ensures { OnOk result (out.new.items ≡ out.old.items ++ log_of log.now) }
+{
+    log_head(out, log)?;
+    batches(out, log.batches.as_slice())?;
+    add(out, LOG_END, &[])
 }
 
 // Adds the logs.
-fn logs<'a>(html: &mut Html<'a>, all: &'a [Log])
-    ensures { KeepsRows html.old html.new }
+fn logs(out: &mut Vec<u8>, all: &[Log]) -> Result<(), AllocError>
+    ensures { OnOk result (out.new.items ≡ out.old.items ++ logs_of all.now) }
 {
     for given in all {
-        log(html, given);
+        log(out, given)?;
     }
+    Ok(())
 }
 
-// Ends the last part, if there is one, and adds what is beside and below the steps: the logs,
-// the rules, and the page's script.
-fn tail<'a>(html: &mut Html<'a>, run: &'a Run)
-    ensures { KeepsRows html.old html.new }
+// Adds what is beside and below the steps: the logs, the rules, and the page's script.
+fn tail(out: &mut Vec<u8>, run: &Run) -> Result<(), AllocError>
+    ensures { OnOk result (out.new.items ≡ out.old.items ++ tail_of run.now) }
 {
-    if !run.steps.is_empty() {
-        html.add("</ol></section>\n", &[]);
-    }
-    html.add(
-        "</div>
-<aside><div id=\"chosen\">Point at a step, or choose it by a key.</div>
-<h2>Logs as they end</h2>
-",
-        &[],
-    );
-    logs(html, run.logs.as_slice());
-    html.add(
-        "</aside></main>
-<section id=\"rules\"><h2>Rules</h2>
-{}</section>
-<script>
-{}</script></body></html>
-",
-        &[Markup(RULES), Markup(SCRIPT)],
-    );
+    add(out, LOGS, &[])?;
+    logs(out, run.logs.as_slice())?;
+    add(out, END, &[Markup(RULES), Markup(SCRIPT)])
 }
 
 // Adds a whole page.
-fn whole<'a>(html: &mut Html<'a>, run: &'a Run) -> Result<(), AllocError>
-    ensures { OnOk result (rows_in html.new
-        ≡ rows_in html.old ++ rows_from 0 run.now.steps.items) }
+fn whole(out: &mut Vec<u8>, run: &Run) -> Result<(), AllocError>
+    ensures { OnOk result (out.new.items ≡ out.old.items ++ page_of run.now) }
 {
-    head(html, run);
-    names(html, run);
-    rows(html, run)?;
-    tail(html, run);
-    Ok(())
+    head(out, run)?;
+    names(out, run)?;
+    parts(out, run)?;
+    tail(out, run)
 }
 
 /// The page of a run, in HTML: the diagram with a row for each step, in order; the logs as they end;
@@ -235,38 +263,43 @@ fn whole<'a>(html: &mut Html<'a>, run: &'a Run) -> Result<(), AllocError>
 /// # Errors
 ///
 /// Only if memory runs out.
-pub fn page<'a>(alloc: Global, run: &'a Run) -> Result<Vec<u8>, AllocError>
-    ensures { IfOk result (λ page. IsPageOf run.now page.items) }
+pub fn page(alloc: Global, run: &Run) -> Result<Vec<u8>, AllocError>
+    ensures { IfOk result (λ page. page.items ≡ page_of run.now) }
 {
-    let mut html: Html<'a> = Html::new(alloc);
-    whole(&mut html, run)?;
-    html.text(alloc)
+    let mut out = Vec::new(alloc);
+    whole(&mut out, run)?;
+    Ok(out)
 }
 
-// Adds the diagram of a whole run as an image of its own.
-fn drawn<'a>(html: &mut Html<'a>, run: &'a Run)
-    ensures { KeepsRows html.old html.new }
+// Adds the head of an image of its own, up to the names of the lanes.
+fn diagram_head(out: &mut Vec<u8>, run: &Run) -> Result<(), AllocError>
+    ensures { OnOk result (out.new.items ≡ out.old.items ++ diagram_head run.now) }
 {
-    let end = run.steps.len();
-    let height = top_of(end).saturating_add(NAMES).saturating_add(ROW);
-    svg_head(html, run.lanes.len(), -NAMES, height);
-    html.add(
-        "<title>{}</title>
-<style>{}</style>
-<rect class=\"back\" x=\"0\" y=\"{}\" width=\"100%\" height=\"100%\"/>{}<g transform=\"translate(0 {})\">
-",
+    let height = y_of(run.steps.len(), AROUND);
+    image(out, run.lanes.len(), Number(ABOVE), height)?;
+    add(
+        out,
+        DIAGRAM_HEAD,
         &[
             Value(run.title.as_bytes()),
             Markup(DIAGRAM),
-            Number(-NAMES),
+            Number(ABOVE),
             Markup(TIPS),
-            Number(-NAMES),
+            Number(ABOVE),
         ],
-    );
-    lane_names(html, run.lanes.as_slice());
-    html.add("</g>\n", &[]);
-    shown(html, run, Part { first: 0, end });
-    html.add("</svg>\n", &[]);
+    )
+}
+
+// Adds the diagram of a whole run as an image of its own.
+fn drawn(out: &mut Vec<u8>, run: &Run) -> Result<(), AllocError>
+    ensures { OnOk result (out.new.items ≡ out.old.items ++ diagram_of run.now) }
+{
+    let end = run.steps.len();
+    diagram_head(out, run)?;
+    lane_names(out, run.lanes.as_slice())?;
+    add(out, DIAGRAM_NAMES_END, &[])?;
+    shown(out, run, Part { first: 0, end })?;
+    add(out, IMAGE_END, &[])
 }
 
 /// The diagram of a run alone, in SVG. No value of the run can become markup.
@@ -274,10 +307,10 @@ fn drawn<'a>(html: &mut Html<'a>, run: &'a Run)
 /// # Errors
 ///
 /// Only if memory runs out.
-pub fn diagram<'a>(alloc: Global, run: &'a Run) -> Result<Vec<u8>, AllocError>
-    ensures { IfOk result (λ image. IsDrawn image.items) }
+pub fn diagram(alloc: Global, run: &Run) -> Result<Vec<u8>, AllocError>
+    ensures { IfOk result (λ image. image.items ≡ diagram_of run.now) }
 {
-    let mut html: Html<'a> = Html::new(alloc);
-    drawn(&mut html, run);
-    html.text(alloc)
+    let mut out = Vec::new(alloc);
+    drawn(&mut out, run)?;
+    Ok(out)
 }

@@ -1,34 +1,24 @@
-//! The pieces of a page: markup, numbers and values.
-ghost use Rattle.std.specs.Prelude.{◌≡◌, ◌<◌, ◌++◌, map, IfOk, OnOk};
+//! The pieces of a page: fixed texts, numbers and values, and the templates in which they stand.
+ghost use Rattle.std.specs.Prelude.{◌≡◌, ◌<◌, ◌++◌, map, decimal, IfOk, OnOk};
+ghost use Rattle.std.specs.List.{after_first, before_first};
 ghost use Rattle.std.specs.Fmt.{signed_decimal};
-ghost use Rattle.kx_page.specs.Pieces.{blanked, digit_of, escaped, escaped_byte, hex_byte};
-ghost use Rattle.kx_page.specs.Pieces.{markup_of, piece_text, row_text, text_of};
+ghost use Rattle.kx_page.specs.Pieces.{digit_of, escaped, escaped_byte, filled, hex_byte};
+ghost use Rattle.kx_page.specs.Pieces.{is_hole, piece_text};
 
 use itoa::Buffer;
-use std::alloc::{AllocError, Global};
-
-/// The row of a step: its number, what it did, and what it took and sent.
-#[derive(Clone, Copy)]
-pub struct Row<'a> {
-    /// The number of the step, counted from 0.
-    pub number: u64,
-    /// What it did.
-    pub title: &'a [u8],
-    /// What it took and sent.
-    pub detail: &'a [u8],
-}
+use std::alloc::AllocError;
 
 /// A piece of a page.
 #[derive(Clone, Copy)]
-pub enum Piece<'a> {
-    /// Markup, as it stands.
+pub(crate) enum Piece<'a> {
+    /// A text of this crate, as it stands.
     Markup(&'static str),
     /// A number, in decimal.
     Number(i64),
+    /// A place or a count, in decimal.
+    Count(usize),
     /// A value from wherever, which is escaped.
     Value(&'a [u8]),
-    /// The head of a step's row, with its values.
-    Row(Row<'a>),
 }
 
 // Adds a text as it stands.
@@ -97,18 +87,12 @@ fn put_number(out: &mut Vec<u8>, number: i64) -> Result<(), AllocError>
     put(out, buffer.format(number))
 }
 
-// Adds the head of a step's row.
-fn put_row(out: &mut Vec<u8>, row: Row<'_>) -> Result<(), AllocError>
-    ensures { OnOk result (out.new.items ≡ out.old.items ++ row_text row.entry) }
+// Adds a place or a count in decimal.
+fn put_count(out: &mut Vec<u8>, count: usize) -> Result<(), AllocError>
+    ensures { OnOk result (out.new.items ≡ out.old.items ++ decimal count) }
 {
     let mut buffer = Buffer::new();
-    put(out, " id=\"s")?;
-    put(out, buffer.format(row.number))?;
-    put(out, "\"><b>")?;
-    put_value(out, row.title)?;
-    put(out, "</b> <span>")?;
-    put_value(out, row.detail)?;
-    put(out, "</span>")
+    put(out, buffer.format(count))
 }
 
 // Adds a piece.
@@ -118,25 +102,41 @@ fn put_piece(out: &mut Vec<u8>, piece: Piece<'_>) -> Result<(), AllocError>
     match piece {
         Piece::Markup(markup) => put(out, markup),
         Piece::Number(number) => put_number(out, number),
+        Piece::Count(count) => put_count(out, count),
         Piece::Value(value) => put_value(out, value),
-        Piece::Row(row) => put_row(out, row),
     }
 }
 
-/// The text of these pieces, in ASCII but for what markup has. The characters in it that begin and
-/// end tags, attributes and their values are those of the same page with empty values.
+// What is before the first hole of a template, and what is after it.
+fn cut(template: &str) -> (&str, &str)
+    ensures before { result.0.now ≡ before_first is_hole template.now }
+    ensures after { result.1.now ≡ after_first is_hole template.now }
+{
+    match template.split_once('@') {
+        Some(parts) => parts,
+        None => (template, ""),
+    }
+}
+
+/// Adds a template with these pieces in the place of its holes `@`, one after the other.
 ///
 /// # Errors
 ///
 /// Only if memory runs out.
-pub(crate) fn text(alloc: Global, pieces: &[Piece<'_>]) -> Result<Vec<u8>, AllocError>
-    ensures text { IfOk result (λ text. text.items ≡ text_of pieces.now) }
-    ensures markup { IfOk result (λ text.
-        markup_of text.items ≡ markup_of (text_of (map blanked pieces.now))) }
+pub(crate) fn add(
+    out: &mut Vec<u8>,
+    template: &'static str,
+    pieces: &[Piece<'_>],
+) -> Result<(), AllocError>
+    ensures { OnOk result
+        (out.new.items ≡ out.old.items ++ filled template.now (map piece_text pieces.now)) }
 {
-    let mut out = Vec::new(alloc);
+    let mut rest: &str = template;
     for piece in pieces {
-        put_piece(&mut out, *piece)?;
+        let (before, after) = cut(rest);
+        put(out, before)?;
+        put_piece(out, *piece)?;
+        rest = after;
     }
-    Ok(out)
+    put(out, rest)
 }

@@ -1,4 +1,5 @@
 //! Which line of the rules decided.
+ghost use Rattle.std.specs.Prelude.{◌≡◌};
 
 /// A line of the rules (docs/RULES.md) by which a node answered: the id of that line in a page, which
 /// `tools/rules.py` makes of its table and case. If two lines answer alike, the first of them.
@@ -101,7 +102,9 @@ impl Rule {
     pub const RESTARTS: Rule = Rule("restart");
 
     /// The id of the line in a page.
-    pub(crate) fn anchor(self) -> &'static str {
+    pub(crate) fn anchor(self) -> &'static str
+        ensures { result.now ≡ self.0.now }
+    {
         self.0
     }
 }
