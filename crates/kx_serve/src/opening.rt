@@ -410,9 +410,8 @@ impl<'a, F: Folder, R: Files<File = File> + AllocGlobal + Eprint + Drop + Copy> 
         opened: Opened,
         begins: Begins,
     ) -> Result<(OpenedNode<Kept<F, R>>, Vec<Member>), ServeFault>
-        ensures serves { HasOffsetsBook J.book opened
+        ensures { HasOffsetsBook J.book opened
             → IfOk result (λ made. IsServing J.book made.0) }
-        ensures traced { IfOk result (λ made. IsTracedNode self.now.traces made.0) }
     {
         let begins = self.begins_on(LogFile::Offsets, begins)?;
         let machine = self.offsets(LogFile::Offsets)?;
@@ -438,10 +437,8 @@ impl<'a, F: Folder, R: Files<File = File> + AllocGlobal + Eprint + Drop + Copy> 
     ) -> Result<Vec<Member>, ServeFault>
         requires books { All (HasBook J.book) books.items }
         requires offsets { HasOffsetsBook J.book offsets }
-        ensures serves { All (IsServing J.book) nodes.old.items
+        ensures { All (IsServing J.book) nodes.old.items
             → OnOk result (All (IsServing J.book) nodes.new.items) }
-        ensures traced { All (IsTracedNode self.now.traces) nodes.old.items
-            → OnOk result (All (IsTracedNode self.now.traces) nodes.new.items) }
     {
         for opened in books {
             add(nodes, self.data_node::<J>(opened, begins)?)?;
@@ -463,9 +460,8 @@ impl<'a, F: Folder, R: Files<File = File> + AllocGlobal + Eprint + Drop + Copy> 
             StandsForCoordinator nodes.coordinator.machine) }
         ensures partitions { IfOk result (λ nodes.
             All (IsServing J.book) nodes.partitions.items) }
-        // Each node records its steps, if traces are kept.
-        ensures traced { IfOk result (λ nodes. IsTraced self.now.traces nodes.coordinator.machine
-            × All (IsTracedNode self.now.traces) nodes.partitions.items) }
+        // The coordinator records its steps, if traces are kept.
+        ensures traced { IfOk result (λ nodes. IsTraced self.now.traces nodes.coordinator.machine) }
     {
         let kept = self.kept()?;
         self.warn_of_more()?;

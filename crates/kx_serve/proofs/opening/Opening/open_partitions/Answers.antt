@@ -5,7 +5,7 @@ pub loop-opened-preserved : goal.loop-opened-preserved
 loop-opened-preserved g c = λ before.
     one_more g.J.Naming.book c.loop-opened.nodes.items c.add.new.nodes.items
     c.in_ok-data_node.field-0 c.in_ok-add.ensures (c.loop-opened.invariant before)
-    c.in_ok-data_node.ensures
+    c.in_ok-data_node.ensures.serves
 
 pub returns : goal.returns
 returns g c = λ before.
