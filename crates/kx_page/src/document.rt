@@ -129,7 +129,7 @@ fn part_of(out: &mut Vec<u8>, run: &Run, part: Part) -> Result<(), AllocError>
     add(out, PART_END, &[])
 }
 
-// Where the part that begins at a step ends, of so many steps.
+// Where the part that begins at a step ends, in a run of n steps.
 fn part_end(first: usize, steps: usize) -> usize
     requires { first ≤ steps }
     ensures { result ≡ min (first + PART) steps }

@@ -412,7 +412,7 @@ pub(crate) fn lane_names(out: &mut Vec<u8>, lanes: &[Lane]) -> Result<(), AllocE
     Ok(())
 }
 
-/// Adds the head of an image that is as wide as so many lanes, of this height, from this place on.
+/// Adds the head of an image that is as wide as n lanes, of this height, from this place on.
 ///
 /// # Errors
 ///

@@ -54,7 +54,7 @@ pub(crate) fn down(place: usize, more: usize) -> usize
     place.saturating_add(more)
 }
 
-// A place this far below or right of that after so many lengths.
+// The place `more` below or right of `count` lengths.
 fn placed(count: usize, each: usize, more: usize) -> usize
     ensures { result ≡ placed count each more }
 {
@@ -82,7 +82,7 @@ pub(crate) fn halfway(one: usize, other: usize) -> usize
     one / 2 + other / 2
 }
 
-/// How wide so many lanes are, with room for what the last one says.
+/// How wide n lanes are, with room for what the last one says.
 pub(crate) fn width_of(lanes: usize) -> usize
     ensures { result ≡ width_of lanes }
 {
